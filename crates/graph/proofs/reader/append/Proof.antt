@@ -1,0 +1,39 @@
+-- By the definition of `appended`.
+use borrow.Author.Needs.{needs}
+use Rattle.graph.specs.Chart.{appended}
+use Rattle.graph.proofs.reader.append.Statement.{statement}
+use Rattle.graph.proofs.reader.append.Tie as tie
+
+element-write-h : tie.Need-element-write-h
+element-write-h c = search needs
+
+element-write-h-2 : tie.Need-element-write-h-2
+element-write-h-2 c = search needs
+
+mul-z : tie.Need-mul-z
+mul-z c = search needs
+
+element-set-from-z : tie.Need-element-set-from-z
+element-set-from-z c = search needs
+
+element-write-h-3 : tie.Need-element-write-h-3
+element-write-h-3 c = search needs
+
+add-h : tie.Need-add-h
+add-h c = search needs
+
+returns : tie.Need-returns
+unfolding appended
+returns c = search needs
+
+pub append-spec : {M : Type 1} → statement M
+append-spec =
+    tie.close
+    (tie.spec
+    element-write-h
+    element-write-h-2
+    mul-z
+    element-set-from-z
+    element-write-h-3
+    add-h
+    returns)

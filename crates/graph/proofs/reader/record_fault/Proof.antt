@@ -1,0 +1,122 @@
+-- Each return by the tests that led there; the header says where records stand.
+use borrow.Author.Needs.{needs}
+use mathlib.Core.Path.{sym, _∙_}
+use borrow.Author.Tests.{lt-ltb, le-ltb, eq-eqb, ne-eqb}
+use Rattle.graph.specs.Chart.{startOf, recordFault}
+use Rattle.graph.specs.NoFault.{header-ok}
+use native.Mathlib.Omega.{arith}
+use Rattle.graph.proofs.reader.record_fault.Statement.{statement}
+use Rattle.graph.proofs.reader.record_fault.Tie as tie
+
+u16-at-requires : tie.Need-u16-at-requires
+u16-at-requires c κs = omega (arith, header-ok (c .before .args .s .now) (c .before .pre .0))
+
+returns : tie.Need-returns
+unfolding recordFault startOf
+returns c =
+    let at = c .before in
+    let count = sym (at .u16-at .ensures .0) in
+    simp (count, lt-ltb _ _ (c .if1 .taken))
+
+sub-if2 : tie.Need-sub-if2
+sub-if2 c = search needs
+
+element-copy-out-if2 : tie.Need-element-copy-out-if2
+element-copy-out-if2 c =
+    let at = c .before in
+    let start = at .before .before in
+    omega (arith, at .u16-at .ensures .0, header-ok (start .args .s .now) (start .pre .0))
+
+returns-2 : tie.Need-returns-2
+unfolding recordFault startOf
+returns-2 c =
+    let at = c .before .before .before in
+    let count = sym (at .u16-at .ensures .0) in
+    let under = le-ltb _ _ (c .before .before .if1 .left) in
+    simp (count, under, c .if2 .taken)
+
+sub-p : tie.Need-sub-p
+sub-p c = search needs
+
+mul-p : tie.Need-mul-p
+mul-p c = search needs
+
+add-p : tie.Need-add-p
+add-p c = search needs
+
+body-fault-requires : tie.Need-body-fault-requires
+body-fault-requires c κs =
+    let at = c .before .before .before in
+    let start = at .before .before in
+    omega (arith, at .u16-at .ensures .0, header-ok (start .args .s .now) (start .pre .0))
+
+returns-3 : tie.Need-returns-3
+unfolding recordFault startOf
+returns-3 c =
+    let at = c .before .before .before .before .before in
+    let count = sym (at .u16-at .ensures .0) in
+    let under = le-ltb _ _ (c .before .before .before .before .if1 .left) in
+    let unmet = c .before .before .if2 .left in
+    let body = sym (c .before .body-fault .ensures) in
+    simp (count, under, unmet, body, ne-eqb _ _ (c .if3 .taken))
+
+shared-slice-read-pair-met : tie.Need-shared-slice-read-pair-met
+shared-slice-read-pair-met c =
+    let at = c .before .before .before .before .before .before in
+    let start = at .before .before in
+    omega (arith, at .u16-at .ensures .0, header-ok (start .args .s .now) (start .pre .0))
+
+add-pair-met : tie.Need-add-pair-met
+add-pair-met c = search needs
+
+shared-slice-read-pair-met-2 : tie.Need-shared-slice-read-pair-met-2
+shared-slice-read-pair-met-2 c =
+    let at = c .before .before .before .before .before .before .before in
+    let start = at .before .before in
+    omega (arith, at .u16-at .ensures .0, header-ok (start .args .s .now) (start .pre .0))
+
+pair-met-requires : tie.Need-pair-met-requires
+pair-met-requires c κs = search needs
+
+returns-4 : tie.Need-returns-4
+unfolding recordFault startOf
+returns-4 c =
+    let at = c .before .before .before .before .before .before .before .before .before in
+    let count = sym (at .u16-at .ensures .0) in
+    let under = le-ltb _ _ (c .before .before .before .before .before .before .before .before .if1 .left) in
+    let unmet = c .before .before .before .before .before .before .if2 .left in
+    let body = sym (c .before .before .before .before .before .body-fault .ensures) in
+    let fine = eq-eqb _ _ (c .before .before .before .before .if3 .left) in
+    simp (count, under, unmet, body, fine, sym (c .before .pair-met .ensures) ∙ c .if4 .taken)
+
+returns-5 : tie.Need-returns-5
+unfolding recordFault startOf
+returns-5 c =
+    let at = c .before .before .before .before .before .before .before .before .before in
+    let count = sym (at .u16-at .ensures .0) in
+    let under = le-ltb _ _ (c .before .before .before .before .before .before .before .before .if1 .left) in
+    let unmet = c .before .before .before .before .before .before .if2 .left in
+    let body = sym (c .before .before .before .before .before .body-fault .ensures) in
+    let fine = eq-eqb _ _ (c .before .before .before .before .if3 .left) in
+    simp (count, under, unmet, body, fine, sym (c .before .pair-met .ensures) ∙ c .if4 .left)
+
+pub record-fault-spec : {M : Type 1} → statement M
+record-fault-spec =
+    tie.close
+    (tie.spec
+    u16-at-requires
+    returns
+    sub-if2
+    element-copy-out-if2
+    returns-2
+    sub-p
+    mul-p
+    add-p
+    body-fault-requires
+    returns-3
+    shared-slice-read-pair-met
+    add-pair-met
+    shared-slice-read-pair-met-2
+    pair-met-requires
+    returns-4
+    returns-5)

@@ -1,0 +1,80 @@
+-- After k records the list starts with the header and these, as specs/WriterLoop.antt has it.
+use borrow.Author.Needs.{needs}
+use mathlib.Core.Path.{_≡_, sym, _∙_}
+use mathlib.Core.List.{_++_}
+use Prim.Native.Nat.{_+_, _-_, _≤_}
+use lib.ListN.{length, take}
+use Rattle.graph.specs.Limits.{maxEdges}
+use Rattle.graph.specs.Chart.{sizeOf, headerBytes, recordsBytes, fileBytes}
+use Rattle.graph.specs.WriterLoop.{write-start, write-step, write-end}
+use native.Mathlib.Omega.{arith}
+use Rattle.graph.proofs.writer.put_all.Statement.{statement}
+use Rattle.graph.proofs.writer.put_all.Tie as tie
+
+abbrev Inv-loop : tie.InvT-loop
+Inv-loop out₀ g n m k₀ out k =
+    (k ≤ g .m) × (g .m ≤ maxEdges) × (length out ≡ sizeOf (g .m)) × (take (sizeOf k) out ≡ headerBytes (g .n) (g .m) ++ recordsBytes g k)
+
+abbrev μ-loop : tie.MeasureT-loop
+μ-loop out₀ g n m k₀ out k = g .m - k
+
+put-header-requires : tie.Need-put-header-requires Inv-loop μ-loop
+put-header-requires c κs = (c .before .before .pre .0, omega (arith, c .before .before .pre))
+
+loop-holds : tie.Need-loop-holds Inv-loop μ-loop
+loop-holds c =
+    let start = c .before .before .before .before .before in
+    let g = start .args .g in
+    let put = c .before .before .put-header in (
+      omega arith,
+      start .pre .1,
+      put .kept .0 ∙ start .pre .2,
+      (rw (put .ensures) (write-start (g .n) (g .m) g (start .args .out .now) (omega (arith, start .pre)))),
+    )
+
+put-record-requires : tie.Need-put-record-requires Inv-loop μ-loop
+put-record-requires c κs = (omega arith, omega arith)
+
+add-k : tie.Need-add-k Inv-loop μ-loop
+add-k c = search needs
+
+loop-less : tie.Need-loop-less Inv-loop μ-loop
+loop-less c = search needs
+
+loop-again : tie.Need-loop-again Inv-loop μ-loop
+loop-again c =
+    let at = c .before .before .before .before .before in
+    let turn = at .loop in
+    let g = at .before .before .before .before .before .before .args .g in
+    let put = c .before .before .put-record in (
+      omega arith,
+      turn .inv .1,
+      put .kept .0 ∙ turn .inv .2,
+      (rw (put .ensures) (write-step (headerBytes (g .n) (g .m)) g (turn .out) (turn .k) (omega arith) (turn .inv .3))),
+    )
+
+same-length : tie.Need-same-length Inv-loop μ-loop
+same-length c = c .before .loop .inv .2 ∙ sym (c .before .before .before .before .before .before .before .pre .2)
+
+returns : tie.Need-returns Inv-loop μ-loop
+unfolding fileBytes
+returns c =
+    let g = c .before .before .before .before .before .before .before .args .g in
+    let turn = c .before .loop in
+    let e : turn .k ≡ g .m = omega arith in
+    write-end (turn .out) _ (sizeOf (g .m)) (turn .inv .2) (rw e at (turn .inv .3))
+
+pub put-all-spec : {M : Type 1} → statement M
+put-all-spec =
+    tie.close
+    (tie.spec
+    Inv-loop
+    μ-loop
+    put-header-requires
+    loop-holds
+    put-record-requires
+    add-k
+    loop-less
+    loop-again
+    same-length
+    returns)

@@ -1,0 +1,14 @@
+pub mod FromFacts
+pub mod Digits
+pub mod Written
+pub mod RoundTrip
+pub mod WhatIsRead
+pub mod WritersForm
+pub mod Along
+pub mod OffChain
+pub mod FirstFault
+pub mod HeaderRefusals
+pub mod RecordRefusals
+pub mod Refusals
+pub mod Calls
+pub mod Exactly

@@ -1,0 +1,6 @@
+pub mod Parts
+pub mod Differences
+pub mod Words
+pub mod Range
+pub mod Order
+pub mod Sums

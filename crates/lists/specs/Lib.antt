@@ -1,0 +1,11 @@
+pub mod Bools
+pub mod Members
+pub mod All
+pub mod Select
+pub mod Distinct
+pub mod Numbers
+pub mod Rows
+pub mod Weights
+pub mod Same
+pub mod Fill
+pub mod Sets

@@ -1,0 +1,121 @@
+-- The loop fills the array.
+use native.Mathlib.Omega.{arith}
+use borrow.Author.Needs.{needs}
+use Prim.Native.Nat.{ℕ, _≤_, _-_}
+use mathlib.Core.Path.{_≡_, refl, subst, _∙_}
+use lib.ListN.{length, length-set}
+use Rattle.graph.specs.Valid.{Valid}
+use Rattle.onetree.specs.Filled.{Filled, filled-none, filled-more}
+use Rattle.onetree.specs.Ruled.{finalAt}
+use Rattle.onetree.proofs.rulings.finish.Statement.{statement}
+use Rattle.onetree.proofs.rulings.finish.Tie as tie
+
+abbrev Inv-loop : tie.InvT-loop
+Inv-loop near slack g w c depth res₀ cheapest out m k₀ res k =
+    (m ≡ g .m) × (k ≤ m) × (m ≤ 190) × Valid g × (length res ≡ 190) × Filled (finalAt g w c slack depth cheapest out near) 0 res k
+
+abbrev μ-loop : tie.MeasureT-loop
+μ-loop near slack g w c depth res₀ cheapest out m k₀ res k = m - k
+
+loop-holds : tie.Need-loop-holds Inv-loop μ-loop
+loop-holds c = let valid = c .before .before .pre in (refl, omega arith, valid .few, valid, refl, filled-none _ 0 190)
+
+element-copy-out-wide : tie.Need-element-copy-out-wide Inv-loop μ-loop
+element-copy-out-wide c = search needs
+
+wide-requires : tie.Need-wide-requires Inv-loop μ-loop
+wide-requires c κs = search needs
+
+element-copy-out-wide-2 : tie.Need-element-copy-out-wide-2 Inv-loop μ-loop
+element-copy-out-wide-2 c = search needs
+
+wide-requires-2 : tie.Need-wide-requires-2 Inv-loop μ-loop
+wide-requires-2 c κs = search needs
+
+low-of-requires : tie.Need-low-of-requires Inv-loop μ-loop
+low-of-requires c κs =
+    let at-wide2 = c .before .before in
+    let at-wide = at-wide2 .before .before in
+    let at-loop = at-wide .before .before .before in
+    let turn = at-loop .loop in
+    let edge = turn .inv .3 .each (turn .k) (omega (arith, turn .inv .0)) in
+    let high = turn .inv .3 .high in (
+      omega (arith, at-wide .wide .ensures .0, edge .less, edge .to, high),
+      omega (arith, at-wide2 .wide2 .ensures .0, edge .to, high),
+    )
+
+element-copy-out-ruling-of : tie.Need-element-copy-out-ruling-of Inv-loop μ-loop
+element-copy-out-ruling-of c = search needs
+
+array-read-ruling-of : tie.Need-array-read-ruling-of Inv-loop μ-loop
+array-read-ruling-of c = search needs
+
+mul-ruling-of : tie.Need-mul-ruling-of Inv-loop μ-loop
+mul-ruling-of c = search needs
+
+array-read-ruling-of-2 : tie.Need-array-read-ruling-of-2 Inv-loop μ-loop
+array-read-ruling-of-2 c = search needs
+
+array-read-ruling-of-3 : tie.Need-array-read-ruling-of-3 Inv-loop μ-loop
+array-read-ruling-of-3 c = search needs
+
+ruling-of-requires : tie.Need-ruling-of-requires Inv-loop μ-loop
+ruling-of-requires c κs = search needs
+
+array-write-res : tie.Need-array-write-res Inv-loop μ-loop
+array-write-res c = search needs
+
+add-k : tie.Need-add-k Inv-loop μ-loop
+add-k c = search needs
+
+loop-less : tie.Need-loop-less Inv-loop μ-loop
+loop-less c = search needs
+
+loop-again : tie.Need-loop-again Inv-loop μ-loop
+loop-again c =
+    let at-low-of = c .before .before in
+    let at-wide2 = at-low-of .before .before .before in
+    let at-wide = at-wide2 .before .before in
+    let at-loop = at-wide .before .before .before in
+    let turn = at-loop .loop in
+    let low = rw (at-wide .wide .ensures .0, at-wide2 .wide2 .ensures .0) at (at-low-of .low-of .ensures) in (
+      refl,
+      omega arith,
+      turn .inv .2,
+      turn .inv .3,
+      length-set (turn .res) (turn .k) _ ∙ turn .inv .4,
+      filled-more _ 0 (turn .res) (turn .k) _ (omega (arith, turn .inv .4)) (turn .inv .5) (rw low at (c .ruling-of .ensures)),
+    )
+
+returns : tie.Need-returns Inv-loop μ-loop
+returns c =
+    let start = c .before .before .before .before in
+    let turn = c .before .loop in
+    let a = start .args in
+    let e : turn .k ≡ a .t1 .m = omega (arith, turn .inv .0) in
+    subst (λ (k : ℕ). Filled (finalAt (a .t1) (a .t2) (a .t3) (a .slack) (a .t5) (a .o .cheapest) (a .o .out) (a .near)) 0
+    (turn .res) k) e (turn .inv .5)
+
+pub finish-spec : {M : Type 1} → statement M
+finish-spec =
+    tie.close
+    (tie.spec
+    Inv-loop
+    μ-loop
+    loop-holds
+    element-copy-out-wide
+    wide-requires
+    element-copy-out-wide-2
+    wide-requires-2
+    low-of-requires
+    element-copy-out-ruling-of
+    array-read-ruling-of
+    mul-ruling-of
+    array-read-ruling-of-2
+    array-read-ruling-of-3
+    ruling-of-requires
+    array-write-res
+    add-k
+    loop-less
+    loop-again
+    returns)

@@ -1,0 +1,100 @@
+-- Code's sums over charges: the array of charges place by place, what the edges that are in add up to, the sum of the multipliers, and
+-- the bound that these stand for. Assumes nothing.
+use mathlib.Core.Path.{_≡_, refl}
+use mathlib.Core.Logic.{_≢_}
+use mathlib.Core.List.{List}
+use Prim.Native.Nat.{ℕ, _+_, _*_, _<_, _≤_}
+use native.Mathlib.Omega.{arith}
+use native.Mathlib.Numerals.{add-one}
+use native.Mathlib.Decide.{ℕ-discrete}
+use lib.ListN.{length, getD, set}
+use lib.Seq.{getD-set-same, getD-set-other}
+use lib.IntN.{ℤ, pos, _+ℤ_, _*ℤ_}
+use borrow.Author.Tests.{eq-eqb, ne-eqb}
+use Rattle.lists.specs.Select.{select}
+use Rattle.lists.specs.Numbers.{upTo}
+use Rattle.lists.specs.Weights.{weight}
+use Rattle.integers.specs.Parts.{IsDiff, up, dn, add-parts, diff-one, diff-add}
+use Rattle.integers.specs.Sums.{sumZ, twice}
+use Rattle.graph.specs.declared.Graph.{Graph}
+use Rattle.graph.specs.Limits.{maxCost, maxMultiplier}
+use Rattle.graph.specs.Network.{network}
+use Rattle.graph.specs.Places.{network-a, network-b, network-cost}
+use Rattle.graph.specs.Valid as value
+use Rattle.onetree.specs.OneTree.{OneTree, charge, bound}
+use Rattle.onetree.specs.Inputs.{multiplier}
+use Rattle.onetree.specs.Link.{to-parts}
+use Rattle.onetree.specs.Bound.{bound-diff}
+use Rattle.onetree.specs.Arrays.{entry, bytes, network-valid}
+use Rattle.onetree.specs.Charged.{offset, maxCharge, ChargeAt, ChargedTo, Charged, offs}
+
+-- ---- the array of charges
+
+pub raise-three : (x y z : ℤ) (a b c : ℕ) → IsDiff x a maxCost → IsDiff y b maxMultiplier → IsDiff z c maxMultiplier
+    → IsDiff ((x +ℤ y) +ℤ z) (a + b + c + 1) offset
+raise-three x y z a b c h k l = omega (arith, add-parts x y, add-parts (x +ℤ y) z)
+
+-- one more place
+pub charged-more : (g : Graph) (d : List ℤ) (c : List ℕ) (n x : ℕ) → n < length c → n < g .m → ChargedTo g d c n
+    → IsDiff ((getD (g .cost) n (pos 0) +ℤ multiplier d (getD (g .a) n 0)) +ℤ multiplier d (getD (g .b) n 0)) x offset
+    × (1 ≤ x) × (x ≤ maxCharge)
+    → ChargedTo g d (set c n x) (n + 1)
+unfolding charge
+charged-more g d c n x room h t new k l = at (ℕ-discrete k n)
+  where
+    this : ChargeAt g d n x
+    this = record { is = rw (network-a g n h, network-b g n h, network-cost g n h) (new .0); low = new .1; high = new .2 }
+
+    at : Dec (k ≡ n) → ChargeAt g d k (getD (set c n x) k 0)
+    at (yes e) = rw (e, getD-set-same c n x 0 room) this
+    at (no e) = rw (getD-set-other c n k x 0 e) (t k (omega arith))
+
+-- ---- the edges that are in, one more
+
+pub weight-more : (c w : List ℕ) (k : ℕ) → getD w k 0 ≡ 1
+    → weight (entry c) (select (bytes w) (upTo (k + 1))) ≡ weight (entry c) (select (bytes w) (upTo k)) + getD c k 0
+unfolding upTo select weight
+weight-more c w k e = rw (add-one, eq-eqb (getD w k 0) 1 e) (omega arith)
+
+pub weight-same : (c w : List ℕ) (k : ℕ) → getD w k 0 ≢ 1
+    → weight (entry c) (select (bytes w) (upTo (k + 1))) ≡ weight (entry c) (select (bytes w) (upTo k))
+unfolding upTo select weight
+weight-same c w k e = rw (add-one, ne-eqb (getD w k 0) 1 e)
+
+-- ---- the sum of the multipliers
+
+-- s is the sum of the first n, each moved up by the limit
+abbrev pub Raised : List ℤ → ℕ → ℕ → Type 0
+Raised d n s = IsDiff (sumZ (multiplier d) (upTo n)) s (maxMultiplier * n) × (s ≤ 2 * maxMultiplier * n)
+
+pub raised-none : (d : List ℤ) → Raised d 0 0
+unfolding upTo sumZ
+raised-none d = (refl, omega arith)
+
+pub raised-more : (d : List ℤ) (k x s : ℕ) → IsDiff (getD d k (pos 0)) x maxMultiplier → x ≤ 2 * maxMultiplier → Raised d k s
+    → Raised d (k + 1) (s + x)
+unfolding upTo sumZ multiplier
+raised-more d k x s h r l = rw add-one (omega (arith, add-parts (getD d k (pos 0)) (sumZ (multiplier d) (upTo k))), omega arith)
+
+-- ---- the bound
+
+pub bound-is : (g : Graph) → value.Valid g → (d : List ℤ) (c w : List ℕ) (b : ℤ) (sum t : ℕ) → Charged g d c → OneTree (network g) (bytes w)
+    → sum ≡ weight (entry c) (select (bytes w) (upTo (g .m))) → Raised d (g .n) t
+    → IsDiff b sum (2 * t + (maxCost + 1) * g .n) → b ≡ bound (network g) (multiplier d) (bytes w)
+unfolding network
+bound-is g v d c w b sum t ch o es et eb =
+    diff-one b (bound (network g) (multiplier d) (bytes w)) _ _ mine
+    (bound-diff (network g) (multiplier d) offset (entry c) (offs g d c ch) (bytes w)
+    (to-parts (network g) (network-valid g v) (bytes w) o))
+  where
+    half : ℤ
+    half = sumZ (multiplier d) (upTo (g .n))
+
+    two : ℤ
+    two = pos 2 *ℤ half
+
+    two-is : IsDiff two (t + t) (maxMultiplier * g .n + maxMultiplier * g .n)
+    two-is = rw (twice half) (diff-add half half t (maxMultiplier * g .n) t (maxMultiplier * g .n) (et .0) (et .0))
+
+    mine : IsDiff b (weight (entry c) (select (bytes w) (upTo (g .m))) + dn two) (offset * g .n + up two)
+    mine = omega (arith, es, eb, two-is)

@@ -1,0 +1,126 @@
+-- From what code knows to what the tree call promises: what no fault means, and the call's reply and lent list in each of its cases.
+-- Assumes nothing.
+use mathlib.Core.Path.{_≡_, refl, _∙_, sym, ap}
+use mathlib.Core.Logic.{_≢_, _⊎_, inl, inr}
+use mathlib.Core.Bool.{Bool, true, false, cond, _&&_}
+use mathlib.Core.List.{List}
+use Prim.Native.Nat.{ℕ, zero, suc, _<_}
+use native.Mathlib.Omega.{arith}
+use lib.ListN.{length, getD}
+use lib.Dec.{eqb}
+use lib.IntN.{ℤ}
+use borrow.Author.Tests.{eqb-true}
+use Rattle.lists.specs.Bools.{and-both, bit}
+use Rattle.lists.specs.Members.{_∈_}
+use Rattle.lists.specs.Numbers.{upTo}
+use Rattle.lists.specs.Rows.{row, row-same}
+use Rattle.graph.specs.declared.Graph.{Graph}
+use Rattle.graph.specs.Network.{network}
+use Rattle.graph.specs.Valid as value
+use Rattle.graph.specs.Meaning.{valid-true}
+use Rattle.onetree.specs.OneTree.{Edges, bound}
+use Rattle.onetree.specs.Inputs.{multiplier, multipliersFit}
+use Rattle.onetree.specs.Enumeration.{Tree, noTree, aTree, leastTree}
+use Rattle.onetree.specs.LeastTree.{tree-found, tree-missing}
+use Rattle.onetree.specs.Answers.{
+  Reply,
+  refused,
+  none,
+  bounded,
+  inputFault,
+  treeFault,
+  treeReply,
+  treeLeaves,
+  treeSays,
+  treeWrites,
+  unlessFault,
+  leaves,
+}
+use Rattle.onetree.specs.Arrays.{entry, bytes, in-edge}
+use Rattle.onetree.specs.Multipliers.{Ranged, fit-ranged}
+use Rattle.onetree.specs.Found.{FoundIs}
+
+-- what a call may rely on where its input has no fault
+pub record Accepted (g : Graph) (d : List ℤ) (len : ℕ) : Type 0 where
+  pub valid : value.Valid g
+  pub multipliers : length d ≡ g .n
+  pub lent : len ≡ g .m
+  pub ranged : Ranged d
+
+-- a test passed, or its number was the fault
+passed : (t : Bool) (e x : ℕ) → e ≢ 0 → cond t x e ≡ 0 → (t ≡ true) × (x ≡ 0)
+passed true e x n h = (refl, h)
+passed false e x n h = absurd (n h)
+
+pub no-fault : (g : Graph) (d : List ℤ) (len left : ℕ) → inputFault g d len left ≡ 0 → Accepted g d len × (left ≡ 0)
+unfolding inputFault
+no-fault g d len left h =
+    let p = passed (value.valid g) 15 _ (omega arith) h in
+    let q = passed (eqb (length d) (g .n) && eqb len (g .m)) 11 _ (omega arith) (p .1) in
+    let r = passed (multipliersFit d) 12 left (omega arith) (q .1) in
+    let lengths = and-both (eqb (length d) (g .n)) (eqb len (g .m)) (q .0) in (
+      record {
+        valid = valid-true g (p .0);
+        multipliers = eqb-true (length d) (g .n) (lengths .0);
+        lent = eqb-true len (g .m) (lengths .1);
+        ranged = fit-ranged d (r .0);
+      },
+      r .1,
+    )
+
+-- ---- the calls' answers, by the fault
+
+pub fault-replies : (f : ℕ) (r : Reply) → f ≢ 0 → unlessFault f r ≡ refused f 0
+fault-replies zero r n = absurd (n refl)
+fault-replies (suc f) r n = refl
+
+pub fault-leaves : (f : ℕ) (out after : List ℕ) → f ≢ 0 → leaves f out after ≡ out
+fault-leaves zero out after n = absurd (n refl)
+fault-leaves (suc f) out after n = refl
+
+-- the byte of an edge that is in or out
+pub byte-is : (x : ℕ) → (x ≡ 0) ⊎ (x ≡ 1) → x ≡ bit (eqb x 1)
+byte-is x (inl e) = rw e
+byte-is x (inr e) = rw e
+
+-- ---- the tree call
+
+-- its reply r, and the list that it leaves
+pub record TreeCall (g : Graph) (d : List ℤ) (out : List ℕ) (r : Reply) (after : List ℕ) : Type 0 where
+  pub reply : r ≡ treeReply g d (length out)
+  pub left : after ≡ treeLeaves g d out
+
+module _ (g : Graph) (d : List ℤ) (out : List ℕ) where
+  pub tree-refused : (f : ℕ) → f ≡ inputFault g d (length out) 0 → f ≢ 0 → TreeCall g d out (refused f 0) out
+  unfolding treeReply treeLeaves treeFault
+  tree-refused f e n = rw e (record {
+    reply = sym (fault-replies (inputFault g d (length out) 0) _ (λ z. n (e ∙ z)));
+    left = sym (fault-leaves (inputFault g d (length out) 0) out _ (λ z. n (e ∙ z)));
+  })
+
+  -- without a fault, by the least 1-tree
+  by-tree : (t : Tree) → inputFault g d (length out) 0 ≡ 0 → leastTree (network g) (multiplier d) ≡ t
+      → TreeCall g d out (treeSays t) (treeWrites (g .m) out t)
+  unfolding treeReply treeLeaves treeFault
+  by-tree t e h = record { reply = rw (e, h); left = rw (e, h) }
+
+  module _ (any : Bool) (b : ℤ) (w c : List ℕ) (e : inputFault g d (length out) 0 ≡ 0) (f : FoundIs g d any b w c) where
+    pub tree-none : any ≡ false → TreeCall g d out none out
+    tree-none h = by-tree noTree e (tree-missing (network g) (multiplier d) (f .none h))
+
+    pub tree-some : any ≡ true → TreeCall g d out (bounded b) (row (length out) (entry w))
+    tree-some h = go (tree-found (network g) (multiplier d) (bytes w) (f .some h .0))
+      where
+        lent : length out ≡ g .m
+        lent = no-fault g d (length out) 0 e .0 .lent
+
+        go : (r : Edges) × (leastTree (network g) (multiplier d) ≡ aTree (bound (network g) (multiplier d) (bytes w)) r)
+            × ((k : ℕ) → k ∈ upTo (network g .m) → r k ≡ bytes w k)
+            → TreeCall g d out (bounded b) (row (length out) (entry w))
+        go r = rw (f .some h .1, same) (by-tree (aTree (bound (network g) (multiplier d) (bytes w)) (r .0)) e (r .1))
+          where
+            at : (j : ℕ) → j < g .m → getD w j 0 ≡ bit (r .0 (suc j))
+            at j l = byte-is (getD w j 0) (f .bits j) ∙ ap bit (sym (r .2 (suc j) (in-edge g j l)))
+
+            same : row (length out) (entry w) ≡ row (g .m) (λ k. bit (r .0 k))
+            same = rw lent (row-same (g .m) (entry w) (λ k. bit (r .0 k)) at)

@@ -1,0 +1,107 @@
+-- One turn of the loop that makes the greedy choice, as what holds before and after it. Assumes nothing.
+use mathlib.Core.Path.{_≡_, _∙_, sym, ap}
+use mathlib.Core.Logic.{_≢_}
+use mathlib.Core.List.{List, _∷_}
+use Prim.Native.Nat.{ℕ, suc, _+_, _%_, _<_, _≤_}
+use native.Mathlib.Omega.{arith}
+use lib.ListN.{length, getD, set, length-set}
+use Rattle.lists.specs.Select.{select}
+use Rattle.graph.specs.Limits.{maxVertices, maxEdges}
+use Rattle.graph.specs.Network.{Network}
+use Rattle.spanning.specs.Walks.{label, relabel}
+use Rattle.spanning.specs.Held.{Holds}
+use Rattle.onetree.specs.Keys.{queued, queued-step}
+use Rattle.onetree.specs.Growth.{
+  Grew,
+  farOf,
+  grew-none,
+  grow-near,
+  grow-spare,
+  grow-join,
+  grow-idle,
+  holds-same,
+  holds-joined,
+  holds-idled,
+}
+
+-- vertices number from 1, so labels have a place more
+abbrev pub maxLabels : ℕ
+maxLabels = maxVertices + 1
+
+-- after i edges: the labels l, the set w, the counts
+pub record Turn (G : Network) (ks : List ℕ) (i : ℕ) (l w : List ℕ) (near far : ℕ) : Type 0 where
+  pub long : length l ≡ maxLabels
+  pub wide : length w ≡ maxEdges
+  pub met : near ≤ i
+  pub less : far ≤ i
+  pub holds : Holds (G .a) (G .b) maxLabels l (farOf G (queued ks i))
+  pub grew : Grew G (queued ks i) w near far
+
+pub turn-none : (G : Network) (ks l w : List ℕ) → length l ≡ maxLabels → ((v : ℕ) → v < maxLabels → getD l v 0 ≡ v)
+    → length w ≡ maxEdges → ((k : ℕ) → getD w k 0 ≡ 0) → Turn G ks 0 l w 0 0
+unfolding queued select label
+turn-none G ks l w long each wide none =
+    record { long = long; wide = wide; met = omega arith; less = omega arith; holds = each; grew = grew-none G w none }
+
+module _ (G : Network) (ks : List ℕ) (i : ℕ) (l w : List ℕ) (near far k a b : ℕ) (t : Turn G ks i l w near far) (small : k < maxEdges)
+    (ek : k ≡ getD ks i 0 % 256) (ea : G .a (suc k) ≡ a) (eb : G .b (suc k) ≡ b) (ha : a < maxLabels) (hb : b < maxLabels) where
+  next : queued ks (i + 1) ≡ suc k ∷ queued ks i
+  next = queued-step ks i ∙ ap {B = List ℕ} (λ x. suc x ∷ queued ks i) (sym ek)
+
+  room : k < length w
+  room = omega (arith, t .wide)
+
+  la : G .a (suc k) < maxLabels
+  la = omega (arith, ea)
+
+  lb : G .b (suc k) < maxLabels
+  lb = omega (arith, eb)
+
+  same : a ≡ 1 → Holds (G .a) (G .b) maxLabels l (farOf G (queued ks (i + 1)))
+  same e = rw next (holds-same G (queued ks i) w near far k room (t .grew) l maxLabels la lb (t .holds) (ea ∙ e))
+
+  pub turn-near : a ≡ 1 → near < 2 → Turn G ks (i + 1) l (set w k 1) (near + 1) far
+  turn-near e o = record {
+    long = t .long;
+    wide = length-set w k 1 ∙ t .wide;
+    met = omega (arith, t .met);
+    less = omega (arith, t .less);
+    holds = same e;
+    grew = rw next (grow-near G (queued ks i) w near far k room (t .grew) (ea ∙ e) o);
+  }
+
+  pub turn-spare : a ≡ 1 → 2 ≤ near → Turn G ks (i + 1) l w (near + 1) far
+  turn-spare e o = record {
+    long = t .long;
+    wide = t .wide;
+    met = omega (arith, t .met);
+    less = omega (arith, t .less);
+    holds = same e;
+    grew = rw next (grow-spare G (queued ks i) w near far k room (t .grew) (ea ∙ e) o);
+  }
+
+  module _ (n : a ≢ 1) where
+    off : G .a (suc k) ≢ 1
+    off e = n (sym ea ∙ e)
+
+    pub turn-join : (ys : List ℕ) → length ys ≡ maxLabels → getD l a 0 ≢ getD l b 0
+        → ((v : ℕ) → v < maxLabels → getD ys v 0 ≡ relabel (getD l a 0) (getD l b 0) (getD l v 0))
+        → Turn G ks (i + 1) ys (set w k 1) near (far + 1)
+    turn-join ys long ne step = record {
+      long = long;
+      wide = length-set w k 1 ∙ t .wide;
+      met = omega (arith, t .met);
+      less = omega (arith, t .less);
+      holds = rw next (holds-joined G (queued ks i) w near far k room (t .grew) l maxLabels la lb (t .holds) ys off (rw (ea, eb) step));
+      grew = rw next (grow-join G (queued ks i) w near far k room (t .grew) l maxLabels la lb (t .holds) off (rw (ea, eb) ne));
+    }
+
+    pub turn-idle : getD l a 0 ≡ getD l b 0 → Turn G ks (i + 1) l w near far
+    turn-idle e = record {
+      long = t .long;
+      wide = t .wide;
+      met = omega (arith, t .met);
+      less = omega (arith, t .less);
+      holds = rw next (holds-idled G (queued ks i) w near far k room (t .grew) l maxLabels la lb (t .holds) off (rw (ea, eb) e));
+      grew = rw next (grow-idle G (queued ks i) w near far k room (t .grew) l maxLabels la lb (t .holds) off (rw (ea, eb) e));
+    }

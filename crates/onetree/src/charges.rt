@@ -1,0 +1,113 @@
+// Charged costs, each moved up by one offset so that it is unsigned, and the bound that a sum of them stands for.
+ghost use mathlib.Core.Path.{_≡_};
+ghost use Prim.Native.Nat.{ℕ, _+_, _*_, _<_, _≤_};
+ghost use lib.ListN.{length, getD};
+ghost use lib.IntN.{_+ℤ_};
+ghost use Rattle.lists.specs.Select.{select};
+ghost use Rattle.lists.specs.Numbers.{upTo};
+ghost use Rattle.lists.specs.Weights.{weight};
+ghost use Rattle.integers.specs.Parts.{IsDiff};
+ghost use Rattle.integers.specs.Range.{InRange};
+ghost use Rattle.graph.specs.Limits.{maxCost, maxMultiplier, maxEdges, maxVertices};
+ghost use Rattle.graph.specs.Valid.{Valid};
+ghost use Rattle.onetree.specs.Inputs.{multiplier};
+ghost use Rattle.onetree.specs.Arrays.{entry, bytes};
+ghost use Rattle.onetree.specs.Multipliers.{Ranged};
+ghost use Rattle.onetree.specs.Charged.{offset, maxCharge, Charged};
+ghost use Rattle.onetree.specs.Charging.{Raised};
+use crate::wide;
+use graph::Graph;
+
+// A cost or a multiplier, moved up by its limit.
+fn raised(x: i32) -> u32
+    requires { ⌜ InRange maxMultiplier x ⌝ }
+    ensures { λ r. ⌜ IsDiff x r maxMultiplier × (r ≤ 2 * maxMultiplier) ⌝ }
+{
+    (x + 1_000_000) as u32
+}
+
+fn charge(cost: i32, x: i32, y: i32) -> u32
+    requires { ⌜ InRange maxCost cost × InRange maxMultiplier x × InRange maxMultiplier y ⌝ }
+    ensures { λ r. ⌜ IsDiff ((cost +ℤ x) +ℤ y) r offset × (1 ≤ r) × (r ≤ maxCharge) ⌝ }
+{
+    raised(cost) + raised(x) + raised(y) + 1
+}
+
+// The multiplier of vertex v.
+fn multiplier_at(d: &[i32], v: u8) -> i32
+    requires { ⌜ (1 ≤ v) × (v ≤ length (now d)) ⌝ }
+    ensures { λ r. ⌜ r ≡ multiplier (now (d .entry)) v ⌝ }
+{
+    d[wide(v) - 1]
+}
+
+// Every edge's charge.
+pub(crate) fn charges(g: Graph, d: &[i32]) -> [u32; 190]
+    requires { ⌜ Valid g × Ranged (now d) × (length (now d) ≡ g .n) ⌝ }
+    ensures { λ r. ⌜ Charged g (now (d .entry)) r ⌝ }
+{
+    let mut c = [0u32; 190];
+    let m = g.m;
+    let mut k = 0;
+    while k < m {
+        c[k] = charge(
+            g.cost[k],
+            multiplier_at(d, g.a[k]),
+            multiplier_at(d, g.b[k]),
+        );
+        k = k + 1;
+    }
+    c
+}
+
+// The sum of the charges of the edges that are in.
+pub(crate) fn weigh(c: [u32; 190], w: [u8; 190], m: usize) -> u64
+    requires { ⌜ (m ≤ maxEdges) × ((k : ℕ) → k < m → getD c k 0 ≤ maxCharge) ⌝ }
+    ensures { λ r. ⌜ (r ≡ weight (entry c) (select (bytes w) (upTo m))) × (r ≤ maxCharge * m) ⌝ }
+{
+    let mut sum: u64 = 0;
+    let mut k = 0;
+    while k < m {
+        if w[k] == 1 {
+            sum = sum + c[k] as u64;
+        }
+        k = k + 1;
+    }
+    sum
+}
+
+fn long(x: u32) -> u64
+    ensures { λ r. ⌜ r ≡ x ⌝ }
+{
+    x as u64
+}
+
+// The sum of the multipliers, each moved up by its limit.
+pub(crate) fn total(d: &[i32]) -> u64
+    requires { ⌜ Ranged (now d) × (length (now d) ≤ maxVertices) ⌝ }
+    ensures { λ r. ⌜ Raised (now (d .entry)) (length (now (d .entry))) r ⌝ }
+{
+    let mut sum: u64 = 0;
+    let mut i = 0;
+    while i < d.len() {
+        sum = sum + long(raised(d[i]));
+        i = i + 1;
+    }
+    sum
+}
+
+fn minus(x: u64, y: u64) -> i64
+    requires { ⌜ (x ≤ 4000000000) × (y ≤ 4000000000) ⌝ }
+    ensures { λ r. ⌜ IsDiff r x y ⌝ }
+{
+    x as i64 - y as i64
+}
+
+// The bound of a 1-tree on n vertices whose charges add up to sum, where the multipliers, moved up, add up to t: the n offsets come off
+// the sum and twice n limits go back on.
+pub(crate) fn bound(sum: u64, n: usize, t: u64) -> i64
+    requires { ⌜ (sum ≤ maxCharge * maxEdges) × (n ≤ maxVertices) × (t ≤ 2 * maxMultiplier * maxVertices) ⌝ }
+    ensures { λ r. ⌜ IsDiff r sum (2 * t + (maxCost + 1) * n) ⌝ }
+{
+    minus(sum, 2 * t + 1_000_001 * (n as u64))
+}

@@ -1,0 +1,66 @@
+// The circle that an edge closes with the tree: its two ends climb to where they meet.
+ghost use mathlib.Core.Path.{_≡_};
+ghost use mathlib.Core.Logic.{_⊎_};
+ghost use Prim.Native.Nat.{_<_, _≤_};
+ghost use lib.ListN.{length, getD};
+ghost use Rattle.onetree.specs.Hanging.{Hangs, Vertex};
+ghost use Rattle.onetree.specs.RootedTree.{shape};
+ghost use Rattle.onetree.specs.Climbing.{Offered, Climbed};
+use crate::wide;
+
+pub(crate) fn greater(x: u32, y: u32) -> u32
+    ensures { λ r. ⌜ (x ≤ r) × (y ≤ r) × ((r ≡ x) ⊎ (r ≡ y)) ⌝ }
+{
+    if x < y {
+        return y;
+    }
+    x
+}
+
+// A replacement at c is offered to the edge above x: it keeps the cheapest.
+fn offer(cheapest: &mut [u32; 21], x: usize, c: u32)
+    requires { ⌜ (x < 21) × (length (now cheapest) ≡ 21) ⌝ }
+    ensures { λ _. ⌜ Offered (now (cheapest .entry)) c x (now (cheapest .exit)) ⌝ }
+{
+    if c < cheapest[x] {
+        cheapest[x] = c;
+    }
+}
+
+// The deeper of the two climbs, until they meet: the largest weight on the circle, and every edge on it is offered c.
+// Ruled out: an edge above the meeting counted, or one below it left out.
+pub(crate) fn climb<'a>(
+    parent: &'a [u8; 21],
+    depth: &'a [u8; 21],
+    weight: &'a [u32; 21],
+    cheapest: &mut [u32; 21],
+    from: usize,
+    to: usize,
+    c: u32,
+) -> u32
+    requires { ⌜ Hangs (shape (now parent) (now depth))
+        × Vertex (shape (now parent) (now depth)) from × Vertex (shape (now parent) (now depth)) to × (length (now cheapest) ≡ 21) ⌝ }
+    ensures { λ r. ⌜ Climbed (shape (now (parent .entry)) (now (depth .entry))) (λ v. getD (now (weight .entry)) v 0)
+        (now (cheapest .entry)) c from to r (now (cheapest .exit)) ⌝ }
+{
+    let mut top: u32 = 0;
+    let mut x = from;
+    let mut y = to;
+    'walk: loop {
+        loop {
+            if x == y {
+                break 'walk;
+            }
+            if depth[x] < depth[y] {
+                break;
+            }
+            top = greater(top, weight[x]);
+            offer(cheapest, x, c);
+            x = wide(parent[x]);
+        }
+        let z = x;
+        x = y;
+        y = z;
+    }
+    top
+}

@@ -1,0 +1,11 @@
+pub mod Walks
+pub mod Roots
+pub mod Components
+pub mod Connected
+pub mod Choice
+pub mod FirstTwo
+pub mod Forests
+pub mod Trees
+pub mod Kruskal
+pub mod Exchange
+pub mod Held

@@ -1,0 +1,2 @@
+pub mod StarredFacts
+pub mod SmallGraphs

@@ -1,0 +1,1 @@
+// This crate has theorems and no code: see specs/.

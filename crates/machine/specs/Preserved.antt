@@ -1,0 +1,256 @@
+-- EVERY CALL LEAVES A STATE THAT A RECORD OF FIXED SIZE CAN HOLD, where it finds one.
+use mathlib.Core.Path.{_≡_, refl, _∙_, subst}
+use mathlib.Core.Logic.{inl, inr}
+use mathlib.Core.Bool.{Bool, true, false, not, cond, _&&_}
+use mathlib.Core.List.{List, [], _∷_}
+use Prim.Native.Nat.{ℕ, zero, suc, _*_, _≤_, _<_}
+use native.Mathlib.Omega.{arith}
+use lib.Dec.{eqb, leb, ltb}
+use lib.ListN.{length, length-set}
+use lib.IntN.{ℤ, negsuc}
+use lib.Signed.{ltZ}
+use borrow.Author.Tests.{eqb-true, leb-true, not-false}
+use Rattle.lists.specs.Bools.{by-cases, and-both, cond-zero}
+use Rattle.lists.specs.Members.{_∈_}
+use Rattle.lists.specs.Select.{select, select-in}
+use Rattle.lists.specs.Numbers.{upTo}
+use Rattle.lists.specs.Rows.{row-size}
+use Rattle.integers.specs.Parts.{up, dn, add-up, add-dn}
+use Rattle.integers.specs.Range.{InRange, within-range}
+use Rattle.integers.specs.Sums.{sumZ}
+use Rattle.graph.specs.declared.Graph.{Graph}
+use Rattle.graph.specs.Limits.{maxCost, maxCeiling, maxSweeps, maxStep, maxCount}
+use Rattle.graph.specs.Network.{Network, required, excluded, network}
+use Rattle.graph.specs.Places.{network-cost}
+use Rattle.graph.specs.Valid as value
+use Rattle.graph.specs.Meaning.{valid-true}
+use Rattle.onetree.specs.OneTree.{Edges}
+use Rattle.onetree.specs.Inputs.{multiplier, multipliersFit, ceilingFits}
+use Rattle.onetree.specs.Enumeration.{Tree, noTree, aTree, leastTree}
+use Rattle.onetree.specs.Arrays.{edge-of, network-valid}
+use Rattle.machine.specs.Tours.{Tour, cost, isTour}
+use Rattle.machine.specs.Outcomes.{closes, finds, splits, Incumbent, noTour, aTour}
+use Rattle.machine.specs.Machine.{Marks, withMarks, marksOf, applied, Pass, shut, found, unclosed, passBy, pass, gained, Opened}
+use Rattle.machine.specs.Machine.{firstFree}
+use Rattle.machine.specs.Machine.{branch, concluded, passes, Opening, trimmed, held, Progress, State, noSearch, searching, begin}
+use Rattle.machine.specs.Machine.{edgesOf, costOf, lowered, openNode, settled, openTop, finished, ran}
+use Rattle.machine.specs.Calls.{Call, opens, run, tell, show, close, fault, openedBy, runBy, shownBy, step, stateAfter, leaves}
+use Rattle.machine.specs.Runs.{ran-keeps}
+use Rattle.machine.specs.Trimmed.{trimmed-trim, trimmed-valid}
+use Rattle.machine.specs.Branching.{frees-most}
+use Rattle.machine.specs.NodeTours.{applied-length}
+use Rattle.machine.specs.OpeningLaws.{Law, passes-law}
+use Rattle.machine.specs.Kept.{Accepted, Nodes, Kept, KeptState}
+
+-- ---- the range of a tour's cost, less 1
+
+sum-range : (f : ℕ → ℤ) (xs : List ℕ) → ((k : ℕ) → k ∈ xs → InRange maxCost (f k))
+    → (up (sumZ f xs) ≤ maxCost * length xs) × (dn (sumZ f xs) ≤ maxCost * length xs)
+unfolding sumZ
+sum-range f [] h = (omega arith, omega arith)
+sum-range f (x ∷ xs) h =
+    let r = sum-range f xs (λ k m. h k (inr m)) in
+    let i : InRange maxCost (f x) = h x (inl refl) in
+    (omega (arith, add-up (f x) (sumZ f xs), i .high, r .0), omega (arith, add-dn (f x) (sumZ f xs), i .low, r .1))
+
+lowered-range : (g : Graph) → value.Valid g → (r : List Bool) → Tour (network g) (edgesOf r) → InRange maxCeiling (lowered (network g) r)
+unfolding lowered costOf cost
+lowered-range g v r o = record {
+  high = omega (arith, add-up total (negsuc 0), sums .0, size, v .high);
+  low = omega (arith, add-dn total (negsuc 0), sums .1, size, v .high);
+}
+  where
+    es : List ℕ
+    es = select (edgesOf r) (upTo (network g .m))
+
+    total : ℤ
+    total = sumZ (network g .cost) es
+
+    size : length es ≡ g .n
+    size = unfold network in o .number
+
+    each : (k : ℕ) → k ∈ es → InRange maxCost (network g .cost k)
+    each k m = go (edge-of (g .m) k (unfold network in select-in (edgesOf r) (upTo (network g .m)) k m .0))
+      where
+        go : (j : ℕ) × (j < g .m) × (k ≡ suc j) → InRange maxCost (network g .cost k)
+        go e = rw (e .2, network-cost g (e .0) (e .1)) (v .each (e .0) (e .1) .range)
+
+    sums : (up (sumZ (network g .cost) es) ≤ maxCost * length es) × (dn (sumZ (network g .cost) es) ≤ maxCost * length es)
+    sums = sum-range (network g .cost) es each
+
+-- ---- the sizes of what an opening of a node comes to
+
+abbrev LongPass : ℕ → Pass → Type 0
+LongPass m shut = Unit {0}
+LongPass m (found t) = Unit {0}
+LongPass m (unclosed t y) = (length y ≡ m)
+
+pass-long : (g : Network) (d : ℕ → ℤ) (upper : ℤ) → LongPass (g .m) (pass g d upper)
+unfolding pass passBy
+pass-long g d upper = go (leastTree g d)
+  where
+    cases : (t : Edges) (b c : Bool) → LongPass (g .m) (cond b shut (cond c (found t) (unclosed t (applied g d upper))))
+    cases t true c = tt
+    cases t false true = tt
+    cases t false false = applied-length g d upper
+
+    go : (r : Tree) → LongPass (g .m) (passBy g d upper r)
+    go noTree = tt
+    go (aTree b t) = cases t (ltZ upper b) (isTour g t)
+
+abbrev Long : ℕ → Opened → Type 0
+Long m closes = Unit {0}
+Long m (finds r) = (length r ≡ m)
+Long m (splits out into) = (length out ≡ m) × (length into ≡ m)
+
+branch-long : (m : ℕ) (y : Marks) → length y ≡ m → Long m (branch y)
+unfolding branch
+branch-long m y e =
+    by-cases (ltb (firstFree y) (length y))
+    (λ t. rw t (length-set y (firstFree y) excluded ∙ e, length-set y (firstFree y) required ∙ e))
+    (λ t. rw t tt)
+
+concluded-long : (m : ℕ) (p : Pass) → LongPass m p → (otherwise : Edges → Marks → Opened)
+    → ((t : Edges) (y : Marks) → length y ≡ m → Long m (otherwise t y)) → Long m (concluded m p otherwise)
+concluded-long m shut h otherwise later = tt
+concluded-long m (found t) h otherwise later = row-size m t
+concluded-long m (unclosed t y) h otherwise later = later t y h
+
+passes-long : (g : Network) (stride : ℕ) (upper : ℤ) (left : ℕ) (d : List ℤ) (x : Marks) → Long (g .m) (passes g stride upper left d x)
+unfolding passes
+passes-long g stride upper zero d x =
+    concluded-long (g .m) (pass (withMarks g x) (multiplier d) upper) (unfold withMarks in pass-long (withMarks g x) (multiplier d) upper)
+    (λ t y. branch y) (λ t y e. branch-long (g .m) y e)
+passes-long g stride upper (suc left) d x =
+    concluded-long (g .m) (pass (withMarks g x) (multiplier d) upper) (unfold withMarks in pass-long (withMarks g x) (multiplier d) upper)
+    (λ t y. passes g stride upper left (gained g stride t d) y) (λ t y e. passes-long g stride upper left (gained g stride t d) y)
+
+-- ---- one node more
+
+module _ (s : Progress) (h : Kept s) (x : Marks) (rest : List Marks) (e : s .stack ≡ x ∷ rest) (l : s .count < maxCount) where
+  g : Network
+  g = network (s .opening .graph)
+
+  waiting : Nodes (s .opening .graph .m) (x ∷ rest)
+  waiting = subst (λ (st : List Marks). Nodes (s .opening .graph .m) st) e (h .nodes)
+
+  -- the node's opening is lawful and its parts have m places
+  pub top-law : Law (network (s .opening .graph)) (network-valid (s .opening .graph) (h .opening .valid)) (s .upper) x
+      (openNode (s .opening) (s .upper) x)
+  unfolding openNode
+  top-law =
+      passes-law (network (s .opening .graph)) (network-valid (s .opening .graph) (h .opening .valid)) (s .upper) (s .opening .step)
+      (s .opening .sweeps) (s .opening .multipliers) x (unfold network in waiting .0)
+
+  top-long : Long (s .opening .graph .m) (openNode (s .opening) (s .upper) x)
+  unfolding openNode network
+  top-long =
+      passes-long (network (s .opening .graph)) (s .opening .step) (s .upper) (s .opening .sweeps) (s .opening .multipliers) x
+
+  settled-kept : (out : Opened) → Long (s .opening .graph .m) out
+      → Law (network (s .opening .graph)) (network-valid (s .opening .graph) (h .opening .valid)) (s .upper) x out
+      → Kept (settled s rest out)
+  unfolding settled
+  settled-kept closes z w =
+      record { opening = h .opening; upper = h .upper; nodes = waiting .2; sized = h .sized; count = l }
+  settled-kept (finds r) z w =
+      record {
+        opening = h .opening;
+        upper = lowered-range (s .opening .graph) (h .opening .valid) r (w .inside .tour);
+        nodes = waiting .2;
+        sized = z;
+        count = l;
+      }
+  settled-kept (splits out into) z w =
+      record {
+        opening = h .opening;
+        upper = h .upper;
+        nodes = (
+          z .1,
+          omega (arith, w .smaller-into, waiting .1),
+          (z .0, omega (arith, w .smaller-out, waiting .1), waiting .2),
+        );
+        sized = h .sized;
+        count = l;
+      }
+
+  pub top-kept : Kept (openTop s (x ∷ rest))
+  unfolding openTop
+  top-kept = settled-kept (openNode (s .opening) (s .upper) x) top-long top-law
+
+pub ran-kept : (budget : ℕ) (s : Progress) → Kept s → Kept (ran budget s)
+ran-kept = ran-keeps Kept (λ s x rest e l h. top-kept s h x rest e l)
+
+-- ---- an opening
+
+-- no fault: what each test tells
+pub accepts-held : (o : Opening) → fault o ≡ 0 → Accepted (held o)
+unfolding fault held ceilingFits trimmed
+accepts-held o h =
+    let e15 = cond-zero (not (value.valid (o .graph))) 15 _ (omega arith) h in
+    let e11 = cond-zero (not (eqb (length (o .multipliers)) (o .graph .n))) 11 _ (omega arith) (e15 .1) in
+    let e12 = cond-zero (not (multipliersFit (o .multipliers))) 12 _ (omega arith) (e11 .1) in
+    let e13 = cond-zero (not (ceilingFits (o .ceiling))) 13 _ (omega arith) (e12 .1) in
+    let e14 = cond-zero (not (leb (o .sweeps) maxSweeps && leb (o .step) maxStep)) 14 0 (omega arith) (e13 .1) in
+    let both = and-both (leb (o .sweeps) maxSweeps) (leb (o .step) maxStep) (not-false _ (e14 .0)) in
+    record {
+      trim = trimmed-trim (o .graph);
+      valid = trimmed-valid (o .graph) (valid-true (o .graph) (not-false _ (e15 .0)));
+      long = eqb-true (length (o .multipliers)) (o .graph .n) (not-false _ (e11 .0));
+      multipliers = not-false _ (e12 .0);
+      ceiling = within-range maxCeiling (o .ceiling) (not-false _ (e13 .0));
+      sweeps = leb-true (o .sweeps) maxSweeps (both .0);
+      step = leb-true (o .step) maxStep (both .1);
+    }
+
+pub begin-kept : (o : Opening) → Accepted o → Kept (begin o)
+unfolding begin marksOf network
+begin-kept o a = record {
+  opening = a;
+  upper = a .ceiling;
+  nodes = (
+    row-size (o .graph .m) (network (o .graph) .mark),
+    omega (arith, frees-most (marksOf (network (o .graph))), row-size (o .graph .m) (network (o .graph) .mark)),
+    tt,
+  );
+  sized = tt;
+  count = omega arith;
+}
+
+-- ---- the calls
+
+open-kept : (o : Opening) (k : ℕ) → fault o ≡ k → KeptState (openedBy o k .state)
+unfolding openedBy
+open-kept o zero e = begin-kept (held o) (accepts-held o e)
+open-kept o (suc k) e = tt
+
+-- show leaves the state as it is
+pub show-state : (s : Progress) (l : List ℕ) (b : Bool) (i : Incumbent (List Bool)) → shownBy s l b i .state ≡ searching s
+unfolding shownBy
+show-state s l false i = refl
+show-state s l true noTour = refl
+show-state s l true (aTour r) =
+    by-cases (eqb (length l) (s .opening .graph .m)) (λ e. rw e) (λ e. rw e)
+
+pub step-kept : (s : State) (c : Call) → KeptState s → KeptState (step s c .state)
+unfolding step runBy
+step-kept noSearch (opens o) h = open-kept o (fault o) refl
+step-kept noSearch (run budget) h = tt
+step-kept noSearch tell h = tt
+step-kept noSearch (show l) h = tt
+step-kept noSearch close h = tt
+step-kept (searching s) (opens o) h = h
+step-kept (searching s) (run budget) h = ran-kept budget s h
+step-kept (searching s) tell h = h
+step-kept (searching s) (show l) h = rw (show-state s l (finished s) (s .incumbent)) h
+step-kept (searching s) close h = tt
+
+kept-after : (cs : List Call) (s : State) → KeptState s → KeptState (stateAfter s cs)
+unfolding stateAfter
+kept-after [] s h = h
+kept-after (c ∷ cs) s h = kept-after cs (step s c .state) (step-kept s c h)
+
+-- so every list of calls leaves such a state
+pub leaves-kept : (cs : List Call) → KeptState (leaves cs)
+unfolding leaves
+leaves-kept cs = kept-after cs noSearch tt

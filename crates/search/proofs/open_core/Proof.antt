@@ -1,0 +1,91 @@
+-- The cases of `reply` at an opening, one for each return; a signed word that is passed on is read back as it was.
+use mathlib.Core.Path.{_≡_, sym, ap, _∙_}
+use mathlib.Core.Bool.{true}
+use borrow.Author.Needs.{needs}
+use borrow.Author.Tests.{not-true, not-false}
+use Rattle.machine.specs.Machine.{Opening}
+use Rattle.machine.specs.Calls.{step}
+use Rattle.search.specs.Record.{openingOf}
+use Rattle.search.specs.Check.{check}
+use Rattle.search.specs.Inverse.{Typed}
+use Rattle.search.specs.declared.Search.{Search}
+use Rattle.search.specs.ReplyCases.{reply-24, open-fault, open-done, open-21}
+use Rattle.machine.specs.Calls as Calls
+use mir.Facts.{toZ-ofZ}
+use Rattle.search.specs.declared.Answer.the-variants.{Accepted}
+use Rattle.search.proofs.open_core.Statement.{statement}
+use Rattle.search.proofs.open_core.Tie as tie
+
+abbrev asked : tie.Start → Opening
+asked c = openingOf (c .args .g) (c .args .multipliers .now) (c .args .ceiling) (c .args .sweeps) (c .args .step)
+
+-- the arrays of the record have the lengths of their types
+typed : (c : tie.Start) → Typed (c .args .s)
+typed c = search needs
+
+passed : (c : tie.Else1) → check (c .before .before .args .s) ≡ true
+passed c = sym (c .before .check-record .ensures) ∙ not-false _ (c .if1 .left)
+
+check-record-requires : tie.Need-check-record-requires
+check-record-requires c κs = search needs
+
+refuse-requires : tie.Need-refuse-requires
+refuse-requires c κs = search needs
+
+returns : tie.Need-returns
+returns c =
+    let call = Calls.opens (asked (c .before .before .before)) in
+    c .refuse .ensures ∙ sym (reply-24 _ call (sym (c .before .before .check-record .ensures) ∙ not-true _ (c .before .if1 .taken)))
+
+refuse-requires-2 : tie.Need-refuse-requires-2
+refuse-requires-2 c κs = search needs
+
+returns-2 : tie.Need-returns-2
+returns-2 c =
+    let c1 = c .before .before in
+    let start = c1 .before .before in
+    c .refuse2 .ensures ∙ sym (open-21 (start .args .s) (typed start) (passed c1) (c .before .if2 .taken) (asked start))
+
+fault-requires : tie.Need-fault-requires
+fault-requires c κs = search needs
+
+refuse-requires-3 : tie.Need-refuse-requires-3
+refuse-requires-3 c κs = search needs
+
+returns-3 : tie.Need-returns-3
+returns-3 c =
+    let c2 = c .before .before .before in
+    let c1 = c2 .before in
+    let start = c1 .before .before in
+    let found = rw (toZ-ofZ (start .fits .ceiling)) at (c .before .before .fault .ensures) in
+    c .refuse3 .ensures
+    ∙ sym (open-fault (start .args .s) (typed start) (passed c1) (c2 .if2 .left) (asked start) _ (sym found) (c .before .if3 .taken))
+
+begin-requires : tie.Need-begin-requires
+begin-requires c κs = search needs
+
+returns-4 : tie.Need-returns-4
+returns-4 c =
+    let c3 = c .before in
+    let c2 = c3 .before .before in
+    let c1 = c2 .before in
+    let start = c1 .before .before in
+    let found = rw (toZ-ofZ (start .fits .ceiling)) at (c3 .before .fault .ensures) in
+    let made = rw (toZ-ofZ (start .fits .ceiling)) at (c .begin .ensures) in
+    ap (λ (f : Search). record { search = f; answer = Accepted }) made
+    ∙ sym (open-done (start .args .s) (typed start) (passed c1) (c2 .if2 .left) (asked start) (sym found ∙ c3 .if3 .left))
+
+pub open-core-spec : {M : Type 1} → statement M
+open-core-spec =
+    tie.close
+    (tie.spec
+    check-record-requires
+    refuse-requires
+    returns
+    refuse-requires-2
+    returns-2
+    fault-requires
+    refuse-requires-3
+    returns-3
+    begin-requires
+    returns-4)

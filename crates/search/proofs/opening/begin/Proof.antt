@@ -1,0 +1,32 @@
+-- The trimmed graph, the padded multipliers and the one node are those of the record of `begin`.
+use native.Mathlib.Omega.{arith}
+use borrow.Author.Needs.{needs}
+use Rattle.machine.specs.Machine.{Opening}
+use Rattle.machine.specs.Calls.{close, step}
+use Rattle.search.specs.Record.{openingOf}
+use Rattle.search.specs.Begun.{begun-valid, begun-long, begun}
+use mir.Facts.{toZ-ofZ}
+use Rattle.search.proofs.opening.begin.Statement.{statement}
+use Rattle.search.proofs.opening.begin.Tie as tie
+
+abbrev asked : tie.Start → Opening
+asked c = openingOf (c .args .g) (c .args .multipliers .now) (c .args .ceiling) (c .args .sweeps) (c .args .step)
+
+trim-requires : tie.Need-trim-requires
+trim-requires c κs = begun-valid (asked c) (c .pre) .few
+
+padded-requires : tie.Need-padded-requires
+padded-requires c κs =
+    omega (arith, begun-long (asked (c .before)) (c .before .pre), begun-valid (asked (c .before)) (c .before .pre) .high)
+
+put-requires : tie.Need-put-requires
+put-requires c κs = search needs
+
+returns : tie.Need-returns
+returns c =
+    let start = c .before .before .before .before .before in
+    begun (asked start) (start .pre) _ (c .before .before .before .before .trim .ensures) _ (c .before .before .before .padded .ensures)
+    _ (toZ-ofZ (start .fits .ceiling)) _ (c .put .ensures)
+
+pub begin-spec : {M : Type 1} → statement M
+begin-spec = tie.close (tie.spec trim-requires padded-requires put-requires returns)

@@ -1,0 +1,102 @@
+-- By the tests of `fault`, one after the other.
+use mathlib.Core.Path.{_≡_, sym, ap, _∙_}
+use mathlib.Core.Bool.{true}
+use borrow.Author.Needs.{needs}
+use borrow.Author.Tests.{not-true, not-false}
+use Rattle.graph.specs.Valid.{valid}
+use Rattle.onetree.specs.Inputs.{multipliersFit, ceilingFits}
+use Rattle.machine.specs.Machine.{Opening}
+use Rattle.machine.specs.Calls.{step}
+use Rattle.search.specs.Record.{openingOf}
+use Rattle.search.specs.Check.{check}
+use Rattle.search.specs.Faults.{fault-15, fault-11, fault-12, fault-13, fault-sweeps, fault-step, fault-none}
+use mir.Facts.{toZ-ofZ}
+use Rattle.search.proofs.opening.fault.Statement.{statement}
+use Rattle.search.proofs.opening.fault.Tie as tie
+
+abbrev asked : tie.Start → Opening
+asked c = openingOf (c .args .g) (c .args .multipliers .now) (c .args .ceiling) (c .args .sweeps) (c .args .step)
+
+sound : (c : tie.Else1) → valid (c .before .before .args .g) ≡ true
+sound c = sym (c .before .check .ensures) ∙ not-false _ (c .if1 .left)
+
+fitting : (c : tie.Else3) → multipliersFit (c .before .before .before .before .before .before .args .multipliers .now) ≡ true
+fitting c = sym (c .before .multipliers-fit .ensures) ∙ not-false _ (c .if3 .left)
+
+-- a signed word that is passed on is read back as it was
+inside : (c : tie.Else4) → ceilingFits (c .before .before .before .before .before .before .before .before .args .ceiling) ≡ true
+inside c =
+    let start = c .before .before .before .before .before .before .before .before in
+    ap ceilingFits (sym (toZ-ofZ (start .fits .ceiling))) ∙ sym (c .before .ceiling-fits .ensures) ∙ not-false _ (c .if4 .left)
+
+check-requires : tie.Need-check-requires
+check-requires c κs = search needs
+
+returns : tie.Need-returns
+returns c = sym (fault-15 (asked (c .before .before)) (sym (c .before .check .ensures) ∙ not-true _ (c .if1 .taken)))
+
+returns-2 : tie.Need-returns-2
+returns-2 c =
+    let c1 = c .before .before in
+    sym (fault-11 (asked (c1 .before .before)) (sound c1) (c .if2 .taken))
+
+multipliers-fit-requires : tie.Need-multipliers-fit-requires
+multipliers-fit-requires c κs = search needs
+
+returns-3 : tie.Need-returns-3
+returns-3 c =
+    let c2 = c .before .before in
+    let c1 = c2 .before .before in
+    let misfit = sym (c .before .multipliers-fit .ensures) ∙ not-true _ (c .if3 .taken) in
+    sym (fault-12 (asked (c1 .before .before)) (sound c1) (c2 .if2 .left) misfit)
+
+ceiling-fits-requires : tie.Need-ceiling-fits-requires
+ceiling-fits-requires c κs = search needs
+
+returns-4 : tie.Need-returns-4
+returns-4 c =
+    let c3 = c .before .before in
+    let c2 = c3 .before .before in
+    let c1 = c2 .before .before in
+    let start = c1 .before .before in
+    let out = ap ceilingFits (sym (toZ-ofZ (start .fits .ceiling))) ∙ sym (c .before .ceiling-fits .ensures) ∙ not-true _ (c .if4 .taken) in
+    sym (fault-13 (asked start) (sound c1) (c2 .if2 .left) (fitting c3) out)
+
+returns-5 : tie.Need-returns-5
+returns-5 c =
+    let c4 = c .before in
+    let c3 = c4 .before .before in
+    let c2 = c3 .before .before in
+    let c1 = c2 .before .before in
+    sym (fault-sweeps (asked (c1 .before .before)) (sound c1) (c2 .if2 .left) (fitting c3) (inside c4) (c .if5 .taken))
+
+returns-6 : tie.Need-returns-6
+returns-6 c =
+    let c4 = c .before .before in
+    let c3 = c4 .before .before in
+    let c2 = c3 .before .before in
+    let c1 = c2 .before .before in
+    sym (fault-step (asked (c1 .before .before)) (sound c1) (c2 .if2 .left) (fitting c3) (inside c4) (c .before .if5 .left) (c .if6 .taken))
+
+returns-7 : tie.Need-returns-7
+returns-7 c =
+    let c4 = c .before .before in
+    let c3 = c4 .before .before in
+    let c2 = c3 .before .before in
+    let c1 = c2 .before .before in
+    sym (fault-none (asked (c1 .before .before)) (sound c1) (c2 .if2 .left) (fitting c3) (inside c4) (c .before .if5 .left) (c .if6 .left))
+
+pub fault-spec : {M : Type 1} → statement M
+fault-spec =
+    tie.close
+    (tie.spec
+    check-requires
+    returns
+    returns-2
+    multipliers-fit-requires
+    returns-3
+    ceiling-fits-requires
+    returns-4
+    returns-5
+    returns-6
+    returns-7)

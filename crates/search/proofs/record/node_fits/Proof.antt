@@ -1,0 +1,88 @@
+-- The loop keeps: how many of the first j edges are free, and that their bytes are marks.
+use Prim.Native.Nat.{ℕ, _+_, _*_, _≤_, _<_, _-_}
+use mathlib.Core.Path.{_≡_, sym, ap, _∙_}
+use mathlib.Core.Logic.{⊎-elim}
+use native.Mathlib.Omega.{arith}
+use borrow.Author.Needs.{needs}
+use borrow.Author.Count.{below-more}
+use lib.ListN.{getD}
+use Rattle.machine.specs.Calls.{close}
+use Rattle.search.specs.Record.{node}
+use Rattle.search.specs.CheckLoops.{says-le, frees-none, frees-free, frees-other}
+use Rattle.machine.specs.Machine as Machine
+use Rattle.search.proofs.record.node_fits.Statement.{statement}
+use Rattle.search.proofs.record.node_fits.Tie as tie
+
+abbrev Inv-loop : tie.InvT-loop
+Inv-loop stack m p frees₀ j₀ frees j =
+    (j ≤ m) × (frees ≡ Machine.frees (node j stack p)) × (frees ≤ j) × ((k : ℕ) → k < j → getD stack (190 * p + k) 0 ≤ 2)
+
+abbrev μ-loop : tie.MeasureT-loop
+μ-loop stack m p frees₀ j₀ frees j = m - j
+
+loop-holds : tie.Need-loop-holds Inv-loop μ-loop
+loop-holds c = (omega arith, sym (frees-none (c .args .stack .now) (c .args .p)), omega arith, λ k h. absurd (omega arith))
+
+mul-x : tie.Need-mul-x Inv-loop μ-loop
+mul-x c = search needs
+
+add-x : tie.Need-add-x Inv-loop μ-loop
+add-x c = search needs
+
+element-copy-out-x : tie.Need-element-copy-out-x Inv-loop μ-loop
+element-copy-out-x c = search needs
+
+returns : tie.Need-returns Inv-loop μ-loop
+returns c = λ e. let l = c .before .before .before .loop in omega (arith, e .0 (l .j) (omega arith))
+
+add-frees : tie.Need-add-frees Inv-loop μ-loop
+add-frees c = search needs
+
+add-j : tie.Need-add-j Inv-loop μ-loop
+add-j c = search needs
+
+loop-less : tie.Need-loop-less Inv-loop μ-loop
+loop-less c = search needs
+
+loop-again : tie.Need-loop-again Inv-loop μ-loop
+loop-again c =
+    let l = c .before .before .before .before .loop in
+    let args = c .before .before .before .before .before .args in
+    let stack = args .stack .now in (
+      omega arith,
+      ⊎-elim (λ w. omega (arith, l .inv .1, frees-free stack (args .p) (l .j) (w .0 .taken)))
+          (λ w. omega (arith, l .inv .1, frees-other stack (args .p) (l .j) (w .0 .left))) (c .if2 .came),
+      ⊎-elim (λ w. omega arith) (λ w. omega arith) (c .if2 .came),
+      below-more _ _ (l .inv .3) (omega arith),
+    )
+
+add-result : tie.Need-add-result Inv-loop μ-loop
+add-result c = search needs
+
+returns-2 : tie.Need-returns-2 Inv-loop μ-loop
+returns-2 c =
+    let l = c .before .loop in
+    let args = c .before .before .args in
+    let stack = args .stack .now in
+    let all : l .j ≡ args .m = omega arith in
+    let frees : l .frees ≡ Machine.frees (node (args .m) stack (args .p)) =
+    l .inv .1 ∙ ap (λ (k : ℕ). Machine.frees (node k stack (args .p))) all in
+    says-le (l .frees + args .p) (args .m) _ (λ h. ((λ k b. l .inv .3 k (omega arith)), omega arith)) (λ e. omega (arith, e .1))
+
+pub node-fits-spec : {M : Type 1} → statement M
+node-fits-spec =
+    tie.close
+    (tie.spec
+    Inv-loop
+    μ-loop
+    loop-holds
+    mul-x
+    add-x
+    element-copy-out-x
+    returns
+    add-frees
+    add-j
+    loop-less
+    loop-again
+    add-result
+    returns-2)

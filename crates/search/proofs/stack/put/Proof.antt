@@ -1,0 +1,60 @@
+-- The loop keeps: the first j bytes of x stand at node p.
+use Prim.Native.Nat.{_≤_, _<_, _-_}
+use mathlib.Core.Path.{_≡_}
+use native.Mathlib.Omega.{arith}
+use borrow.Author.Needs.{needs}
+use lib.ListN.{length}
+use Rattle.search.specs.Pushing.{Put, put-none, put-more, put-to}
+use Rattle.search.proofs.stack.put.Statement.{statement}
+use Rattle.search.proofs.stack.put.Tie as tie
+
+abbrev Inv-loop : tie.InvT-loop
+Inv-loop stack₀ p x j₀ stack j = (j ≤ 190) × (p < 191) × (length stack₀ ≡ 36290) × Put p j x stack₀ stack
+
+abbrev μ-loop : tie.MeasureT-loop
+μ-loop stack₀ p x j₀ stack j = 190 - j
+
+loop-holds : tie.Need-loop-holds Inv-loop μ-loop
+loop-holds c = (omega arith, c .pre .0, c .pre .1, put-none (c .args .p) _ _)
+
+array-read-stack : tie.Need-array-read-stack Inv-loop μ-loop
+array-read-stack c = search needs
+
+mul-stack : tie.Need-mul-stack Inv-loop μ-loop
+mul-stack c = search needs
+
+add-stack : tie.Need-add-stack Inv-loop μ-loop
+add-stack c = search needs
+
+element-write-stack : tie.Need-element-write-stack Inv-loop μ-loop
+element-write-stack c = let l = c .before .loop in omega (arith, l .inv .3 .size)
+
+add-j : tie.Need-add-j Inv-loop μ-loop
+add-j c = search needs
+
+loop-less : tie.Need-loop-less Inv-loop μ-loop
+loop-less c = search needs
+
+loop-again : tie.Need-loop-again Inv-loop μ-loop
+loop-again c =
+    let l = c .before .loop in
+    (omega arith, l .inv .1, l .inv .2, put-more _ (l .j) _ _ _ (omega (arith, l .inv .3 .size)) (l .inv .3))
+
+returns : tie.Need-returns Inv-loop μ-loop
+returns c = let l = c .before .loop in put-to _ (l .j) 190 _ _ _ (omega arith) (l .inv .3)
+
+pub put-spec : {M : Type 1} → statement M
+put-spec =
+    tie.close
+    (tie.spec
+    Inv-loop
+    μ-loop
+    loop-holds
+    array-read-stack
+    mul-stack
+    add-stack
+    element-write-stack
+    add-j
+    loop-less
+    loop-again
+    returns)

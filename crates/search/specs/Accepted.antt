@@ -1,0 +1,50 @@
+-- An opening that the machine's state may hold is one without a fault: none of 15, 11, 12, 13, 14 applies. So the check of a record need
+-- only ask for the fault. Assumes nothing.
+use mathlib.Core.Path.{_≡_, subst}
+use mathlib.Core.Bool.{true}
+use lib.ListN.{length}
+use lib.IntN.{ℤ}
+use borrow.Author.Tests.{eq-eqb, le-leb}
+use Rattle.integers.specs.Range.{InRange, within-range, range-within}
+use Rattle.graph.specs.Limits.{maxCeiling, maxSweeps, maxStep}
+use Rattle.graph.specs.Meaning.{true-valid}
+use Rattle.onetree.specs.Inputs.{ceilingFits}
+use Rattle.machine.specs.Machine.{Opening, held}
+use Rattle.machine.specs.Calls.{fault}
+use Rattle.machine.specs.Trimmed.{Trim, trim-trimmed}
+use Rattle.machine.specs.Kept.{Accepted}
+use Rattle.machine.specs.Preserved.{accepts-held}
+
+pub fits-range : (z : ℤ) → ceilingFits z ≡ true → InRange maxCeiling z
+unfolding ceilingFits
+fits-range z h = within-range maxCeiling z h
+
+pub range-fits : (z : ℤ) → InRange maxCeiling z → ceilingFits z ≡ true
+unfolding ceilingFits
+range-fits z h = range-within maxCeiling z h
+
+pub accepted-fault : (o : Opening) → Accepted o → fault o ≡ 0
+unfolding fault
+accepted-fault o a =
+    rw (
+      true-valid (o .graph) (a .valid),
+      eq-eqb (length (o .multipliers)) (o .graph .n) (a .long),
+      a .multipliers,
+      range-fits (o .ceiling) (a .ceiling),
+      le-leb (o .sweeps) maxSweeps (a .sweeps),
+      le-leb (o .step) maxStep (a .step),
+    )
+
+-- what the state holds of an opening is that opening, where its graph has nothing past its edges
+pub held-same : (o : Opening) → Trim (o .graph) → held o ≡ o
+unfolding held
+held-same o t = λ i. record {
+  graph = trim-trimmed (o .graph) t i;
+  multipliers = o .multipliers;
+  ceiling = o .ceiling;
+  sweeps = o .sweeps;
+  step = o .step;
+}
+
+pub fault-accepted : (o : Opening) → Trim (o .graph) → fault o ≡ 0 → Accepted o
+fault-accepted o t h = subst Accepted (held-same o t) (accepts-held o h)

@@ -1,0 +1,91 @@
+-- THE RECORD'S CHECK, "24 the record fails its own check, which docs/ states": `Canonical`, field by field. docs/RECORD.md says the same in
+-- words, Check.antt has the test that is passed exactly where it holds, and Inverse.antt shows that such a record stands for a state of the
+-- machine. Definitions only.
+use mathlib.Core.Path.{_≡_}
+use mathlib.Core.Bool.{Bool, true, false, cond}
+use mathlib.Core.List.{List}
+use Prim.Native.Nat.{ℕ, _+_, _*_, _≤_, _<_}
+use lib.Dec.{ltb}
+use lib.ListN.{getD}
+use lib.IntN.{pos}
+use Rattle.graph.specs.Limits.{maxVertices, maxEdges, maxMark, maxCount}
+use Rattle.graph.specs.declared.Graph.{Graph}
+use Rattle.onetree.specs.Inputs.{ceilingFits}
+use Rattle.machine.specs.Machine.{frees}
+use Rattle.machine.specs.Calls.{fault}
+use Rattle.search.specs.Record.{maxNodes, node, openingIn}
+use Rattle.search.specs.declared.Search.{Search}
+
+-- ---- places that are not used are zero
+
+-- zero from place `from` on, in an array of n
+abbrev pub Zeros : {A : Type 0} → A → ℕ → ℕ → List A → Type 0
+Zeros z n from l = (i : ℕ) → i < n → from ≤ i → getD l i z ≡ z
+
+-- past m in the graph's arrays
+pub record GraphTidy (g : Graph) : Type 0 where
+  pub a : Zeros 0 maxEdges (g .m) (g .a)
+  pub b : Zeros 0 maxEdges (g .m) (g .b)
+  pub cost : Zeros (pos 0) maxEdges (g .m) (g .cost)
+  pub mark : Zeros 0 maxEdges (g .m) (g .mark)
+
+-- from place `from` on, in node p of the stack
+abbrev pub NodeZeros : List ℕ → ℕ → ℕ → Type 0
+NodeZeros l p from = (j : ℕ) → j < maxEdges → from ≤ j → getD l (maxEdges * p + j) 0 ≡ 0
+
+-- past m in the nodes below the depth, and everywhere in the others
+abbrev pub usedIn : ℕ → ℕ → ℕ → ℕ
+usedIn m depth p = cond (ltb p depth) m 0
+
+abbrev pub StackTidy : ℕ → ℕ → List ℕ → Type 0
+StackTidy m depth l = (p : ℕ) → p < maxNodes → NodeZeros l p (usedIn m depth p)
+
+pub record Tidy (s : Search) : Type 0 where
+  pub graph : GraphTidy (s .graph)
+  pub multipliers : Zeros (pos 0) maxVertices (s .graph .n) (s .multipliers)
+  pub stack : StackTidy (s .graph .m) (s .depth) (s .stack)
+  -- past m where there is an incumbent, and everywhere where there is none
+  pub best : Zeros 0 maxEdges (cond (s .«has_best») (s .graph .m) 0) (s .best)
+
+-- ---- no search is open: with `Tidy`, this is the fresh record
+pub record Idle (s : Search) : Type 0 where
+  pub n : s .graph .n ≡ 0
+  pub m : s .graph .m ≡ 0
+  pub ceiling : s .ceiling ≡ pos 0
+  pub sweeps : s .sweeps ≡ 0
+  pub step : s .step ≡ 0
+  pub upper : s .upper ≡ pos 0
+  pub depth : s .depth ≡ 0
+  pub best : s .«has_best» ≡ false
+  pub count : s .count ≡ 0
+
+-- ---- a search is open
+
+-- node p has marks only, and at most m − p free edges
+abbrev pub NodeFits : ℕ → List ℕ → ℕ → Type 0
+NodeFits m l p = ((j : ℕ) → j < m → getD l (maxEdges * p + j) 0 ≤ maxMark) × (frees (node m l p) + p ≤ m)
+
+abbrev pub StackFits : ℕ → ℕ → List ℕ → Type 0
+StackFits m depth l = (p : ℕ) → p < depth → NodeFits m l p
+
+abbrev pub Bits : List ℕ → Type 0
+Bits l = (i : ℕ) → i < maxEdges → getD l i 0 ≤ 1
+
+pub record Fits (s : Search) : Type 0 where
+  -- the arguments are such as an opening accepts: none of 15, 11, 12, 13, 14
+  pub opening : fault (openingIn s) ≡ 0
+  pub upper : ceilingFits (s .upper) ≡ true
+  pub depth : s .depth ≤ s .graph .m + 1
+  pub stack : StackFits (s .graph .m) (s .depth) (s .stack)
+  pub best : Bits (s .best)
+  pub count : s .count ≤ maxCount
+
+-- ---- the check
+
+abbrev pub Stands : Bool → Search → Type 0
+Stands true s = Fits s
+Stands false s = Idle s
+
+pub record Canonical (s : Search) : Type 0 where
+  pub tidy : Tidy s
+  pub stands : Stands (s .«open») s

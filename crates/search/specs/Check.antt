@@ -1,0 +1,167 @@
+-- The record's check as a test: `check s` is true exactly where `Canonical s` holds (check-yes, check-no, check-is). Nothing else is known
+-- or needed of it. Assumes nothing.
+use mathlib.Core.Path.{_≡_, refl, sym, subst}
+use mathlib.Core.Bool.{Bool, true, false, cond, true≢false, false≢true}
+use mathlib.Core.List.{List}
+use Prim.Native.Nat.{ℕ, zero, suc, _+_, _*_, _≤_, _<_}
+use native.Mathlib.Omega.{arith}
+use native.Mathlib.Decide.{decLe, ℕ-discrete, map-dec}
+use lib.ListN.{getD}
+use lib.IntN.{ℤ, pos, ℤ-discrete}
+use Rattle.graph.specs.Limits.{maxMark, maxCount}
+use Rattle.graph.specs.declared.Graph.{Graph}
+use Rattle.onetree.specs.Inputs.{ceilingFits}
+use Rattle.machine.specs.Machine.{frees}
+use Rattle.machine.specs.Calls.{fault}
+use Rattle.search.specs.Record.{node, openingIn}
+use Rattle.search.specs.Canonical.{Zeros, GraphTidy, NodeZeros, usedIn, StackTidy, Tidy, Idle, NodeFits, StackFits, Bits, Fits, Stands, Canonical}
+use Rattle.search.specs.declared.Search.{Search}
+
+-- ---- what decides
+
+both : {P Q : Type 0} → Dec P → Dec Q → Dec (P × Q)
+both (yes p) (yes q) = yes (p, q)
+both (no p) d = no (λ h. p (h .0))
+both (yes p) (no q) = no (λ h. q (h .1))
+
+implies : {P Q : Type 0} → Dec P → Dec Q → Dec (P → Q)
+implies (no p) d = yes (λ h. absurd (p h))
+implies (yes p) (yes q) = yes (λ h. q)
+implies (yes p) (no q) = no (λ h. q (h p))
+
+bool : (x y : Bool) → Dec (x ≡ y)
+bool true true = yes refl
+bool false false = yes refl
+bool true false = no true≢false
+bool false true = no false≢true
+
+below : (n : ℕ) (P : ℕ → Type 0) → ((i : ℕ) → Dec (P i)) → Dec ((i : ℕ) → i < n → P i)
+below zero P d = yes (λ i h. absurd (omega arith))
+below (suc n) P d = go (below n P d) (d n)
+  where
+    last : ((i : ℕ) → i < n → P i) → P n → (i : ℕ) → i < suc n → P i
+    last f p i h = pick (ℕ-discrete i n)
+      where
+        pick : Dec (i ≡ n) → P i
+        pick (yes e) = subst P (sym e) p
+        pick (no e) = f i (omega arith)
+
+    go : Dec ((i : ℕ) → i < n → P i) → Dec (P n) → Dec ((i : ℕ) → i < suc n → P i)
+    go (yes f) (yes p) = yes (last f p)
+    go (no f) e = no (λ h. f (λ i l. h i (omega arith)))
+    go (yes f) (no p) = no (λ h. p (h n (omega arith)))
+
+zeros : (n from : ℕ) (l : List ℕ) → Dec (Zeros 0 n from l)
+zeros n from l = below n (λ i. from ≤ i → getD l i 0 ≡ 0) (λ i. implies (decLe from i) (ℕ-discrete (getD l i 0) 0))
+
+zerosZ : (n from : ℕ) (l : List ℤ) → Dec (Zeros (pos 0) n from l)
+zerosZ n from l =
+    below n (λ i. from ≤ i → getD l i (pos 0) ≡ pos 0) (λ i. implies (decLe from i) (ℤ-discrete (getD l i (pos 0)) (pos 0)))
+
+graph-tidy : (g : Graph) → Dec (GraphTidy g)
+graph-tidy g =
+    map-dec
+    {A = Zeros 0 190 (g .m) (g .a) × (Zeros 0 190 (g .m) (g .b) × (Zeros (pos 0) 190 (g .m) (g .cost) × Zeros 0 190 (g .m) (g .mark)))}
+    (λ t. record { a = t .0; b = t .1 .0; cost = t .1 .1 .0; mark = t .1 .1 .1 }) (λ t. (t .a, (t .b, (t .cost, t .mark))))
+    (both (zeros 190 (g .m) (g .a)) (both (zeros 190 (g .m) (g .b)) (both (zerosZ 190 (g .m) (g .cost)) (zeros 190 (g .m) (g .mark)))))
+
+stack-tidy : (m depth : ℕ) (l : List ℕ) → Dec (StackTidy m depth l)
+stack-tidy m depth l =
+    below 191 (λ p. NodeZeros l p (usedIn m depth p))
+    (λ p. below 190 (λ j. usedIn m depth p ≤ j → getD l (190 * p + j) 0 ≡ 0)
+    (λ j. implies (decLe (usedIn m depth p) j) (ℕ-discrete (getD l (190 * p + j) 0) 0)))
+
+module _ (s : Search) where
+  tidy : Dec (Tidy s)
+  tidy =
+      map-dec
+      {A = GraphTidy (s .graph) × (Zeros (pos 0) 20 (s .graph .n) (s .multipliers)
+      × (StackTidy (s .graph .m) (s .depth) (s .stack) × Zeros 0 190 (cond (s .«has_best») (s .graph .m) 0) (s .best)))}
+      (λ t. record { graph = t .0; multipliers = t .1 .0; stack = t .1 .1 .0; best = t .1 .1 .1 })
+      (λ t. (t .graph, (t .multipliers, (t .stack, t .best))))
+      (both (graph-tidy (s .graph)) (both (zerosZ 20 (s .graph .n) (s .multipliers))
+      (both (stack-tidy (s .graph .m) (s .depth) (s .stack)) (zeros 190 (cond (s .«has_best») (s .graph .m) 0) (s .best)))))
+
+  idle : Dec (Idle s)
+  idle =
+      map-dec
+      {A = (s .graph .n ≡ 0) × ((s .graph .m ≡ 0) × ((s .ceiling ≡ pos 0) × ((s .sweeps ≡ 0) × ((s .step ≡ 0)
+      × ((s .upper ≡ pos 0) × ((s .depth ≡ 0) × ((s .«has_best» ≡ false) × (s .count ≡ 0))))))))}
+      (λ t. record {
+        n = t .0;
+        m = t .1 .0;
+        ceiling = t .1 .1 .0;
+        sweeps = t .1 .1 .1 .0;
+        step = t .1 .1 .1 .1 .0;
+        upper = t .1 .1 .1 .1 .1 .0;
+        depth = t .1 .1 .1 .1 .1 .1 .0;
+        best = t .1 .1 .1 .1 .1 .1 .1 .0;
+        count = t .1 .1 .1 .1 .1 .1 .1 .1;
+      })
+      (λ t. (t .n, (t .m, (t .ceiling, (t .sweeps, (t .step, (t .upper, (t .depth, (t .best, t .count)))))))))
+      (both (ℕ-discrete _ _) (both (ℕ-discrete _ _) (both (ℤ-discrete _ _) (both (ℕ-discrete _ _) (both (ℕ-discrete _ _)
+      (both (ℤ-discrete _ _) (both (ℕ-discrete _ _) (both (bool _ _) (ℕ-discrete _ _)))))))))
+
+  node-fits : (p : ℕ) → Dec (NodeFits (s .graph .m) (s .stack) p)
+  node-fits p =
+      both (below (s .graph .m) (λ j. getD (s .stack) (190 * p + j) 0 ≤ maxMark) (λ j. decLe (getD (s .stack) (190 * p + j) 0) maxMark))
+      (decLe (frees (node (s .graph .m) (s .stack) p) + p) (s .graph .m))
+
+  fits : Dec (Fits s)
+  fits =
+      map-dec
+      {A = (fault (openingIn s) ≡ 0) × ((ceilingFits (s .upper) ≡ true) × ((s .depth ≤ s .graph .m + 1)
+      × (StackFits (s .graph .m) (s .depth) (s .stack) × (Bits (s .best) × (s .count ≤ maxCount)))))}
+      (λ t. record {
+        opening = t .0;
+        upper = t .1 .0;
+        depth = t .1 .1 .0;
+        stack = t .1 .1 .1 .0;
+        best = t .1 .1 .1 .1 .0;
+        count = t .1 .1 .1 .1 .1;
+      })
+      (λ t. (t .opening, (t .upper, (t .depth, (t .stack, (t .best, t .count))))))
+      (both (ℕ-discrete _ _) (both (bool _ _) (both (decLe _ _)
+      (both (below (s .depth) (λ p. NodeFits (s .graph .m) (s .stack) p) node-fits)
+      (both (below 190 (λ i. getD (s .best) i 0 ≤ 1) (λ i. decLe _ _)) (decLe _ _))))))
+
+  stands : (b : Bool) → Dec (Stands b s)
+  stands true = fits
+  stands false = idle
+
+  canonical : Dec (Canonical s)
+  canonical =
+      map-dec {A = Tidy s × Stands (s .«open») s} (λ t. record { tidy = t .0; stands = t .1 }) (λ t. (t .tidy, t .stands))
+      (both tidy (stands (s .«open»)))
+
+holds : {P : Type 0} → Dec P → Bool
+holds (yes p) = true
+holds (no p) = false
+
+-- the test
+pub check : Search → Bool
+check s = holds (canonical s)
+
+pub check-yes : (s : Search) → Canonical s → check s ≡ true
+unfolding holds check
+check-yes s h = go (canonical s)
+  where
+    go : (d : Dec (Canonical s)) → holds d ≡ true
+    go (yes p) = refl
+    go (no p) = absurd (p h)
+
+pub check-no : (s : Search) → ¬ Canonical s → check s ≡ false
+unfolding holds check
+check-no s h = go (canonical s)
+  where
+    go : (d : Dec (Canonical s)) → holds d ≡ false
+    go (yes p) = absurd (h p)
+    go (no p) = refl
+
+pub check-is : (s : Search) → check s ≡ true → Canonical s
+unfolding holds check
+check-is s h = go (canonical s) h
+  where
+    go : (d : Dec (Canonical s)) → holds d ≡ true → Canonical s
+    go (yes p) e = p
+    go (no p) e = absurd (false≢true e)

@@ -1,0 +1,146 @@
+-- The record's check, as its loops go: what one place more tells, and what a word that is zero says of its number. Assumes nothing.
+use mathlib.Core.Path.{_≡_, refl, sym, ap, _∙_, subst}
+use mathlib.Core.Bool.{Bool, true, false, cond, true≢false}
+use mathlib.Core.List.{List}
+use Prim.Native.Nat.{ℕ, zero, suc, _+_, _*_, _≤_, _<_}
+use native.Mathlib.Omega.{arith}
+use native.Mathlib.Numerals.{add-one}
+use lib.Dec.{leb, eqb}
+use lib.ListN.{length, getD, take, length-take}
+use lib.Seq.{getD-take}
+use lib.IntN.{ℤ, pos}
+use lib.Signed.{mag}
+use mir.Val.{toZ, ofZ}
+use mir.Syntax.{w32, w64}
+use borrow.Author.Count.{below-more}
+use borrow.Author.Tests.{leb-true, le-leb, eqb-true, eq-eqb}
+use Rattle.lists.specs.Bools.{Says, bit}
+use Rattle.lists.specs.Rows.{row}
+use Rattle.lists.specs.Fill.{fill, fit, fill-is}
+use Rattle.integers.specs.Words.{back32, back64}
+use Rattle.graph.specs.declared.Graph.{Graph}
+use Rattle.graph.specs.Limits.{maxVertices, maxEdges}
+use Rattle.graph.specs.Network.{Mark, free, markOf}
+use Rattle.machine.specs.Machine.{isFree, frees}
+use Rattle.search.specs.Record.{node}
+use Rattle.search.specs.Canonical.{Zeros, GraphTidy, StackTidy, Tidy, Stands, Canonical}
+use Rattle.search.specs.Check.{check, check-yes, check-no}
+use Rattle.search.specs.declared.Search.{Search}
+
+-- ---- words that are zero
+
+pub zero32 : (z : ℤ) → mag z < 2147483648 → ofZ w32 z ≡ 0 → z ≡ pos 0
+zero32 z h e = sym (back32 z h) ∙ ap (toZ w32) e
+
+pub zero64 : (z : ℤ) → mag z < 9223372036854775808 → ofZ w64 z ≡ 0 → z ≡ pos 0
+zero64 z h e = sym (back64 z h) ∙ ap (toZ w64) e
+
+-- ---- what a test says
+
+says-both : (b : Bool) {P Q : Type 0} → (P → Q) → (Q → P) → Says b P → Says b Q
+says-both true f g h = f h
+says-both false f g h = λ q. h (g q)
+
+says-check : (s : Search) (b : Bool) → Says b (Canonical s) → b ≡ check s
+says-check s true h = sym (check-yes s h)
+says-check s false h = sym (check-no s h)
+
+-- of a test `x ≤ y`
+pub says-le : (x y : ℕ) (P : Type 0) → (x ≤ y → P) → (P → x ≤ y) → Says (leb x y) P
+says-le x y P f g = go (leb x y) refl
+  where
+    go : (b : Bool) → leb x y ≡ b → Says b P
+    go true e = f (leb-true x y e)
+    go false e = λ p. true≢false (sym (le-leb x y (g p)) ∙ e)
+
+-- and of a test `x ≡ y`
+pub says-eq : (x y : ℕ) (P : Type 0) → (x ≡ y → P) → (P → x ≡ y) → Says (eqb x y) P
+says-eq x y P f g = go (eqb x y) refl
+  where
+    go : (b : Bool) → eqb x y ≡ b → Says b P
+    go true e = f (eqb-true x y e)
+    go false e = λ p. true≢false (sym (eq-eqb x y (g p)) ∙ e)
+
+-- ---- the places of a graph's arrays past its edges, one place more
+
+pub record TidyTo (g : Graph) (k : ℕ) : Type 0 where
+  pub a : Zeros 0 k (g .m) (g .a)
+  pub b : Zeros 0 k (g .m) (g .b)
+  pub cost : Zeros (pos 0) k (g .m) (g .cost)
+  pub mark : Zeros 0 k (g .m) (g .mark)
+
+module _ (g : Graph) where
+  pub tidy-none : TidyTo g (g .m)
+  tidy-none = record {
+    a = λ i h b. absurd (omega arith);
+    b = λ i h b. absurd (omega arith);
+    cost = λ i h b. absurd (omega arith);
+    mark = λ i h b. absurd (omega arith);
+  }
+
+  pub tidy-more : (k : ℕ) → TidyTo g k → getD (g .a) k 0 ≡ 0 → getD (g .b) k 0 ≡ 0 → getD (g .cost) k (pos 0) ≡ pos 0
+      → getD (g .mark) k 0 ≡ 0 → TidyTo g (k + 1)
+  tidy-more k t a b c d = record {
+    a = below-more (λ i. g .m ≤ i → getD (g .a) i 0 ≡ 0) k (t .a) (λ h. a);
+    b = below-more (λ i. g .m ≤ i → getD (g .b) i 0 ≡ 0) k (t .b) (λ h. b);
+    cost = below-more (λ i. g .m ≤ i → getD (g .cost) i (pos 0) ≡ pos 0) k (t .cost) (λ h. c);
+    mark = below-more (λ i. g .m ≤ i → getD (g .mark) i 0 ≡ 0) k (t .mark) (λ h. d);
+  }
+
+  pub tidy-all : (k : ℕ) → maxEdges ≤ k → TidyTo g k → GraphTidy g
+  tidy-all k h t = record {
+    a = λ i b. t .a i (omega arith);
+    b = λ i b. t .b i (omega arith);
+    cost = λ i b. t .cost i (omega arith);
+    mark = λ i b. t .mark i (omega arith);
+  }
+
+-- ---- the last test of the record's zeros, and of its fields
+
+pub says-tidy : (s : Search) (b : Bool) (k : ℕ) → GraphTidy (s .graph) → Zeros (pos 0) maxVertices (s .graph .n) (s .multipliers)
+    → StackTidy (s .graph .m) (s .depth) (s .stack) → cond (s .«has_best») (s .graph .m) 0 ≡ k → Says b (Zeros 0 maxEdges k (s .best))
+    → Says b (Tidy s)
+says-tidy s b k g d l e =
+    says-both b {Q = Tidy s}
+    (λ z. record { graph = g; multipliers = d; stack = l; best = subst (λ (j : ℕ). Zeros 0 maxEdges j (s .best)) (sym e) z })
+    (λ t. subst (λ (j : ℕ). Zeros 0 maxEdges j (s .best)) e (t .best))
+
+pub says-stands : (s : Search) (b o : Bool) → s .«open» ≡ o → Tidy s → Says b (Stands o s) → b ≡ check s
+says-stands s b o e t h =
+    says-check s b
+    (says-both b {P = Stands o s} {Q = Canonical s}
+    (λ w. record { tidy = t; stands = subst (λ (x : Bool). Stands x s) (sym e) w }) (λ c. subst (λ (x : Bool). Stands x s) e (c .stands)) h)
+
+-- ---- the free edges of a node, an edge more
+
+frees-more : (n : ℕ) (f : ℕ → Mark) → frees (row (suc n) f) ≡ frees (row n f) + bit (isFree (f (suc n)))
+unfolding row frees
+frees-more zero f = omega arith
+frees-more (suc n) f = omega (arith, frees-more n (λ i. f (suc i)))
+
+module _ (l : List ℕ) (p : ℕ) where
+  pub frees-none : frees (node 0 l p) ≡ 0
+  unfolding node fill row frees
+  frees-none = refl
+
+  node-more : (j : ℕ) → frees (node (j + 1) l p) ≡ frees (node j l p) + bit (isFree (markOf (getD l (190 * p + j) 0)))
+  unfolding node fill
+  node-more j = rw add-one (frees-more j _)
+
+  pub frees-free : (j : ℕ) → getD l (190 * p + j) 0 ≡ 0 → frees (node (j + 1) l p) ≡ frees (node j l p) + 1
+  frees-free j e = node-more j ∙ ap (λ (k : ℕ). frees (node j l p) + bit (isFree (markOf k))) e ∙ unfold markOf in refl
+
+  pub frees-other : (j : ℕ) → (getD l (190 * p + j) 0 ≡ 0 → ⊥) → frees (node (j + 1) l p) ≡ frees (node j l p)
+  frees-other j e = omega (arith, node-more j, other (getD l (190 * p + j) 0) e)
+    where
+      other : (k : ℕ) → (k ≡ 0 → ⊥) → bit (isFree (markOf k)) ≡ 0
+      other zero d = absurd (d refl)
+      other (suc zero) d = unfold markOf in refl
+      other (suc (suc k)) d = unfold markOf in refl
+
+-- ---- the first n of an array
+
+pub take-fit : {A : Type 0} (n : ℕ) (z : A) (l : List A) → n ≤ length l → take n l ≡ fit n z l
+unfolding fit
+take-fit n z l h =
+    sym (fill-is n (λ i. getD l i z) (take n l) z (length-take n l ∙ omega arith) (λ i b. sym (getD-take n l i z b)))

@@ -1,0 +1,195 @@
+-- The degrees of all vertices, counted in one loop over the edges: each edge that is in adds one at both its ends. Assumes nothing.
+use mathlib.Core.Path.{_≡_, refl, sym, ap, _∙_, subst}
+use mathlib.Core.Logic.{_≢_}
+use mathlib.Core.Bool.{Bool, true, false, _&&_, _||_}
+use mathlib.Core.List.{List}
+use Prim.Native.Nat.{ℕ, zero, suc, _+_, _≤_, _<_}
+use native.Mathlib.Omega.{arith}
+use native.Mathlib.Numerals.{add-one}
+use native.Mathlib.Decide.{ℕ-discrete}
+use lib.Dec.{eqb}
+use lib.ListN.{length, getD, set, length-set, replicate, length-replicate}
+use lib.Seq.{getD-set-same, getD-set-other}
+use borrow.Author.Tests.{eqb-true, eqb-false, eq-eqb, ne-eqb}
+use Rattle.lists.specs.Bools.{bit, by-cases}
+use Rattle.lists.specs.Members.{_∈_}
+use Rattle.lists.specs.All.{all, all-in, not-all}
+use Rattle.lists.specs.Select.{keep, select}
+use Rattle.lists.specs.Numbers.{upTo, upTo-in}
+use Rattle.lists.specs.Fill.{replicate-at}
+use Rattle.graph.specs.declared.Graph.{Graph}
+use Rattle.graph.specs.Network.{network}
+use Rattle.graph.specs.Places.{network-a, network-b}
+use Rattle.graph.specs.Valid.{Valid}
+use Rattle.onetree.specs.OneTree.{Edges}
+use Rattle.onetree.specs.Arrays.{bytes}
+use Rattle.machine.specs.Machine.{degree}
+
+-- "the number of the tree's legs that touch buoy i", of the first k edges
+unfoldable pub degreeTo : ℕ → Graph → List ℕ → ℕ → ℕ
+unfolding select upTo
+degreeTo k g w v = length (select (λ e. bytes w e && (eqb (network g .a e) v || eqb (network g .b e) v)) (upTo k))
+
+pub degree-all : (g : Graph) (w : List ℕ) (v : ℕ) → degreeTo (g .m) g w v ≡ degree (network g) (bytes w) v
+unfolding degreeTo degree network
+degree-all g w v = refl
+
+select-more : (p : Edges) (k : ℕ) → length (select p (upTo (k + 1))) ≡ length (select p (upTo k)) + bit (p (suc k))
+unfolding select upTo
+select-more p k = rw add-one (go (p (suc k)))
+  where
+    go : (b : Bool) → length (keep b (suc k) (select p (upTo k))) ≡ length (select p (upTo k)) + bit b
+    go true = omega arith
+    go false = omega arith
+
+degree-none : (g : Graph) (w : List ℕ) (v : ℕ) → degreeTo 0 g w v ≡ 0
+unfolding degreeTo select upTo
+degree-none g w v = refl
+
+-- does the edge at place k touch v?
+touch : Graph → ℕ → ℕ → Bool
+touch g k v = eqb (getD (g .a) k 0) v || eqb (getD (g .b) k 0) v
+
+degree-more : (g : Graph) (w : List ℕ) (k : ℕ) → k < g .m → (v : ℕ)
+    → degreeTo (k + 1) g w v ≡ degreeTo k g w v + bit (eqb (getD w k 0) 1 && touch g k v)
+unfolding degreeTo touch
+degree-more g w k h v =
+    select-more (λ e. bytes w e && (eqb (network g .a e) v || eqb (network g .b e) v)) k
+    ∙ rw (network-a g k h, network-b g k h)
+
+-- what the array holds after k edges: vertex v's degree at place v
+pub record DegreesTo (k : ℕ) (g : Graph) (w r : List ℕ) : Type 0 where
+  pub size : length r ≡ 21
+  pub at : (v : ℕ) → v < 21 → getD r v 0 ≡ degreeTo k g w v
+  pub most : (v : ℕ) → getD r v 0 ≤ k
+
+pub degrees-none : (g : Graph) (w : List ℕ) → DegreesTo 0 g w (replicate 21 0)
+degrees-none g w = record {
+  size = length-replicate {A = ℕ} 21 0;
+  at = λ v h. replicate-at {A = ℕ} 21 0 v ∙ sym (degree-none g w v);
+  most = λ v. omega (arith, replicate-at {A = ℕ} 21 0 v);
+}
+
+-- x more at two places, at a first and then at b
+abbrev pub raised : List ℕ → ℕ → ℕ → ℕ → List ℕ
+raised r a b x = set (set r a (getD r a 0 + x)) b (getD (set r a (getD r a 0 + x)) b 0 + x)
+
+module _ (r : List ℕ) (a b x : ℕ) (high : b < length r) (less : a < b) where
+  size-one : length (set r a (getD r a 0 + x)) ≡ length r
+  size-one = length-set r a (getD r a 0 + x)
+
+  raised-size : length (raised r a b x) ≡ length r
+  raised-size = length-set (set r a (getD r a 0 + x)) b (getD (set r a (getD r a 0 + x)) b 0 + x) ∙ size-one
+
+  raised-b : getD (raised r a b x) b 0 ≡ getD r b 0 + x
+  raised-b =
+      getD-set-same (set r a (getD r a 0 + x)) b (getD (set r a (getD r a 0 + x)) b 0 + x) 0 (omega (arith, size-one))
+      ∙ ap (λ (y : ℕ). y + x) (getD-set-other r a b (getD r a 0 + x) 0 (omega arith))
+
+  raised-a : getD (raised r a b x) a 0 ≡ getD r a 0 + x
+  raised-a =
+      getD-set-other (set r a (getD r a 0 + x)) b a (getD (set r a (getD r a 0 + x)) b 0 + x) 0 (omega arith)
+      ∙ getD-set-same r a (getD r a 0 + x) 0 (omega arith)
+
+  raised-other : (v : ℕ) → v ≢ a → v ≢ b → getD (raised r a b x) v 0 ≡ getD r v 0
+  raised-other v na nb =
+      getD-set-other (set r a (getD r a 0 + x)) b v (getD (set r a (getD r a 0 + x)) b 0 + x) 0 nb
+      ∙ getD-set-other r a v (getD r a 0 + x) 0 na
+
+-- a byte that is 0 or 1, as a count
+one-bit : (x : ℕ) → x ≤ 1 → bit (eqb x 1 && true) ≡ x
+one-bit zero h = refl
+one-bit (suc zero) h = refl
+one-bit (suc (suc x)) h = absurd (omega arith)
+
+no-bit : (b : Bool) → bit (b && false) ≡ 0
+no-bit true = refl
+no-bit false = refl
+
+module _ (k : ℕ) (g : Graph) (w r : List ℕ) (valid : Valid g) (h : k < g .m) (small : getD w k 0 ≤ 1) (c : DegreesTo k g w r) where
+  a : ℕ
+  a = getD (g .a) k 0
+
+  b : ℕ
+  b = getD (g .b) k 0
+
+  x : ℕ
+  x = getD w k 0
+
+  pub degrees-more : DegreesTo (k + 1) g w (raised r (getD (g .a) k 0) (getD (g .b) k 0) (getD w k 0))
+  unfolding a b x
+  degrees-more = record {
+    size = raised-size r a b x high less ∙ c .size;
+    at = λ v i. at v i (ℕ-discrete v a) (ℕ-discrete v b);
+    most = λ v. most v (ℕ-discrete v a) (ℕ-discrete v b);
+  }
+    where
+      less : a < b
+      less = valid .each k h .less
+
+      high : b < length r
+      high = omega (arith, valid .each k h .to, valid .high, c .size)
+
+      more : (v : ℕ) → v < 21 → (t : Bool) → touch g k v ≡ t → degreeTo (k + 1) g w v ≡ getD r v 0 + bit (eqb x 1 && t)
+      more v i t e = degree-more g w k h v ∙ rw (e, ← c .at v i)
+
+      touches-a : touch g k a ≡ true
+      touches-a = unfold touch in rw (eq-eqb a a refl)
+
+      touches-b : touch g k b ≡ true
+      touches-b = unfold touch in rw (ne-eqb a b (omega (arith, less)), eq-eqb b b refl)
+
+      touches-not : (v : ℕ) → v ≢ a → v ≢ b → touch g k v ≡ false
+      touches-not v na nb = unfold touch in rw (ne-eqb a v (λ e. na (sym e)), ne-eqb b v (λ e. nb (sym e)))
+
+      at : (v : ℕ) → v < 21 → Dec (v ≡ a) → Dec (v ≡ b) → getD (raised r a b x) v 0 ≡ degreeTo (k + 1) g w v
+      at v i (yes e) q =
+          rw e
+          (raised-a r a b x high less
+          ∙ sym (more a (omega arith) true touches-a ∙ ap (λ (y : ℕ). getD r a 0 + y) (one-bit x small)))
+      at v i (no p) (yes e) =
+          rw e
+          (raised-b r a b x high less
+          ∙ sym (more b (omega arith) true touches-b ∙ ap (λ (y : ℕ). getD r b 0 + y) (one-bit x small)))
+      at v i (no p) (no q) =
+          raised-other r a b x high less v p q
+          ∙ sym (more v i false (touches-not v p q) ∙ omega (arith, no-bit (eqb x 1)))
+
+      most : (v : ℕ) → Dec (v ≡ a) → Dec (v ≡ b) → getD (raised r a b x) v 0 ≤ k + 1
+      most v (yes e) q = rw e (omega (arith, raised-a r a b x high less, c .most a, small))
+      most v (no p) (yes e) = rw e (omega (arith, raised-b r a b x high less, c .most b, small))
+      most v (no p) (no q) = omega (arith, raised-other r a b x high less v p q, c .most v)
+
+pub degrees-to : (k m : ℕ) (g : Graph) (w r : List ℕ) → k ≡ m → DegreesTo k g w r → DegreesTo m g w r
+degrees-to k m g w r e h = subst (λ (i : ℕ). DegreesTo i g w r) e h
+
+-- ---- the test of the degrees
+
+-- the degrees of vertices 1 to n are 2
+unfoldable pub allTwo : List ℕ → ℕ → Bool
+unfolding all upTo
+allTwo degrees n = all (λ v. eqb (getD degrees v 0) 2) (upTo n)
+
+module _ (degrees : List ℕ) where
+  pub two-none : allTwo degrees 0 ≡ true
+  unfolding allTwo all upTo
+  two-none = refl
+
+  pub two-more : (v : ℕ) → allTwo degrees v ≡ true → getD degrees (v + 1) 0 ≡ 2 → allTwo degrees (v + 1) ≡ true
+  unfolding allTwo all upTo
+  two-more v h e = rw (add-one v, eq-eqb (getD degrees (suc v) 0) 2 (ap (λ (i : ℕ). getD degrees i 0) (sym (add-one v)) ∙ e), h)
+
+  pub two-each : (n : ℕ) → allTwo degrees n ≡ true → (v : ℕ) → v ∈ upTo n → getD degrees v 0 ≡ 2
+  unfolding allTwo
+  two-each n h v m = eqb-true (getD degrees v 0) 2 (all-in (λ v. eqb (getD degrees v 0) 2) (upTo n) h v m)
+
+  pub two-not : (n v : ℕ) → v < n → getD degrees (v + 1) 0 ≢ 2 → allTwo degrees n ≡ false
+  two-not n v b ne =
+      by-cases (allTwo degrees n)
+      (λ e. absurd (ne (two-each n e (v + 1) (upTo-in n (v + 1) (omega arith) (omega arith))))) (λ e. e)
+
+  pub not-two : (n : ℕ) → allTwo degrees n ≡ false → (v : ℕ) × (v ∈ upTo n) × (getD degrees v 0 ≢ 2)
+  unfolding allTwo
+  not-two n h =
+      let r = not-all (λ v. eqb (getD degrees v 0) 2) (upTo n) h in
+      (r .0, r .1, eqb-false (getD degrees (r .0) 0) 2 (r .2))

@@ -1,0 +1,300 @@
+-- A search while it runs: the part of its progress that changes is a small frame by value (`Frame`) beside the lent bytes of the stack.
+-- `Holds` says which search they hold, and the laws say what each outcome of the top node's opening makes of them. Running.antt has the
+-- loop over them.
+use mathlib.Core.Path.{_≡_, refl, sym, ap, _∙_, subst}
+use mathlib.Core.Bool.{Bool, true}
+use mathlib.Core.List.{List, [], _∷_}
+use Prim.Native.Nat.{ℕ, suc, _+_, _-_, _≤_, _<_}
+use native.Mathlib.Omega.{arith}
+use native.Mathlib.Numerals.{add-one}
+use lib.ListN.{length, replicate}
+use lib.IntN.{ℤ, pos, _-ℤ_}
+use lib.Signed.{mag}
+use Rattle.integers.specs.Parts.{mag-of-parts}
+use Rattle.graph.specs.declared.Graph.{Graph}
+use Rattle.graph.specs.Limits.{maxEdges, maxCount}
+use Rattle.graph.specs.Network.{network}
+use Rattle.graph.specs.Valid.{Valid}
+use Rattle.onetree.specs.Arrays.{bytes}
+use Rattle.machine.specs.Tours.{cost}
+use Rattle.machine.specs.Outcomes.{closes, finds, splits, aTour}
+use Rattle.machine.specs.Machine as M
+use Rattle.machine.specs.Machine.{Marks, Progress, edgesOf, costOf, lowered, openNode, settled, openTop}
+use Rattle.machine.specs.Kept.{Kept, Nodes, Sized, depth}
+use Rattle.machine.specs.Preserved.{top-kept}
+use Rattle.search.specs.declared.node.Opened.{Opened}
+use Rattle.search.specs.declared.node.Fate.{Fate}
+use Rattle.search.specs.declared.node.Fate.the-variants as fate
+use Rattle.search.specs.declared.running.Frame.{Frame}
+use Rattle.search.specs.Record.{maxNodes, stackSize, cells, bits, bestOf, hasBest, bestBytes}
+use Rattle.search.specs.Cells.{cells-size}
+use Rattle.search.specs.Incumbents.{best-back}
+use Rattle.search.specs.Pushing.{bytesOf, Put, pushed, replaced, popped}
+use Rattle.search.specs.Costs.{cost-bits}
+use Rattle.search.specs.Opening.{openedAs}
+
+-- what changes of a search, but for the stack's bytes
+unfoldable pub frameOf : Progress → Frame
+unfolding hasBest bestBytes
+frameOf s =
+    record {
+      upper = s .upper;
+      depth = length (s .stack);
+      «has_best» = hasBest (s .incumbent);
+      best = bestBytes (s .incumbent);
+      count = s .count;
+    }
+
+-- the frame f and the stack's bytes l hold the search s on the graph g
+pub record Holds (g : Graph) (f : Frame) (l : List ℕ) (s : Progress) : Type 0 where
+  pub kept : Kept s
+  pub graph : s .opening .graph ≡ g
+  pub frame : f ≡ frameOf s
+  pub bytes : l ≡ cells (s .stack)
+
+-- a node waits, and may be opened
+pub record Top (s : Progress) : Type 0 where
+  pub node : Marks
+  pub rest : List Marks
+  pub stack : s .stack ≡ node ∷ rest
+  pub room : s .count < maxCount
+
+-- the top node comes to o
+pub record Opens (g : Graph) (f : Frame) (l : List ℕ) (o : Opened) : Type 0 where
+  pub search : Progress
+  pub holds : Holds g f l search
+  pub top : Top search
+  pub is : o ≡ openedAs (openNode (search .opening) (search .upper) (top .node))
+
+-- ---- what the frame tells
+
+module _ (g : Graph) (f : Frame) (l : List ℕ) (s : Progress) (h : Holds g f l s) where
+  pub holds-upper : f .upper ≡ s .upper
+  unfolding frameOf
+  holds-upper = ap (λ (x : Frame). x .upper) (h .frame)
+
+  -- it is read back from its word
+  pub holds-mag : mag (f .upper) < 9223372036854775808
+  holds-mag =
+      rw holds-upper
+      (mag-of-parts (s .upper) 9223372036854775808 (omega (arith, h .kept .upper .high)) (omega (arith, h .kept .upper .low)))
+
+  pub holds-depth : f .depth ≡ length (s .stack)
+  unfolding frameOf
+  holds-depth = ap (λ (x : Frame). x .depth) (h .frame)
+
+  pub holds-count : f .count ≡ s .count
+  unfolding frameOf
+  holds-count = ap (λ (x : Frame). x .count) (h .frame)
+
+  pub holds-size : length l ≡ stackSize
+  holds-size = ap length (h .bytes) ∙ cells-size (s .stack)
+
+  pub holds-valid : Valid g
+  holds-valid = rw (← h .graph) (h .kept .opening .valid)
+
+  pub holds-deep : f .depth ≤ g .m + 1
+  holds-deep = omega (arith, holds-depth, ap (λ (x : Graph). x .m) (h .graph), depth (s .opening .graph .m) (s .stack) (h .kept .nodes))
+
+  pub top-of : 0 < f .depth → f .count < maxCount → Top s
+  top-of b c = go (s .stack) refl
+    where
+      go : (st : List Marks) → s .stack ≡ st → Top s
+      go [] e = absurd (omega (arith, holds-depth, ap {A = List Marks} length e))
+      go (x ∷ rest) e = record { node = x; rest = rest; stack = e; room = omega (arith, holds-count) }
+
+-- ---- the outcome, from its bytes
+
+abbrev fateNumber : Fate → ℕ
+fateNumber fate.Closes = 0
+fateNumber fate.Finds = 1
+fateNumber fate.Splits = 2
+
+-- the number of the fate, of the bytes and of the outcome
+fate-is : (out : M.Opened) (o : Opened) → o ≡ openedAs out → (a : Fate) → o .fate ≡ a → fateNumber (openedAs out .fate) ≡ fateNumber a
+fate-is out o e a h = ap (λ (x : Opened). fateNumber (x .fate)) (sym e) ∙ ap fateNumber h
+
+pub opened-closes : (out : M.Opened) (o : Opened) → o ≡ openedAs out → o .fate ≡ fate.Closes → out ≡ closes
+unfolding openedAs
+opened-closes closes o e h = refl
+opened-closes (finds t) o e h = absurd (omega (arith, fate-is (finds t) o e fate.Closes h))
+opened-closes (splits y z) o e h = absurd (omega (arith, fate-is (splits y z) o e fate.Closes h))
+
+pub record Finds (out : M.Opened) (o : Opened) : Type 0 where
+  pub tour : List Bool
+  pub is : out ≡ finds tour
+  pub row : o .row ≡ bestBytes (aTour tour)
+
+pub opened-finds : (out : M.Opened) (o : Opened) → o ≡ openedAs out → o .fate ≡ fate.Finds → Finds out o
+unfolding openedAs
+opened-finds closes o e h = absurd (omega (arith, fate-is closes o e fate.Finds h))
+opened-finds (finds t) o e h = record { tour = t; is = refl; row = ap (λ (x : Opened). x .row) e }
+opened-finds (splits y z) o e h = absurd (omega (arith, fate-is (splits y z) o e fate.Finds h))
+
+pub record Splits (out : M.Opened) (o : Opened) : Type 0 where
+  pub under : Marks
+  pub over : Marks
+  pub is : out ≡ splits under over
+  pub row : o .row ≡ bytesOf under
+  pub top : o .top ≡ bytesOf over
+
+pub opened-splits : (out : M.Opened) (o : Opened) → o ≡ openedAs out → o .fate ≡ fate.Splits → Splits out o
+unfolding openedAs
+opened-splits closes o e h = absurd (omega (arith, fate-is closes o e fate.Splits h))
+opened-splits (finds t) o e h = absurd (omega (arith, fate-is (finds t) o e fate.Splits h))
+opened-splits (splits y z) o e h =
+    record { under = y; over = z; is = refl; row = ap (λ (x : Opened). x .row) e; top = ap (λ (x : Opened). x .top) e }
+
+-- ---- the search after the top node's opening
+
+bits-back : (m : ℕ) (t : List Bool) → m ≤ maxEdges → length t ≡ m → bits m (bestBytes (aTour t)) ≡ t
+unfolding bestOf hasBest
+bits-back m t few z = same (bits m (bestBytes (aTour t))) t (best-back m (aTour t) few z)
+  where
+    same : (x y : List Bool) → aTour x ≡ aTour y → x ≡ y
+    same x y e = cc
+
+module _ (g : Graph) (f : Frame) (l : List ℕ) (o : Opened) (t : Opens g f l o) where
+  s : Progress
+  s = t .search
+
+  out : M.Opened
+  out = openNode (s .opening) (s .upper) (t .top .node)
+
+  abbrev pub next : Progress
+  next = openTop (t .search) (t .search .stack)
+
+  -- the place of the top node
+  pub top-place : length (t .top .rest) ≡ f .depth - 1
+  unfolding s
+  top-place = omega (arith, holds-depth g f l s (t .holds), ap {A = List Marks} length (t .top .stack))
+
+  pub top-depth : 1 ≤ f .depth
+  unfolding s
+  top-depth = omega (arith, holds-depth g f l s (t .holds), ap {A = List Marks} length (t .top .stack))
+
+  pub top-high : f .depth - 1 < maxNodes
+  unfolding s
+  top-high = omega (arith, top-depth, holds-deep g f l s (t .holds), holds-valid g f l s (t .holds) .few)
+
+  pub top-room : f .count < maxCount
+  unfolding s
+  top-room = omega (arith, holds-count g f l s (t .holds), t .top .room)
+
+  is-settled : next ≡ settled s (t .top .rest) out
+  unfolding s out openTop
+  is-settled = ap (openTop (t .search)) (t .top .stack)
+
+  next-kept : Kept next
+  unfolding s
+  next-kept =
+      subst (λ (st : List Marks). Kept (openTop (t .search) st)) (sym (t .top .stack))
+      (top-kept s (t .holds .kept) (t .top .node) (t .top .rest) (t .top .stack) (t .top .room))
+
+  settles : (r : M.Opened) → out ≡ r → next ≡ settled s (t .top .rest) r
+  settles r e = is-settled ∙ ap (settled s (t .top .rest)) e
+
+  -- how the frame and the bytes hold what they should
+  holds-next : (r : M.Opened) → out ≡ r → (f′ : Frame) (l′ : List ℕ) → f′ ≡ frameOf (settled s (t .top .rest) r)
+      → l′ ≡ cells (settled s (t .top .rest) r .stack) → Holds g f′ l′ next
+  unfolding s settled
+  holds-next r e f′ l′ a b = record {
+    kept = next-kept;
+    graph = ap (λ (x : Progress). x .opening .graph) (settles r e) ∙ t .holds .graph;
+    frame = a ∙ ap frameOf (sym (settles r e));
+    bytes = b ∙ ap (λ (x : Progress). cells (x .stack)) (sym (settles r e));
+  }
+
+  old-bytes : l ≡ cells (t .top .node ∷ t .top .rest)
+  unfolding s
+  old-bytes = t .holds .bytes ∙ ap cells (t .top .stack)
+
+  count-next : f .count + 1 ≡ suc (s .count)
+  unfolding s
+  count-next = add-one (f .count) ∙ ap suc (holds-count g f l s (t .holds))
+
+  -- the node closes
+  pub next-closes : (l′ : List ℕ) → o .fate ≡ fate.Closes → Put (f .depth - 1) maxEdges (replicate maxEdges 0) l l′
+      → Holds g
+      (record { upper = f .upper; depth = f .depth - 1; «has_best» = f .«has_best»; best = f .best; count = f .count + 1 }) l′ next
+  unfolding s out settled frameOf
+  next-closes l′ h put =
+      holds-next closes (opened-closes (openNode (s .opening) (s .upper) (t .top .node)) o (t .is) h) _ l′
+      (λ i. record {
+        upper = holds-upper g f l s (t .holds) i;
+        depth = sym top-place i;
+        «has_best» = ap (λ (x : Frame). x .«has_best») (t .holds .frame) i;
+        best = ap (λ (x : Frame). x .best) (t .holds .frame) i;
+        count = count-next i;
+      })
+      (popped (f .depth - 1) l l′ (t .top .rest) top-place (t .top .node) old-bytes put)
+
+  -- the tour becomes the incumbent
+  pub next-finds : (l′ : List ℕ) (upper : ℤ) → o .fate ≡ fate.Finds → upper ≡ cost (network g) (bytes (o .row)) -ℤ pos 1
+      → Put (f .depth - 1) maxEdges (replicate maxEdges 0) l l′
+      → Holds g (record { upper = upper; depth = f .depth - 1; «has_best» = true; best = o .row; count = f .count + 1 }) l′ next
+  unfolding s out settled frameOf lowered costOf hasBest
+  next-finds l′ upper h u put =
+      holds-next (finds (r .tour)) (r .is) _ l′
+      (λ i. record {
+        upper = (u ∙ ap (λ (z : ℤ). z -ℤ pos 1) same-cost) i;
+        depth = sym top-place i;
+        «has_best» = true;
+        best = r .row i;
+        count = count-next i;
+      })
+      (popped (f .depth - 1) l l′ (t .top .rest) top-place (t .top .node) old-bytes put)
+    where
+      r : Finds (openNode (s .opening) (s .upper) (t .top .node)) o
+      r = opened-finds (openNode (s .opening) (s .upper) (t .top .node)) o (t .is) h
+
+      long : length (r .tour) ≡ s .opening .graph .m
+      long = subst (λ (x : Progress). Sized (x .opening .graph .m) (x .incumbent)) (settles (finds (r .tour)) (r .is)) (next-kept .sized)
+
+      same-cost : cost (network g) (bytes (o .row)) ≡ cost (network (s .opening .graph)) (edgesOf (r .tour))
+      same-cost =
+          sym (cost-bits g (o .row))
+          ∙ ap (λ (w : List ℕ). cost (network g) (edgesOf (bits (g .m) w))) (r .row)
+          ∙ ap (λ (h : Graph). cost (network h) (edgesOf (bits (h .m) (bestBytes (aTour (r .tour)))))) (sym (t .holds .graph))
+          ∙ ap (λ (b : List Bool). cost (network (s .opening .graph)) (edgesOf b))
+          (bits-back (s .opening .graph .m) (r .tour) (t .holds .kept .opening .valid .few) long)
+
+  -- the node splits in two
+  split : o .fate ≡ fate.Splits → Splits (openNode (s .opening) (s .upper) (t .top .node)) o
+  unfolding s
+  split h = opened-splits (openNode (s .opening) (s .upper) (t .top .node)) o (t .is) h
+
+  pub split-room : o .fate ≡ fate.Splits → f .depth - 1 + 1 < maxNodes
+  unfolding s out settled
+  split-room h = omega (arith, top-place, deep, t .holds .kept .opening .valid .few)
+    where
+      nodes : Nodes (s .opening .graph .m) (split h .over ∷ split h .under ∷ t .top .rest)
+      nodes =
+          subst (λ (x : Progress). Nodes (x .opening .graph .m) (x .stack))
+          (settles (splits (split h .under) (split h .over)) (split h .is))
+          (next-kept .nodes)
+
+      deep : suc (suc (length (t .top .rest))) ≤ s .opening .graph .m + 1
+      deep = depth (s .opening .graph .m) (split h .over ∷ split h .under ∷ t .top .rest) nodes
+
+  pub next-splits : (l₁ l₂ : List ℕ) → o .fate ≡ fate.Splits → Put (f .depth - 1) maxEdges (o .row) l l₁
+      → Put (f .depth - 1 + 1) maxEdges (o .top) l₁ l₂
+      → Holds g
+      (record { upper = f .upper; depth = f .depth - 1 + 2; «has_best» = f .«has_best»; best = f .best; count = f .count + 1 }) l₂ next
+  unfolding s out settled frameOf
+  next-splits l₁ l₂ h put₁ put₂ =
+      holds-next (splits (split h .under) (split h .over)) (split h .is) _ l₂
+      (λ i. record {
+        upper = holds-upper g f l s (t .holds) i;
+        depth = deeper i;
+        «has_best» = ap (λ (x : Frame). x .«has_best») (t .holds .frame) i;
+        best = ap (λ (x : Frame). x .best) (t .holds .frame) i;
+        count = count-next i;
+      })
+      (pushed (f .depth - 1 + 1) l₁ l₂ (split h .under ∷ t .top .rest) (omega (arith, top-place)) (split h .over)
+      (replaced (f .depth - 1) l l₁ (t .top .rest) top-place (t .top .node) (split h .under) old-bytes
+      (subst (λ (w : List ℕ). Put (f .depth - 1) maxEdges w l l₁) (split h .row) put₁))
+      (subst (λ (w : List ℕ). Put (f .depth - 1 + 1) maxEdges w l₁ l₂) (split h .top) put₂))
+    where
+      deeper : f .depth - 1 + 2 ≡ suc (suc (length (t .top .rest)))
+      deeper = omega (arith, top-place)

@@ -1,0 +1,273 @@
+-- THE RECORD IS CANONICAL: a state that a record can hold gives a record that passes the check, and is given back by it (encode-canonical,
+-- decode-encode); a record that passes is the record of its state, to the byte (encode-decode, decode-kept). Assumes nothing.
+use mathlib.Core.Path.{_≡_, refl, sym, ap, _∙_, subst}
+use mathlib.Core.Bool.{Bool, true, false, cond}
+use mathlib.Core.List.{List}
+use Prim.Native.Nat.{ℕ, suc, _+_, _*_, _≤_, _<_}
+use native.Mathlib.Omega.{arith}
+use native.Mathlib.Decide.{decLe}
+use lib.ListN.{length, getD, List·getD-eq-default}
+use lib.IntN.{ℤ, pos}
+use borrow.Author.Tests.{lt-ltb, le-ltb}
+use Rattle.lists.specs.Fill.{fit, fit-at, fit-fill, fit-cut, replicate-at, replicate-is}
+use Rattle.graph.specs.Limits.{maxVertices, maxEdges}
+use Rattle.graph.specs.Network.{free}
+use Rattle.graph.specs.Chart.{edgeless}
+use Rattle.machine.specs.Machine.{Marks, frees, Progress, State, noSearch, searching}
+use Rattle.machine.specs.Calls.{fault}
+use Rattle.machine.specs.Trimmed.{Trim}
+use Rattle.machine.specs.Kept.{Kept, KeptState, depth}
+use Rattle.search.specs.Record.{maxNodes, stackSize, fresh, byteOf, nodeAt, cell, cells, node, nodes, openingIn, progressOf, decode, recordOf, encode}
+use Rattle.search.specs.Cells.{byte-mark, cells-at, cells-is, each-place, node-at, node-past, nodes-size, nodes-at, nodes-back, nodes-of, node-fits, node-narrow, node-back, cell-past, cell-small, cell-none}
+use Rattle.search.specs.Canonical.{Zeros, StackTidy, usedIn, Tidy, Idle, Fits, Stands, Canonical}
+use Rattle.search.specs.Accepted.{fits-range, range-fits, accepted-fault, fault-accepted}
+use Rattle.search.specs.Incumbents.{best-back, best-bits, best-zeros, best-sized, has-back, bytes-back}
+use Rattle.search.specs.declared.Search.{Search}
+
+-- ---- from a state
+
+module _ (s : Progress) (h : Kept s) where
+  few : s .opening .graph .m ≤ maxEdges
+  few = h .opening .valid .few
+
+  deep : length (s .stack) ≤ s .opening .graph .m + 1
+  deep = depth (s .opening .graph .m) (s .stack) (h .nodes)
+
+  multipliers-back : fit (s .opening .graph .n) (pos 0) (fit maxVertices (pos 0) (s .opening .multipliers)) ≡ s .opening .multipliers
+  multipliers-back =
+      fit-cut maxVertices (s .opening .graph .n) (pos 0) (s .opening .multipliers) (h .opening .valid .high) (h .opening .long)
+
+  opening-back : openingIn (recordOf s) ≡ s .opening
+  unfolding openingIn recordOf
+  opening-back = λ i. record {
+    graph = s .opening .graph;
+    multipliers = multipliers-back i;
+    ceiling = s .opening .ceiling;
+    sweeps = s .opening .sweeps;
+    step = s .opening .step;
+  }
+
+  byte : (p : ℕ) → p < length (s .stack) → (j : ℕ) → j < s .opening .graph .m
+      → getD (cells (s .stack)) (maxEdges * p + j) 0 ≡ cell (s .stack) p j
+  byte p b j c = cells-at (s .stack) p j (omega (arith, deep, few)) (omega (arith, few))
+
+  progress-back : progressOf (recordOf s) ≡ s
+  unfolding progressOf recordOf
+  progress-back = λ i. record {
+    opening = opening-back i;
+    upper = s .upper;
+    stack = nodes-back (s .opening .graph .m) (cells (s .stack)) (s .stack) (h .nodes) byte i;
+    incumbent = best-back (s .opening .graph .m) (s .incumbent) few (h .sized) i;
+    count = s .count;
+  }
+
+  stack-tidy : StackTidy (s .opening .graph .m) (length (s .stack)) (cells (s .stack))
+  stack-tidy p b j d c = cells-at (s .stack) p j b d ∙ go (decLe (suc p) (length (s .stack))) c
+    where
+      go : Dec (p < length (s .stack)) → usedIn (s .opening .graph .m) (length (s .stack)) p ≤ j → cell (s .stack) p j ≡ 0
+      go (yes l) u =
+          let v : s .opening .graph .m ≤ j = (rw (lt-ltb p (length (s .stack)) l) at u) in
+          cell-past (s .stack) p j (omega (arith, node-narrow (s .opening .graph .m) (s .stack) (h .nodes) p))
+      go (no l) u = cell-none (s .stack) p j (omega arith)
+
+  record-tidy : Tidy (recordOf s)
+  unfolding recordOf
+  record-tidy = record {
+    graph = record {
+      a = λ i b c. h .opening .trim .clear .a i c;
+      b = λ i b c. h .opening .trim .clear .b i c;
+      cost = λ i b c. h .opening .trim .clear .cost i c;
+      mark = λ i b c. h .opening .trim .clear .mark i c;
+    };
+    multipliers =
+        λ i b c. fit-at maxVertices (pos 0) (s .opening .multipliers) i b
+        ∙ List·getD-eq-default (s .opening .multipliers) (pos 0) (omega (arith, h .opening .long));
+    stack = stack-tidy;
+    best = best-zeros (s .opening .graph .m) (s .incumbent) (h .sized);
+  }
+
+  record-fits : Fits (recordOf s)
+  unfolding recordOf
+  record-fits = record {
+    opening = ap fault opening-back ∙ accepted-fault (s .opening) (h .opening);
+    upper = range-fits (s .upper) (h .upper);
+    depth = deep;
+    stack = λ p b. let f = node-fits (s .opening .graph .m) (s .stack) (h .nodes) p b in (
+      (λ j c. subst (λ (k : ℕ). k ≤ 2) (sym (byte p b j c)) (cell-small (s .stack) p j)),
+      subst (λ (x : Marks). frees x + p ≤ s .opening .graph .m)
+          (sym (node-back (s .opening .graph .m) (cells (s .stack)) (s .stack) p (f .0) (byte p b))) (f .1),
+    );
+    best = best-bits (s .incumbent);
+    count = h .count;
+  }
+
+fresh-canonical : Canonical fresh
+unfolding fresh edgeless
+fresh-canonical = record {
+  tidy = record {
+    graph = record {
+      a = λ i b c. replicate-at {A = ℕ} maxEdges 0 i;
+      b = λ i b c. replicate-at {A = ℕ} maxEdges 0 i;
+      cost = λ i b c. replicate-at {A = ℤ} maxEdges (pos 0) i;
+      mark = λ i b c. replicate-at {A = ℕ} maxEdges 0 i;
+    };
+    multipliers = λ i b c. replicate-at {A = ℤ} maxVertices (pos 0) i;
+    stack = λ p b j d c. replicate-at {A = ℕ} stackSize 0 (190 * p + j);
+    best = λ i b c. replicate-at {A = ℕ} maxEdges 0 i;
+  };
+  stands = record {
+    n = refl;
+    m = refl;
+    ceiling = refl;
+    sweeps = refl;
+    step = refl;
+    upper = refl;
+    depth = refl;
+    best = refl;
+    count = refl;
+  };
+}
+
+-- a state's record passes the check
+pub encode-canonical : (s : State) → KeptState s → Canonical (encode s)
+unfolding encode recordOf
+encode-canonical noSearch h = fresh-canonical
+encode-canonical (searching s) h = record { tidy = record-tidy s h; stands = record-fits s h }
+
+-- and gives the state back
+pub decode-encode : (s : State) → KeptState s → decode (encode s) ≡ s
+unfolding encode decode recordOf fresh
+decode-encode noSearch h = refl
+decode-encode (searching s) h = ap searching (progress-back s h)
+
+-- ---- from a record
+
+-- the lengths of a record's arrays, which its type gives
+pub record Typed (r : Search) : Type 0 where
+  pub a : length (r .graph .a) ≡ maxEdges
+  pub b : length (r .graph .b) ≡ maxEdges
+  pub cost : length (r .graph .cost) ≡ maxEdges
+  pub mark : length (r .graph .mark) ≡ maxEdges
+  pub multipliers : length (r .multipliers) ≡ maxVertices
+  pub stack : length (r .stack) ≡ stackSize
+  pub best : length (r .best) ≡ maxEdges
+
+-- zero up to the end is zero for good
+zeros-past : {A : Type 0} (z : A) (n from : ℕ) (l : List A) → length l ≡ n → Zeros z n from l → (i : ℕ) → from ≤ i → getD l i z ≡ z
+zeros-past z n from l e h i b = go (decLe (suc i) n)
+  where
+    go : Dec (i < n) → getD l i z ≡ z
+    go (yes c) = h i c b
+    go (no c) = List·getD-eq-default l z (omega (arith, e))
+
+module _ (r : Search) (t : Typed r) (u : Tidy r) where
+  idle-back : r .«open» ≡ false → Idle r → fresh ≡ r
+  unfolding fresh edgeless
+  idle-back o d = λ i. record {
+    «open» = sym o i;
+    graph = record {
+      n = sym (d .n) i;
+      m = sym (d .m) i;
+      a = replicate-is maxEdges 0 (r .graph .a) (t .a) (λ k b. u .graph .a k b (omega (arith, d .m))) i;
+      b = replicate-is maxEdges 0 (r .graph .b) (t .b) (λ k b. u .graph .b k b (omega (arith, d .m))) i;
+      cost = replicate-is maxEdges (pos 0) (r .graph .cost) (t .cost) (λ k b. u .graph .cost k b (omega (arith, d .m))) i;
+      mark = replicate-is maxEdges 0 (r .graph .mark) (t .mark) (λ k b. u .graph .mark k b (omega (arith, d .m))) i;
+    };
+    multipliers =
+        replicate-is maxVertices (pos 0) (r .multipliers) (t .multipliers) (λ k b. u .multipliers k b (omega (arith, d .n))) i;
+    ceiling = sym (d .ceiling) i;
+    sweeps = sym (d .sweeps) i;
+    step = sym (d .step) i;
+    upper = sym (d .upper) i;
+    depth = sym (d .depth) i;
+    stack = replicate-is stackSize 0 (r .stack) (t .stack) (each-place (λ k. getD (r .stack) k 0 ≡ 0) none) i;
+    «has_best» = sym (d .best) i;
+    best = replicate-is maxEdges 0 (r .best) (t .best) (λ k b. u .best k b (rw (d .best) (omega arith))) i;
+    count = sym (d .count) i;
+  }
+    where
+      none : (p : ℕ) → p < maxNodes → (j : ℕ) → j < maxEdges → getD (r .stack) (190 * p + j) 0 ≡ 0
+      none p b j c = u .stack p b j c (rw (le-ltb p (r .depth) (omega (arith, d .depth))) (omega arith))
+
+  module _ (w : Fits r) where
+    cell-back : (p : ℕ) → p < maxNodes → (j : ℕ) → j < maxEdges
+        → cell (nodes (r .graph .m) (r .stack) (r .depth)) p j ≡ getD (r .stack) (190 * p + j) 0
+    unfolding cell
+    cell-back p b j c = go (decLe (suc p) (r .depth)) (decLe (suc j) (r .graph .m))
+      where
+        here : p < r .depth → byteOf (getD (nodeAt (nodes (r .graph .m) (r .stack) (r .depth)) p) j free)
+            ≡ byteOf (getD (node (r .graph .m) (r .stack) p) j free)
+        here d = ap (λ (x : Marks). byteOf (getD x j free)) (nodes-at (r .graph .m) (r .stack) (r .depth) p d)
+
+        go : Dec (p < r .depth) → Dec (j < r .graph .m)
+            → byteOf (getD (nodeAt (nodes (r .graph .m) (r .stack) (r .depth)) p) j free) ≡ getD (r .stack) (190 * p + j) 0
+        go (yes d) (yes e) =
+            here d ∙ ap byteOf (node-at (r .graph .m) (r .stack) p j e)
+            ∙ byte-mark (getD (r .stack) (190 * p + j) 0) (w .stack p d .0 j e)
+        go (yes d) (no e) =
+            here d ∙ ap byteOf (node-past (r .graph .m) (r .stack) p j (omega arith))
+            ∙ sym (u .stack p b j c (rw (lt-ltb p (r .depth) d) (omega arith)))
+        go (no d) e =
+            cell-none (nodes (r .graph .m) (r .stack) (r .depth)) p j (omega (arith, nodes-size (r .graph .m) (r .stack) (r .depth)))
+            ∙ sym (u .stack p b j c (rw (le-ltb p (r .depth) (omega arith)) (omega arith)))
+
+    open-back : r .«open» ≡ true → recordOf (progressOf r) ≡ r
+    unfolding recordOf progressOf openingIn
+    open-back o = λ i. record {
+      «open» = sym o i;
+      graph = r .graph;
+      multipliers =
+          fit-fill maxVertices (r .graph .n) (pos 0) (r .multipliers) (t .multipliers)
+          (zeros-past (pos 0) maxVertices (r .graph .n) (r .multipliers) (t .multipliers) (u .multipliers)) i;
+      ceiling = r .ceiling;
+      sweeps = r .sweeps;
+      step = r .step;
+      upper = r .upper;
+      depth = nodes-size (r .graph .m) (r .stack) (r .depth) i;
+      stack = cells-is (nodes (r .graph .m) (r .stack) (r .depth)) (r .stack) (t .stack) cell-back i;
+      «has_best» = has-back (r .graph .m) (r .«has_best») (r .best) i;
+      best = bytes-back (r .graph .m) (r .«has_best») (r .best) (t .best) (w .best) (u .best) i;
+      count = r .count;
+    }
+
+    trim : Trim (r .graph)
+    trim = record {
+      a = t .a;
+      b = t .b;
+      cost = t .cost;
+      mark = t .mark;
+      clear = record {
+        a = zeros-past 0 maxEdges (r .graph .m) (r .graph .a) (t .a) (u .graph .a);
+        b = zeros-past 0 maxEdges (r .graph .m) (r .graph .b) (t .b) (u .graph .b);
+        cost = zeros-past (pos 0) maxEdges (r .graph .m) (r .graph .cost) (t .cost) (u .graph .cost);
+        mark = zeros-past 0 maxEdges (r .graph .m) (r .graph .mark) (t .mark) (u .graph .mark);
+      };
+    }
+
+    open-kept : Kept (progressOf r)
+    unfolding progressOf
+    open-kept = record {
+      opening = fault-accepted (openingIn r) (unfold openingIn in trim) (w .opening);
+      upper = fits-range (r .upper) (w .upper);
+      nodes = unfold openingIn in nodes-of (r .graph .m) (r .stack) (r .depth) (λ p b. w .stack p b .1);
+      sized = unfold openingIn in best-sized (r .graph .m) (r .«has_best») (r .best);
+      count = w .count;
+    }
+
+-- a record that passes is the record of its state
+pub encode-decode : (r : Search) → Typed r → Canonical r → encode (decode r) ≡ r
+unfolding encode decode
+encode-decode r t h = go (r .«open») refl (h .stands)
+  where
+    go : (b : Bool) → r .«open» ≡ b → Stands b r → encode (cond b (searching (progressOf r)) noSearch) ≡ r
+    go true e d = open-back r t (h .tidy) d e
+    go false e d = idle-back r t (h .tidy) e d
+
+-- and that state is one that a record can hold
+pub decode-kept : (r : Search) → Typed r → Canonical r → KeptState (decode r)
+unfolding decode
+decode-kept r t h = go (r .«open») (h .stands)
+  where
+    go : (b : Bool) → Stands b r → KeptState (cond b (searching (progressOf r)) noSearch)
+    go true d = open-kept r t (h .tidy) d
+    go false d = tt

@@ -1,0 +1,138 @@
+-- The run call: from the record to the frame and the stack's bytes, and back. What the run leaves, put into a record, is the record that
+-- the contract names.
+use mathlib.Core.Path.{_≡_, refl, sym, ap, _∙_}
+use mathlib.Core.Bool.{Bool, true, false}
+use mathlib.Core.List.{List, [], _∷_}
+use Prim.Native.Nat.{ℕ, _<_}
+use native.Mathlib.Omega.{arith}
+use lib.ListN.{length}
+use lib.IntN.{pos}
+use lib.Signed.{mag}
+use Rattle.lists.specs.Fill.{fit}
+use Rattle.integers.specs.Parts.{mag-of-parts}
+use Rattle.graph.specs.Limits.{maxVertices}
+use Rattle.machine.specs.Machine.{Marks, Opening, Progress, State, openTop, settled, isEmpty, finished, ran}
+use Rattle.machine.specs.Calls.{Call, run, step, runBy}
+use Rattle.machine.specs.Runs.{ran-keeps}
+use Rattle.search.specs.declared.Search.{Search}
+use Rattle.search.specs.declared.Outcome.{Outcome}
+use Rattle.search.specs.declared.Answer.the-variants.{GoingOn, Finished}
+use Rattle.search.specs.declared.running.Frame.{Frame}
+use Rattle.search.specs.Record.{openingIn, progressOf, recordOf, encode}
+use Rattle.search.specs.Check.{check, check-is}
+use Rattle.search.specs.Inverse.{Typed, encode-decode}
+use Rattle.search.specs.Replies.{saidRun, said, reply}
+use Rattle.search.specs.ReplyCases.{opened, kept}
+use Rattle.search.specs.Frames.{frameOf, holds-depth, holds-count}
+use Rattle.search.specs.Running.{Runs}
+
+-- the outcome of a call on a record that passes its check, by the state that the record holds
+abbrev outcome : Call → State → Outcome
+outcome c q = record { search = encode (step q c .state); answer = said (step q c .answer) }
+
+-- the part of a record that the run changes, but for the stack
+abbrev pub frameIn : Search → Frame
+frameIn s = record { upper = s .upper; depth = s .depth; «has_best» = s .«has_best»; best = s .best; count = s .count }
+
+-- the record with that part and the stack's bytes anew
+abbrev pub withFrame : Search → Frame → List ℕ → Search
+withFrame s f l =
+    record {
+      «open» = true;
+      graph = s .graph;
+      multipliers = s .multipliers;
+      ceiling = s .ceiling;
+      sweeps = s .sweeps;
+      step = s .step;
+      upper = f .upper;
+      depth = f .depth;
+      stack = l;
+      «has_best» = f .«has_best»;
+      best = f .best;
+      count = f .count;
+    }
+
+module _ (s : Search) (t : Typed s) (h : check s ≡ true) (e : s .«open» ≡ true) where
+  back : recordOf (progressOf s) ≡ s
+  unfolding encode
+  back = ap encode (sym (opened s t h e)) ∙ encode-decode s t (check-is s h)
+
+  pub run-starts : Runs (s .graph) (s .multipliers) (s .sweeps) (s .step) (frameIn s) (s .stack) (progressOf s)
+  unfolding progressOf openingIn frameOf recordOf
+  run-starts = record {
+    holds = record {
+      kept = kept s t h e;
+      graph = refl;
+      frame = ap frameIn (sym back);
+      bytes = ap (λ (r : Search). r .stack) (sym back);
+    };
+    multipliers = refl;
+    sweeps = refl;
+    step = refl;
+  }
+
+  pub run-ceiling : mag (s .ceiling) < 9223372036854775808
+  unfolding progressOf openingIn
+  run-ceiling =
+      let r = kept s t h e .opening .ceiling in
+      mag-of-parts (s .ceiling) 9223372036854775808 (omega (arith, r .high)) (omega (arith, r .low))
+
+  module _ (budget : ℕ) (f : Frame) (l : List ℕ)
+      (r : Runs (s .graph) (s .multipliers) (s .sweeps) (s .step) f l (ran budget (progressOf s))) where
+    after : Progress
+    after = ran budget (progressOf s)
+
+    same-opening : after .opening ≡ progressOf s .opening
+    unfolding after
+    same-opening =
+        ran-keeps (λ q. q .opening ≡ progressOf s .opening) (λ q x rest a b k. unfold openTop settled in k) budget (progressOf s) refl
+
+    leaves : withFrame s f l ≡ recordOf after
+    unfolding recordOf after frameOf progressOf openingIn
+    leaves = λ i. record {
+      «open» = true;
+      graph = sym (r .holds .graph) i;
+      multipliers =
+          (ap (λ (q : Search). q .multipliers) (sym back)
+          ∙ ap (λ (o : Opening). fit maxVertices (pos 0) (o .multipliers)) (sym same-opening)) i;
+      ceiling = ap (λ (o : Opening). o .ceiling) (sym same-opening) i;
+      sweeps = sym (r .sweeps) i;
+      step = sym (r .step) i;
+      upper = ap (λ (x : Frame). x .upper) (r .holds .frame) i;
+      depth = ap (λ (x : Frame). x .depth) (r .holds .frame) i;
+      stack = r .holds .bytes i;
+      «has_best» = ap (λ (x : Frame). x .«has_best») (r .holds .frame) i;
+      best = ap (λ (x : Frame). x .best) (r .holds .frame) i;
+      count = ap (λ (x : Frame). x .count) (r .holds .frame) i;
+    }
+
+    replies : reply s (run budget) ≡ record { search = recordOf after; answer = saidRun (finished after) (after .count) }
+    unfolding reply step runBy encode after
+    replies = rw h (ap (outcome (run budget)) (opened s t h e))
+
+    count-is : f .count ≡ after .count
+    unfolding after
+    count-is = holds-count (s .graph) f l (ran budget (progressOf s)) (r .holds)
+
+    depth-is : f .depth ≡ length (after .stack)
+    unfolding after
+    depth-is = holds-depth (s .graph) f l (ran budget (progressOf s)) (r .holds)
+
+    answered : (b : Bool) → finished after ≡ b → record { search = withFrame s f l; answer = saidRun b (f .count) } ≡ reply s (run budget)
+    answered b q =
+        (λ i. record { search = leaves i; answer = saidRun (sym q i) (count-is i) })
+        ∙ sym replies
+
+    pub run-finished : f .depth ≡ 0 → record { search = withFrame s f l; answer = Finished (f .count) } ≡ reply s (run budget)
+    run-finished z = answered true (go (after .stack) refl)
+      where
+        go : (st : List Marks) → after .stack ≡ st → isEmpty (after .stack) ≡ true
+        go [] q = rw q
+        go (x ∷ rest) q = absurd (omega (arith, z, depth-is, ap {A = List Marks} length q))
+
+    pub run-going : (f .depth ≡ 0 → ⊥) → record { search = withFrame s f l; answer = GoingOn (f .count) } ≡ reply s (run budget)
+    run-going n = answered false (go (after .stack) refl)
+      where
+        go : (st : List Marks) → after .stack ≡ st → isEmpty (after .stack) ≡ false
+        go [] q = absurd (n (depth-is ∙ ap {A = List Marks} length q))
+        go (x ∷ rest) q = rw q

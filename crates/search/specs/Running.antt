@@ -1,0 +1,138 @@
+-- The run loop over the frame and the stack's bytes: the arguments of the opening stay as they are (`Runs`), the node that is read is the
+-- machine's top node, and the search that is held runs to what the first one runs to (`RunsTo`).
+use mathlib.Core.Path.{_≡_, refl, sym, ap, _∙_, subst}
+use mathlib.Core.Logic.{_⊎_, inl, inr}
+use mathlib.Core.Bool.{true}
+use mathlib.Core.List.{List, [], _∷_}
+use Prim.Native.Nat.{ℕ, suc, _-_, _≤_, _<_}
+use native.Mathlib.Omega.{arith}
+use lib.ListN.{length}
+use lib.IntN.{ℤ, pos}
+use Rattle.lists.specs.Fill.{fit}
+use Rattle.graph.specs.declared.Graph.{Graph}
+use Rattle.graph.specs.Limits.{maxEdges, maxStep, maxCount}
+use Rattle.graph.specs.Network.{network}
+use Rattle.onetree.specs.Arrays.{bytes}
+use Rattle.onetree.specs.Inputs.{multipliersFit, ceilingFits}
+use Rattle.machine.specs.Machine.{Marks, passes, Progress, openNode, settled, openTop, ran}
+use Rattle.machine.specs.Kept.{Nodes, depth}
+use Rattle.machine.specs.Runs.{ran-opens, ran-empty, ran-full}
+use Rattle.search.specs.declared.node.Opened.{Opened}
+use Rattle.search.specs.declared.running.Frame.{Frame}
+use Rattle.search.specs.Record.{marksIn, cells}
+use Rattle.search.specs.Accepted.{range-fits}
+use Rattle.search.specs.Pushing.{bytesOf, bytes-back, rowAt, row-top}
+use Rattle.search.specs.Opening.{openedAs}
+use Rattle.search.specs.Frames.{Holds, Top, holds-upper, holds-depth, holds-count, holds-deep, holds-valid, top-of}
+
+pub record Runs (g : Graph) (d : List ℤ) (passes-left stride : ℕ) (f : Frame) (l : List ℕ) (s : Progress) : Type 0 where
+  pub holds : Holds g f l s
+  pub multipliers : s .opening .multipliers ≡ fit (g .n) (pos 0) d
+  pub sweeps : s .opening .sweeps ≡ passes-left
+  pub step : s .opening .step ≡ stride
+
+module _ (g : Graph) (d : List ℤ) (sweeps step : ℕ) (f : Frame) (l : List ℕ) (s : Progress) (h : Runs g d sweeps step f l s) where
+  pub runs-fits : multipliersFit (fit (g .n) (pos 0) d) ≡ true
+  runs-fits = ap multipliersFit (sym (h .multipliers)) ∙ h .holds .kept .opening .multipliers
+
+  pub runs-ceiling : ceilingFits (f .upper) ≡ true
+  runs-ceiling = ap ceilingFits (holds-upper g f l s (h .holds)) ∙ range-fits (s .upper) (h .holds .kept .upper)
+
+  pub runs-step : step ≤ maxStep
+  runs-step = subst (λ (k : ℕ). k ≤ maxStep) (h .step) (h .holds .kept .opening .step)
+
+  module _ (t : Top s) where
+    few : g .m ≤ maxEdges
+    few = holds-valid g f l s (h .holds) .few
+
+    place : length (t .rest) ≡ f .depth - 1
+    place = omega (arith, holds-depth g f l s (h .holds), ap {A = List Marks} length (t .stack))
+
+    long : length (t .node) ≡ g .m
+    long = subst (Nodes (s .opening .graph .m)) (t .stack) (h .holds .kept .nodes) .0 ∙ ap (λ (x : Graph). x .m) (h .holds .graph)
+
+    pub top-row : rowAt l (f .depth - 1) ≡ bytesOf (t .node)
+    top-row =
+        row-top (t .node) (t .rest) l (f .depth - 1) (h .holds .bytes ∙ ap cells (t .stack)) place
+        (omega (arith, holds-deep g f l s (h .holds), few, place, holds-depth g f l s (h .holds), ap {A = List Marks} length (t .stack)))
+
+    row-marks : marksIn (g .m) (rowAt l (f .depth - 1)) ≡ t .node
+    row-marks = ap (marksIn (g .m)) top-row ∙ bytes-back (g .m) (t .node) few long
+
+    pub row-bytes : rowAt l (f .depth - 1) ≡ bytesOf (marksIn (g .m) (rowAt l (f .depth - 1)))
+    row-bytes = top-row ∙ ap bytesOf (sym row-marks)
+
+    -- the passes that the code makes are the machine's opening of the node
+    pub top-is : (o : Opened)
+        → o ≡ openedAs (passes (network g) step (f .upper) sweeps (fit (g .n) (pos 0) d) (marksIn (g .m) (rowAt l (f .depth - 1))))
+        → o ≡ openedAs (openNode (s .opening) (s .upper) (t .node))
+    unfolding openNode
+    top-is o e = e ∙ ap openedAs same
+      where
+        same : passes (network g) step (f .upper) sweeps (fit (g .n) (pos 0) d) (marksIn (g .m) (rowAt l (f .depth - 1)))
+            ≡ passes (network (s .opening .graph)) (s .opening .step) (s .upper) (s .opening .sweeps) (s .opening .multipliers) (t .node)
+        same =
+            λ i.
+            passes (network (sym (h .holds .graph) i)) (sym (h .step) i) (holds-upper g f l s (h .holds) i) (sym (h .sweeps) i)
+            (sym (h .multipliers) i) (row-marks i)
+
+    -- and the arguments are those that they were
+    pub runs-next : (f′ : Frame) (l′ : List ℕ) → Holds g f′ l′ (openTop s (s .stack)) → Runs g d sweeps step f′ l′ (openTop s (s .stack))
+    unfolding openTop settled
+    runs-next f′ l′ k = record {
+      holds = k;
+      multipliers = ap (λ (x : Progress). x .opening .multipliers) same ∙ h .multipliers;
+      sweeps = ap (λ (x : Progress). x .opening .sweeps) same ∙ h .sweeps;
+      step = ap (λ (x : Progress). x .opening .step) same ∙ h .step;
+    }
+      where
+        same : openTop s (s .stack) ≡ settled s (t .rest) (openNode (s .opening) (s .upper) (t .node))
+        same = ap (openTop s) (t .stack)
+
+    -- a turn of the run
+    pub ran-next : (budget : ℕ) → ran (suc budget) s ≡ ran budget (openTop s (s .stack))
+    ran-next budget =
+        ran-opens budget s (t .node) (t .rest) (t .stack) (t .room)
+        ∙ ap (λ (st : List Marks). ran budget (openTop s st)) (sym (t .stack))
+
+  -- the run stops
+  pub ran-stops : (budget : ℕ) → (f .depth ≡ 0) ⊎ (maxCount ≤ f .count) → ran budget s ≡ s
+  ran-stops budget (inl e) = go (s .stack) refl
+    where
+      go : (st : List Marks) → s .stack ≡ st → ran budget s ≡ s
+      go [] q = ran-empty budget s q
+      go (x ∷ rest) q = absurd (omega (arith, e, holds-depth g f l s (h .holds), ap {A = List Marks} length q))
+  ran-stops budget (inr b) = ran-full budget s (omega (arith, holds-count g f l s (h .holds)))
+
+-- ---- the loop
+
+-- the search that f and l hold, with `left` of the budget, runs to `goal`
+pub record RunsTo (g : Graph) (d : List ℤ) (sweeps step : ℕ) (f : Frame) (l : List ℕ) (left : ℕ) (goal : Progress) : Type 0 where
+  pub search : Progress
+  pub runs : Runs g d sweeps step f l search
+  pub comes : ran left search ≡ goal
+
+module _ (g : Graph) (d : List ℤ) (sweeps step : ℕ) (f : Frame) (l : List ℕ) (left : ℕ) (goal : Progress)
+    (k : RunsTo g d sweeps step f l left goal) where
+  there : ran left (k .search) ≡ k .search → Runs g d sweeps step f l goal
+  there e = subst (Runs g d sweeps step f l) (sym e ∙ k .comes) (k .runs)
+
+  -- it is there: nothing waits, or the count is at its limit, or no budget is left
+  pub run-stops : (f .depth ≡ 0) ⊎ (maxCount ≤ f .count) → Runs g d sweeps step f l goal
+  run-stops e = there (ran-stops g d sweeps step f l (k .search) (k .runs) left e)
+
+  pub run-spent : left ≡ 0 → Runs g d sweeps step f l goal
+  run-spent e = there (ap (λ (n : ℕ). ran n (k .search)) e ∙ unfold ran in refl)
+
+  -- one node more
+  pub run-turn : (less : ℕ) → left ≡ suc less → 0 < f .depth → f .count < maxCount → (f′ : Frame) (l′ : List ℕ)
+      → ((s : Progress) → Runs g d sweeps step f l s → Runs g d sweeps step f′ l′ (openTop s (s .stack)))
+      → RunsTo g d sweeps step f′ l′ less goal
+  run-turn less e deep room f′ l′ opened = record {
+    search = openTop (k .search) (k .search .stack);
+    runs = opened (k .search) (k .runs);
+    comes =
+        sym (ran-next g d sweeps step f l (k .search) (k .runs) (top-of g f l (k .search) (k .runs .holds) deep room) less)
+        ∙ ap (λ (n : ℕ). ran n (k .search)) (sym e)
+        ∙ k .comes;
+  }

@@ -1,0 +1,209 @@
+-- The passes of a node, turn by turn, over the graph with the node's marks and the multipliers so far (`AtPass`): each of the four ends of
+-- a turn, as the code comes to them. Rests on the passes' definition alone.
+use mathlib.Core.Path.{_≡_, refl, sym, ap, _∙_, subst}
+use mathlib.Core.Bool.{true}
+use mathlib.Core.List.{List, _∷_}
+use Prim.Native.Nat.{ℕ, zero, suc, _≤_, _<_}
+use native.Mathlib.Omega.{arith}
+use native.Mathlib.Decide.{decLe}
+use lib.ListN.{length, getD, List·getD-eq-default}
+use lib.IntN.{ℤ, pos}
+use Rattle.lists.specs.Fill.{fit}
+use Rattle.graph.specs.declared.Graph.{Graph}
+use Rattle.graph.specs.Limits.{maxVertices, maxEdges}
+use Rattle.graph.specs.Network.{Network, free, markOf, place, network}
+use Rattle.graph.specs.Places.{place-at, place-zero, place-past}
+use Rattle.graph.specs.Valid.{Valid}
+use Rattle.onetree.specs.OneTree.{Edges}
+use Rattle.onetree.specs.Inputs.{multiplier, multipliersFit}
+use Rattle.machine.specs.Outcomes.{closes}
+use Rattle.machine.specs.Machine as M
+use Rattle.machine.specs.Machine.{Marks, withMarks, Pass, shut, found, unclosed, pass, gained, branch, concluded, passes}
+use Rattle.search.specs.Record.{marksIn}
+use Rattle.search.specs.Cells.{mark-byte}
+use Rattle.search.specs.Pushing.{bytesOf, bytes-at, bytes-small, bytes-back, marks-size}
+use Rattle.search.specs.Gains.{GainsTo, gains-is, gains-fit}
+use Rattle.search.specs.Judging.{FoundAs, RuledAs, treeBytes}
+use Rattle.search.specs.Opening.{openedAs, foundAs}
+
+-- ---- the graph with other marks
+
+abbrev pub withBytes : Graph → List ℕ → Graph
+withBytes g x = record { n = g .n; m = g .m; a = g .a; b = g .b; cost = g .cost; mark = x }
+
+module _ (g : Graph) (x : Marks) (few : g .m ≤ maxEdges) (long : length x ≡ g .m) where
+  mark-is : (k : ℕ) → markOf (place 0 (g .m) (bytesOf x) k) ≡ getD (free ∷ x) k free
+  mark-is zero = unfold markOf in ap markOf (place-zero 0 (g .m) (bytesOf x))
+  mark-is (suc k) = go (decLe (suc k) (g .m))
+    where
+      go : Dec (k < g .m) → markOf (place 0 (g .m) (bytesOf x) (suc k)) ≡ getD x k free
+      go (yes h) =
+          ap markOf (place-at 0 (g .m) (bytesOf x) k h ∙ bytes-at x k (omega arith)) ∙ mark-byte (getD x k free)
+      go (no h) =
+          unfold markOf in ap markOf (place-past 0 (g .m) (bytesOf x) k (omega arith))
+          ∙ sym (List·getD-eq-default x free (omega (arith, long)))
+
+  -- its network is the machine's, with the node's marks
+  pub network-marks : network (withBytes g (bytesOf x)) ≡ withMarks (network g) x
+  unfolding network withMarks
+  network-marks = λ i. record {
+    n = g .n;
+    m = g .m;
+    a = network g .a;
+    b = network g .b;
+    cost = network g .cost;
+    mark = λ k. mark-is k i;
+  }
+
+pub valid-bytes : (g : Graph) (x : Marks) → Valid g → Valid (withBytes g (bytesOf x))
+valid-bytes g x v = record {
+  low = v .low;
+  high = v .high;
+  few = v .few;
+  each = λ k h. record {
+    from = v .each k h .from;
+    less = v .each k h .less;
+    to = v .each k h .to;
+    range = v .each k h .range;
+    known = bytes-small x k (omega (arith, v .few));
+  };
+  once = λ j k b h p. v .once j k b h (record { a = p .a; b = p .b });
+}
+
+-- ---- a turn of the machine's passes
+
+-- how an unclosed node goes on
+abbrev later : Network → ℕ → ℤ → ℕ → List ℤ → Edges → Marks → M.Opened
+later g step upper zero d t y = branch y
+later g step upper (suc left) d t y = passes g step upper left (gained g step t d) y
+
+turn : (g : Network) (step : ℕ) (upper : ℤ) (left : ℕ) (d : List ℤ) (x : Marks)
+    → passes g step upper left d x ≡ concluded (g .m) (pass (withMarks g x) (multiplier d) upper) (later g step upper left d)
+unfolding passes
+turn g step upper zero d x = refl
+turn g step upper (suc left) d x = refl
+
+-- the passes that are left, of a node with the graph h and the multipliers d, come to `out`
+pub record AtPass (g : Graph) (step : ℕ) (upper : ℤ) (out : M.Opened) (left : ℕ) (h : Graph) (d : List ℤ) : Type 0 where
+  pub marks : Marks
+  pub long : length marks ≡ g .m
+  pub graph : h ≡ withBytes g (bytesOf marks)
+  pub size : length d ≡ maxVertices
+  pub fits : multipliersFit (fit (g .n) (pos 0) d) ≡ true
+  pub comes : passes (network g) step upper left (fit (g .n) (pos 0) d) marks ≡ out
+
+-- the passes of a node whose marks are those of the graph h
+abbrev pub passesFrom : Graph → List ℤ → ℕ → ℤ → ℕ → M.Opened
+passesFrom h d step upper left = passes (network h) step upper left (fit (h .n) (pos 0) d) (marksIn (h .m) (h .mark))
+
+pub at-first : (h : Graph) (d : List ℤ) (step : ℕ) (upper : ℤ) (left : ℕ) → h .mark ≡ bytesOf (marksIn (h .m) (h .mark))
+    → length d ≡ maxVertices → multipliersFit (fit (h .n) (pos 0) d) ≡ true → AtPass h step upper (passesFrom h d step upper left) left h d
+at-first h d step upper left e size fits = record {
+  marks = marksIn (h .m) (h .mark);
+  long = marks-size (h .m) (h .mark);
+  graph = ap (withBytes h) e;
+  size = size;
+  fits = fits;
+  comes = refl;
+}
+
+-- the passes set the marks of the network, so they do not depend on those that it had
+passes-marks : (g : Network) (y : Marks) (step : ℕ) (upper : ℤ) (left : ℕ) (d : List ℤ) (x : Marks)
+    → passes (withMarks g y) step upper left d x ≡ passes g step upper left d x
+unfolding passes withMarks gained M.degree
+passes-marks g y step upper zero d x = refl
+passes-marks g y step upper (suc left) d x =
+    λ i. concluded (g .m) (pass (withMarks g x) (multiplier d) upper) (λ t z. passes-marks g y step upper left (gained g step t d) z i)
+
+pub passes-from : (g : Graph) (x : List ℕ) (d : List ℤ) (step : ℕ) (upper : ℤ) (left : ℕ) → g .m ≤ maxEdges
+    → x ≡ bytesOf (marksIn (g .m) x)
+    → passesFrom (withBytes g x) d step upper left ≡ passes (network g) step upper left (fit (g .n) (pos 0) d) (marksIn (g .m) x)
+passes-from g x d step upper left few e =
+    ap (λ (f : Network). passes f step upper left (fit (g .n) (pos 0) d) (marksIn (g .m) x))
+    (ap (λ (y : List ℕ). network (withBytes g y)) e ∙ network-marks g (marksIn (g .m) x) few (marks-size (g .m) x))
+    ∙ passes-marks (network g) (marksIn (g .m) x) step upper left (fit (g .n) (pos 0) d) (marksIn (g .m) x)
+
+module _ (g : Graph) (valid : Valid g) (step : ℕ) (upper : ℤ) (out : M.Opened) (left : ℕ) (h : Graph) (d : List ℤ)
+    (s : AtPass g step upper out left h d) where
+  pub at-n : h .n ≡ g .n
+  at-n = ap (λ (f : Graph). f .n) (s .graph)
+
+  pub at-m : h .m ≡ g .m
+  at-m = ap (λ (f : Graph). f .m) (s .graph)
+
+  pub at-valid : Valid h
+  at-valid = rw (s .graph) (valid-bytes g (s .marks) valid)
+
+  pub at-fits : multipliersFit (fit (h .n) (pos 0) d) ≡ true
+  at-fits = rw at-n (s .fits)
+
+  -- the machine's pass is the one that the code makes
+  pass-is : (p : Pass) → pass (network h) (multiplier (fit (h .n) (pos 0) d)) upper ≡ p
+      → out ≡ concluded (g .m) p (later (network g) step upper left (fit (g .n) (pos 0) d))
+  unfolding network
+  pass-is p e =
+      sym (s .comes)
+      ∙ turn (network g) step upper left (fit (g .n) (pos 0) d) (s .marks)
+      ∙ ap (λ (q : Pass). concluded (g .m) q (later (network g) step upper left (fit (g .n) (pos 0) d))) same
+    where
+      same : pass (withMarks (network g) (s .marks)) (multiplier (fit (g .n) (pos 0) d)) upper ≡ p
+      same =
+          ap (λ (f : Network). pass f (multiplier (fit (g .n) (pos 0) d)) upper)
+          (sym (network-marks g (s .marks) (valid .few) (s .long)) ∙ ap network (sym (s .graph)))
+          ∙ ap (λ (n : ℕ). pass (network h) (multiplier (fit n (pos 0) d)) upper) (sym at-n)
+          ∙ e
+
+  pub turn-shut : pass (network h) (multiplier (fit (h .n) (pos 0) d)) upper ≡ shut → openedAs closes ≡ openedAs out
+  turn-shut e = ap openedAs (sym (pass-is shut e))
+
+  pub turn-found : (w : List ℕ) → FoundAs h (fit (h .n) (pos 0) d) upper w
+      → foundAs w ≡ openedAs out
+  unfolding openedAs treeBytes
+  turn-found w f =
+      ap foundAs
+      (f .bytes ∙ ap (λ (m : ℕ). treeBytes m (f .tour)) at-m)
+      ∙ ap openedAs (sym (pass-is (found (f .tour)) (f .is)))
+
+  module _ (w degrees : List ℕ) (r : RuledAs h (fit (h .n) (pos 0) d) upper w degrees) where
+    goes-on : out ≡ later (network g) step upper left (fit (g .n) (pos 0) d) (r .tree) (r .marks)
+    goes-on = pass-is (unclosed (r .tree) (r .marks)) (r .is)
+
+    new-long : length (r .marks) ≡ g .m
+    new-long = r .long ∙ at-m
+
+    -- the marks that the code now has
+    marks-now : marksIn (g .m) w ≡ r .marks
+    marks-now = ap (marksIn (g .m)) (r .bytes) ∙ bytes-back (g .m) (r .marks) (valid .few) new-long
+
+    pub turn-marks : w ≡ bytesOf (marksIn (g .m) w)
+    turn-marks = r .bytes ∙ ap bytesOf (sym marks-now)
+
+    pub turn-last : left ≡ 0 → openedAs (branch (marksIn (g .m) w)) ≡ openedAs out
+    turn-last z =
+        ap (λ (y : Marks). openedAs (branch y)) marks-now
+        ∙ ap openedAs (sym (goes-on ∙ ap (λ (i : ℕ). later (network g) step upper i (fit (g .n) (pos 0) d) (r .tree) (r .marks)) z))
+
+    module _ (next : List ℤ) (gains : GainsTo (h .n) step degrees d next) (less : ℕ) (e : left ≡ suc less) where
+      gains-now : GainsTo (g .n) step degrees d next
+      gains-now = subst (λ (n : ℕ). GainsTo n step degrees d next) at-n gains
+
+      degree-now : (v : ℕ) → 1 ≤ v → v ≤ g .n → getD degrees v 0 ≡ M.degree (network g) (r .tree) v
+      degree-now v a b = r .degree v a (omega (arith, at-n)) ∙ same
+        where
+          same : M.degree (network h) (r .tree) v ≡ M.degree (network g) (r .tree) v
+          same = unfold M.degree network in ap (λ (f : Graph). M.degree (network f) (r .tree) v) (s .graph)
+
+      pub turn-next : AtPass g step upper out less (withBytes h w) next
+      turn-next = record {
+        marks = r .marks;
+        long = new-long;
+        graph = ap (λ (f : Graph). withBytes f w) (s .graph) ∙ ap (withBytes g) (r .bytes);
+        size = gains-now .size;
+        fits = gains-fit (g .n) step degrees d next (omega (arith, valid .low)) gains-now (s .fits);
+        comes =
+            ap (λ (l : List ℤ). passes (network g) step upper less l (r .marks)) gained-now
+            ∙ sym (goes-on ∙ ap (λ (i : ℕ). later (network g) step upper i (fit (g .n) (pos 0) d) (r .tree) (r .marks)) e);
+      }
+        where
+          gained-now : fit (g .n) (pos 0) next ≡ gained (network g) step (r .tree) (fit (g .n) (pos 0) d)
+          gained-now = unfold network in gains-is (network g) step (r .tree) degrees d next gains-now degree-now

@@ -1,0 +1,37 @@
+// The cost of a tour.
+ghost use mathlib.Core.Path.{_≡_};
+ghost use Prim.Native.Nat.{_*_};
+ghost use Rattle.integers.specs.Range.{InRange};
+ghost use Rattle.graph.specs.Limits.{maxCost, maxEdges};
+ghost use Rattle.graph.specs.Network.{network};
+ghost use Rattle.graph.specs.Valid.{Valid};
+ghost use Rattle.onetree.specs.Arrays.{bytes};
+ghost use Rattle.machine.specs.Tours.{cost};
+ghost use Rattle.search.specs.Costs.{Ticked};
+use graph::Graph;
+
+// The sum, with an edge's cost where the edge is in.
+fn tick(b: u8, x: i32, sum: i64) -> i64
+    requires { ⌜ InRange maxCost x × InRange (maxCost * maxEdges) sum ⌝ }
+    ensures { λ r. ⌜ Ticked b x sum r ⌝ }
+{
+    if b == 1 {
+        return x as i64 + sum;
+    }
+    sum
+}
+
+// The sum of the costs of the edges that are in.
+pub(crate) fn tour_cost(g: Graph, w: [u8; 190]) -> i64
+    requires { ⌜ Valid g ⌝ }
+    ensures { λ r. ⌜ (r ≡ cost (network g) (bytes w)) × InRange (maxCost * maxEdges) r ⌝ }
+{
+    let m = g.m;
+    let mut sum: i64 = 0;
+    let mut k = 0;
+    while k < m {
+        sum = tick(w[k], g.cost[k], sum);
+        k = k + 1;
+    }
+    sum
+}

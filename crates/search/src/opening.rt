@@ -1,0 +1,97 @@
+// An opening: its fault, and the record that it leaves where it has none.
+ghost use mathlib.Core.Path.{_≡_};
+ghost use Prim.Native.Nat.{_≤_};
+ghost use lib.ListN.{length};
+ghost use lib.IntN.{pos};
+ghost use Rattle.lists.specs.Fill.{fit};
+ghost use Rattle.graph.specs.Limits.{maxVertices, maxEdges};
+ghost use Rattle.machine.specs.Machine.{trimmed};
+ghost use Rattle.machine.specs.Machine as Machine;
+ghost use Rattle.machine.specs.Calls as Calls;
+ghost use Rattle.search.specs.Record.{openingOf, recordOf};
+use crate::MAX_STEP;
+use crate::MAX_SWEEPS;
+use crate::Search;
+use crate::stack;
+use graph::Graph;
+
+// The first of 15, 11, 12, 13, 14 that applies, or 0.
+pub(crate) fn fault(g: Graph, multipliers: &[i32], ceiling: i64, sweeps: u32, step: u32) -> u32
+    ensures { λ r. ⌜ r ≡ Calls.fault (openingOf g (now (multipliers .entry)) ceiling sweeps step) ⌝ }
+{
+    if !graph::check(g) {
+        return 15;
+    }
+    if multipliers.len() != g.n {
+        return 11;
+    }
+    if !onetree::multipliers_fit(multipliers) {
+        return 12;
+    }
+    if !onetree::ceiling_fits(ceiling) {
+        return 13;
+    }
+    if sweeps > MAX_SWEEPS {
+        return 14;
+    }
+    if step > MAX_STEP {
+        return 14;
+    }
+    0
+}
+
+// The graph with zero at every place past its edges.
+fn trim(g: Graph) -> Graph
+    requires { ⌜ g .m ≤ maxEdges ⌝ }
+    ensures { λ r. ⌜ r ≡ trimmed g ⌝ }
+{
+    let mut t = g;
+    let mut k = g.m;
+    while k < 190 {
+        t.a[k] = 0;
+        t.b[k] = 0;
+        t.cost[k] = 0;
+        t.mark[k] = 0;
+        k = k + 1;
+    }
+    t
+}
+
+// The multipliers, then zeros.
+fn padded(d: &[i32]) -> [i32; 20]
+    requires { ⌜ length (now d) ≤ maxVertices ⌝ }
+    ensures { λ r. ⌜ r ≡ fit maxVertices (pos 0) (now (d .entry)) ⌝ }
+{
+    let mut r = [0i32; 20];
+    let mut k = 0;
+    while k < d.len() {
+        r[k] = d[k];
+        k = k + 1;
+    }
+    r
+}
+
+pub(crate) fn begin(g: Graph, multipliers: &[i32], ceiling: i64, sweeps: u32, step: u32) -> Search
+    requires { ⌜ Calls.fault (openingOf g (now multipliers) ceiling sweeps step) ≡ 0 ⌝ }
+    ensures { λ r. ⌜ r ≡ recordOf (Machine.begin (Machine.held (openingOf g (now (multipliers .entry)) ceiling sweeps step))) ⌝ }
+{
+    let t = trim(g);
+    let d = padded(multipliers);
+    let marks = t.mark;
+    let mut nodes = [0u8; 36290];
+    stack::put(&mut nodes, 0, marks);
+    Search {
+        open: true,
+        graph: t,
+        multipliers: d,
+        ceiling: ceiling,
+        sweeps: sweeps,
+        step: step,
+        upper: ceiling,
+        depth: 1,
+        stack: nodes,
+        has_best: false,
+        best: [0; 190],
+        count: 0,
+    }
+}

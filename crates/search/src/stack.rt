@@ -1,0 +1,33 @@
+// The stack's bytes, lent to what works on them: node p from the bottom stands at 190 * p.
+ghost use mathlib.Core.Path.{_≡_};
+ghost use Prim.Native.Nat.{_<_};
+ghost use lib.ListN.{length};
+ghost use Rattle.graph.specs.Limits.{maxEdges};
+ghost use Rattle.search.specs.Record.{maxNodes, stackSize};
+ghost use Rattle.search.specs.Pushing.{rowAt, Put};
+
+// The bytes of node p.
+pub(crate) fn node(stack: &[u8; 36290], p: usize) -> [u8; 190]
+    requires { ⌜ p < maxNodes ⌝ }
+    ensures { λ r. ⌜ r ≡ rowAt (now (stack .entry)) p ⌝ }
+{
+    let mut r = [0u8; 190];
+    let mut j = 0;
+    while j < 190 {
+        r[j] = stack[190 * p + j];
+        j = j + 1;
+    }
+    r
+}
+
+// The bytes x are stored as node p.
+pub(crate) fn put(stack: &mut [u8; 36290], p: usize, x: [u8; 190])
+    requires { ⌜ (p < maxNodes) × (length (now stack) ≡ stackSize) ⌝ }
+    ensures { λ _. ⌜ Put p maxEdges x (now (stack .entry)) (now (stack .exit)) ⌝ }
+{
+    let mut j = 0;
+    while j < 190 {
+        stack[190 * p + j] = x[j];
+        j = j + 1;
+    }
+}

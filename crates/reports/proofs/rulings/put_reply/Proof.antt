@@ -1,0 +1,24 @@
+-- What the rule call ensures is what `put_answer` prints. A signed local is held as its bits.
+use borrow.Author.Needs.{needs}
+use mir.Facts.{toZ-ofZ}
+use Rattle.reports.proofs.rulings.put_reply.Statement.{statement}
+use Rattle.reports.proofs.rulings.put_reply.Tie as tie
+
+rule-requires : tie.Need-rule-requires
+rule-requires c κs = search needs
+
+put-answer-requires : tie.Need-put-answer-requires
+put-answer-requires c κs = search needs
+
+same-length : tie.Need-same-length
+same-length c = search needs
+
+returns : tie.Need-returns
+returns c =
+    let r = c .before .before .before .before .before in
+    let s = r .before .before .before in
+    let ruled = rw (toZ-ofZ (s .fits .ceiling)) at (r .rule .ensures) in
+    rw (← (ruled .0), ← (ruled .1)) (rw (toZ-ofZ (s .fits .ceiling)) at (c .put-answer .ensures))
+
+pub put-reply-spec : {M : Type 1} → statement M
+put-reply-spec = tie.close (tie.spec rule-requires put-answer-requires same-length returns)

@@ -1,0 +1,13 @@
+pub mod Decimal
+pub mod Text
+pub mod Input
+pub mod Rulings
+pub mod Searching
+pub mod Puts
+pub mod Steps
+pub mod Room
+pub mod EdgeLoop
+pub mod Zeros
+pub mod Printing
+pub mod Longest
+pub mod ThreeCalls

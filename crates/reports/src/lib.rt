@@ -1,0 +1,9 @@
+// What the programs of document 01 print, byte for byte, as functions on slices: a program only reads and writes.
+mod input;
+mod lines;
+mod rulings;
+mod searching;
+mod text;
+
+pub use rulings::rulings_text;
+pub use searching::search_text;

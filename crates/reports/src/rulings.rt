@@ -1,0 +1,112 @@
+// What program 'rulings' prints.
+ghost use mathlib.Core.Path.{_≡_};
+ghost use Prim.Native.Nat.{_+_, _*_, _<_, _≤_};
+ghost use lib.ListN.{length};
+ghost use lib.Seq.{sets};
+ghost use Rattle.graph.specs.Limits.{maxVertices, maxEdges};
+ghost use Rattle.graph.specs.Valid.{Valid};
+ghost use Rattle.onetree.specs.Answers.{ruleMeaning, ruleReply, ruleLeaves};
+ghost use Rattle.reports.specs.Puts.{Put};
+ghost use Rattle.reports.specs.Rulings.{edgeLines, replyText, rulesText, rulingsText};
+use crate::input::ceiling_of;
+use crate::lines::put_bound;
+use crate::lines::put_dead;
+use crate::lines::put_edge;
+use crate::lines::put_refused;
+use graph::Graph;
+use graph::ReadAnswer;
+use onetree::RuleAnswer;
+
+// One line an edge, after what ends at `at`.
+fn put_edges(out: &mut [u8; 4096], at: usize, g: Graph, rulings: &[u8]) -> usize
+    requires { ⌜ (at ≤ 56) × Valid g × (length (now rulings) ≡ g .m) ⌝ }
+    ensures { λ r. ⌜ Put (edgeLines g (now (rulings .entry)) (g .m)) (now (out .entry)) at (now (out .exit)) r × (r ≤ 4096) ⌝ }
+{
+    let m = g.m;
+    let mut p = at;
+    for k in 0..m {
+        p = put_edge(out, p, k as u64 + 1, g.a[k], g.b[k], rulings[k]);
+    }
+    p
+}
+
+// A rule call's answer, with the rulings that it left.
+fn put_answer(
+    out: &mut [u8; 4096],
+    ceiling: i64,
+    g: Graph,
+    answer: RuleAnswer,
+    rulings: &[u8],
+) -> usize
+    requires { ⌜ Valid g × (length (now rulings) ≡ g .m) ⌝ }
+    ensures { λ r.
+        ⌜
+        Put (replyText g ceiling (ruleMeaning answer) (now (rulings .entry))) (now (out .entry)) 0 (now (out .exit)) r
+        × (r ≤ 4096)
+        ⌝ }
+{
+    match answer {
+        RuleAnswer::Refused(number, place) => put_refused(out, number, place),
+        RuleAnswer::Infeasible => put_dead(out),
+        RuleAnswer::Bound(bound) => {
+            let p = put_bound(out, bound, ceiling);
+            put_edges(out, p, g, rulings)
+        }
+    }
+}
+
+// The rule call, with a list lent for its rulings.
+fn put_reply(
+    out: &mut [u8; 4096],
+    ceiling: i64,
+    g: Graph,
+    multipliers: &[i32],
+    rulings: &mut [u8],
+) -> usize
+    requires { ⌜ Valid g × (length (now rulings) ≡ g .m) ⌝ }
+    ensures { λ r.
+        ⌜
+        Put
+        (replyText g ceiling (ruleReply g (now (multipliers .entry)) ceiling (length (now (rulings .entry))))
+        (ruleLeaves g (now (multipliers .entry)) ceiling (now (rulings .entry))))
+        (now (out .entry)) 0 (now (out .exit)) r
+        × (r ≤ 4096)
+        ⌝ }
+{
+    let answer = onetree::rule(g, multipliers, ceiling, rulings);
+    put_answer(out, ceiling, g, answer, rulings)
+}
+
+// With zero multipliers.
+fn put_rules(out: &mut [u8; 4096], ceiling: i64, g: Graph) -> usize
+    requires { ⌜ Valid g ⌝ }
+    ensures { λ r. ⌜ Put (rulesText ceiling g) (now (out .entry)) 0 (now (out .exit)) r × (r ≤ 4096) ⌝ }
+{
+    let n = g.n;
+    let m = g.m;
+    let multipliers = [0i32; 20];
+    let mut rulings = [0u8; 190];
+    put_reply(out, ceiling, g, &multipliers[..n], &mut rulings[..m])
+}
+
+// All that program 'rulings' prints of an input.
+// Ruled out: a refusal of the ceiling beside a fault of the chart; a byte past the text changed.
+pub fn rulings_text(input: &[u8], out: &mut [u8; 4096]) -> usize
+    ensures { λ r.
+        ⌜
+        (r ≡ length (rulingsText (now (input .entry))))
+        × (r ≤ 4096)
+        × (now (out .exit) ≡ sets (now (out .entry)) 0 (rulingsText (now (input .entry))))
+        ⌝ }
+{
+    if input.len() < 4 {
+        return put_refused(out, 1, 0);
+    }
+    let chart = graph::read(&input[4..]);
+    let answer = chart.answer;
+    let g = chart.graph;
+    match answer {
+        ReadAnswer::Refused(number, place) => put_refused(out, number, place),
+        ReadAnswer::Read => put_rules(out, ceiling_of(input), g),
+    }
+}

@@ -1,0 +1,22 @@
+// Program 'rulings': reads a ceiling and a chart from standard input, and prints the rulings with zero dues. What it prints is computed by
+// reports::rulings_text; here stand only the calls that read and write.
+ghost use mathlib.Core.Path.{_≡_};
+ghost use lib.ListN.{length};
+use libc::STDIN_FILENO;
+use libc::STDOUT_FILENO;
+
+// One byte more than the longest input, 4 + 8 + 12 × 1,000: of a longer one the same is printed as of these first bytes (`first-bytes`
+// in specs/Longest.antt of crate reports).
+fn room() -> [u8; 12013]
+    ensures { λ r. ⌜ 12013 ≡ length r ⌝ }
+{
+    [0; 12013]
+}
+
+fn main() {
+    let mut input = room();
+    let n = io::read_full(STDIN_FILENO, &mut input);
+    let mut out = io::buffer();
+    let k = reports::rulings_text(&input[..n], &mut out);
+    io::write_all(STDOUT_FILENO, &out[..k]);
+}

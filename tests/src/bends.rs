@@ -1,0 +1,178 @@
+//! Ways to make the reference wrong, each in one sentence of document 01. The self-test bends the law so and expects a suite to notice.
+
+use crate::report::Bend;
+
+pub const TOO_MANY_RECORDS: Bend = Bend {
+    what: "1,001 records are taken",
+    bend: |law| law.max_records = 1001,
+};
+
+pub const PAIR_BEFORE_COST: Bend = Bend {
+    what: "10 comes before 9",
+    bend: |law| law.cost_before_pair = false,
+};
+
+pub const FIRST_PAIR_NAMED: Bend = Bend {
+    what: "10 names the first record with the pair",
+    bend: |law| law.later_pair_named = false,
+};
+
+pub const LENGTH_BEFORE_VALUE: Bend = Bend {
+    what: "11 comes before 15",
+    bend: |law| law.value_before_length = false,
+};
+
+pub const LENGTH_BEFORE_RECORD: Bend = Bend {
+    what: "11 comes before 22 and 23",
+    bend: |law| law.record_before_length = false,
+};
+
+pub const MORE_SWEEPS: Bend = Bend {
+    what: "16 sweeps are taken",
+    bend: |law| law.max_sweeps = 16,
+};
+
+pub const MORE_VERTICES: Bend = Bend {
+    what: "21 vertices are taken",
+    bend: |law| law.max_vertices = 21,
+};
+
+pub const LENGTH_BEFORE_ZERO_BYTES: Bend = Bend {
+    what: "4 comes before 3",
+    bend: |law| law.zero_bytes_before_length = false,
+};
+
+pub const UPPER_TOO_LOW: Bend = Bend {
+    what: "U becomes a tour's cost less 2",
+    bend: |law| law.below_tour = 2,
+};
+
+pub const UPPER_AT_COST: Bend = Bend {
+    what: "U becomes a tour's cost",
+    bend: |law| law.below_tour = 0,
+};
+
+pub const CEILING_NOT_WITHIN: Bend = Bend {
+    what: "a bound equal to the ceiling is not within it",
+    bend: |law| law.ceiling_within = false,
+};
+
+pub const HIGHER_CEILING: Bend = Bend {
+    what: "a ceiling of 50,000,001 is taken",
+    bend: |law| law.max_ceiling += 1,
+};
+
+pub const MULTIPLIERS_NOT_HELD: Bend = Bend {
+    what: "a multiplier is not held to its range",
+    bend: |law| law.multipliers_held = false,
+};
+
+pub const PAIR_TWICE: Bend = Bend {
+    what: "a pair may stand twice",
+    bend: |law| law.pairs_differ = false,
+};
+
+pub const NEXT_JUDGED_FIRST: Bend = Bend {
+    what: "a record's next is judged before its own 7 to 10",
+    bend: |law| law.next_judged_last = false,
+};
+
+pub const REQUIRED_SWAPPED_OUT: Bend = Bend {
+    what: "a required edge is swapped out",
+    bend: |law| law.required_stay = false,
+};
+
+pub const REQUIRED_LEFT_OUT: Bend = Bend {
+    what: "a required edge may be left out of a tree",
+    bend: |law| law.required_kept = false,
+};
+
+pub const EQUAL_ENDS: Bend = Bend {
+    what: "both ends may be one vertex",
+    bend: |law| law.ends_differ = false,
+};
+
+pub const FIRST_MULTIPLIER_FREE: Bend = Bend {
+    what: "d(1) may be other than 0",
+    bend: |law| law.first_multiplier_zero = false,
+};
+
+pub const MARK_THREE: Bend = Bend {
+    what: "mark 3 is taken",
+    bend: |law| law.max_mark = 3,
+};
+
+pub const MULTIPLIERS_NOT_RESET: Bend = Bend {
+    what: "multipliers are not reset at a node",
+    bend: |law| law.multipliers_reset = false,
+};
+
+pub const HIGHER_NUMBERED_FIRST: Bend = Bend {
+    what: "of two equal edges the higher-numbered is taken",
+    bend: |law| law.lower_numbered_first = false,
+};
+
+pub const PAST_M_JUDGED: Bend = Bend {
+    what: "places past m are judged too",
+    bend: |law| law.past_m_ignored = false,
+};
+
+pub const LARGER_STEP: Bend = Bend {
+    what: "step 10,001 is taken",
+    bend: |law| law.max_step = 10_001,
+};
+
+pub const HIGHER_COST: Bend = Bend {
+    what: "the cost limit is one higher",
+    bend: |law| law.max_cost += 1,
+};
+
+pub const LOWER_COST: Bend = Bend {
+    what: "the cost limit is one lower",
+    bend: |law| law.max_cost -= 1,
+};
+
+pub const EXCLUDED_ON_TOP: Bend = Bend {
+    what: "the excluded child goes on top",
+    bend: |law| law.required_on_top = false,
+};
+
+pub const MARKS_FROM_BELOW: Bend = Bend {
+    what: "the excluded child has marks made below the required one",
+    bend: |law| law.marks_apart = false,
+};
+
+pub const LAST_NEXT_NOT_ZERO: Bend = Bend {
+    what: "the last next is m + 1",
+    bend: |law| law.last_next_zero = false,
+};
+
+pub const HIGHER_MULTIPLIER: Bend = Bend {
+    what: "the multiplier limit is one higher",
+    bend: |law| law.max_multiplier += 1,
+};
+
+pub const PAST_M_NOT_ZERO: Bend = Bend {
+    what: "the place past m is not zero",
+    bend: |law| law.zeros_past_m = false,
+};
+
+pub const MULTIPLIERS_OFF_ONCE: Bend = Bend {
+    what: "the sum of the multipliers taken off once, not twice",
+    bend: |law| law.multipliers_off = 1,
+};
+
+pub const FORM_WITHOUT_HEAD: Bend = Bend {
+    what: "the writer's form does not ask for the head",
+    bend: |law| law.form_wants_head = false,
+};
+
+pub const FORM_WITHOUT_ORDER: Bend = Bend {
+    what: "the writer's form does not ask for the order of records",
+    bend: |law| law.form_wants_order = false,
+};
+
+pub const UPPER_NOT_LOWERED: Bend = Bend {
+    what: "U stays as it is when a tour is found",
+    bend: |law| law.upper_lowered = false,
+};

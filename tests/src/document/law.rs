@@ -1,0 +1,114 @@
+//! What document 01 fixes and a reader could get wrong, as a value. Every suite runs with
+//! `Law::AS_WRITTEN`; the self-test bends one field and expects the suite to notice.
+
+#[derive(Clone, Copy, Debug)]
+pub struct Law {
+    /// "n from 3 to 20"
+    pub max_vertices: usize,
+    /// "−1,000,000 to 1,000,000"
+    pub max_cost: i64,
+    /// "Its mark is 0 free, 1 required or 2 struck."
+    pub max_mark: u8,
+    /// "a < b", not a ≤ b
+    pub ends_differ: bool,
+    /// "no pair twice"
+    pub pairs_differ: bool,
+    /// "places past m count for nothing"
+    pub past_m_ignored: bool,
+    /// our choice for what is read: zeros past m
+    pub zeros_past_m: bool,
+
+    /// "record count r (u16, at most 1,000)"
+    pub max_records: usize,
+    /// 3 comes before 4
+    pub zero_bytes_before_length: bool,
+    /// "A record's next is judged after its own 7 to 10."
+    pub next_judged_last: bool,
+    /// 10's place is the later of the two records
+    pub later_pair_named: bool,
+    /// 9 comes before 10
+    pub cost_before_pair: bool,
+    /// "each next is k + 1, the last 0"
+    pub last_next_zero: bool,
+    /// 15 comes before 11
+    pub value_before_length: bool,
+    /// the writer's form has its head at 1, or 0 where m = 0
+    pub form_wants_head: bool,
+    /// the writer's form has leg k in record k
+    pub form_wants_order: bool,
+
+    /// "whole numbers, −1,000,000 to 1,000,000"
+    pub max_multiplier: i64,
+    /// "d(1) = 0"
+    pub first_multiplier_zero: bool,
+    /// "less twice the sum of all dues"
+    pub multipliers_off: i64,
+    /// "the one that lacks the highest-numbered leg in which they differ comes first"
+    pub lower_numbered_first: bool,
+    /// "It has every required leg"
+    pub required_kept: bool,
+
+    /// "−50,000,000 to 50,000,000"
+    pub max_ceiling: i64,
+    /// "at or below the ceiling": a bound equal to it is within
+    pub ceiling_within: bool,
+    /// a required leg is not swapped out
+    pub required_stay: bool,
+
+    /// "sweeps (0 to 15)"
+    pub max_sweeps: u32,
+    /// "a step (0 to 10,000)"
+    pub max_step: u32,
+    /// "U becomes its cost − 1"
+    pub below_tour: i64,
+    /// U is lowered at all
+    pub upper_lowered: bool,
+    /// "dues set to the opening ones" at each node
+    pub multipliers_reset: bool,
+    /// "held to its range"
+    pub multipliers_held: bool,
+    /// "on top, that leg required"
+    pub required_on_top: bool,
+    /// the struck node has the marks that its parent had
+    pub marks_apart: bool,
+    /// 22 and 23 come before 11
+    pub record_before_length: bool,
+}
+
+impl Law {
+    pub const AS_WRITTEN: Law = Law {
+        max_vertices: 20,
+        max_cost: 1_000_000,
+        max_mark: 2,
+        ends_differ: true,
+        pairs_differ: true,
+        past_m_ignored: true,
+        zeros_past_m: true,
+        max_records: 1_000,
+        zero_bytes_before_length: true,
+        next_judged_last: true,
+        later_pair_named: true,
+        cost_before_pair: true,
+        last_next_zero: true,
+        value_before_length: true,
+        form_wants_head: true,
+        form_wants_order: true,
+        max_multiplier: 1_000_000,
+        first_multiplier_zero: true,
+        multipliers_off: 2,
+        lower_numbered_first: true,
+        required_kept: true,
+        max_ceiling: 50_000_000,
+        ceiling_within: true,
+        required_stay: true,
+        max_sweeps: 15,
+        max_step: 10_000,
+        below_tour: 1,
+        upper_lowered: true,
+        multipliers_reset: true,
+        multipliers_held: true,
+        required_on_top: true,
+        marks_apart: true,
+        record_before_length: true,
+    };
+}

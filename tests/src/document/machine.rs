@@ -1,0 +1,283 @@
+//! 'The hunt' as a machine: its state, the calls, their answers, and the refusals 11 to 15 and 20 to
+//! 23. (24 never comes up: nobody else writes the record.)
+
+use super::graph::{Graph, EXCLUDED, FREE, REQUIRED};
+use super::law::Law;
+use super::rulings::{self, ceiling_fits, Ruled, BAR, FORCE};
+use super::tours::{cost, is_tour};
+use super::tree::{self, Method};
+use super::{refuse, Refusal};
+
+/// The machine's state while a search is open: "the arguments of the accepted opening with the
+/// present ceiling U, a pile of waiting nodes, the best round or none, and a count".
+#[derive(Clone, PartialEq, Eq, Debug)]
+pub struct Search {
+    pub graph: Graph,
+    pub multipliers: Vec<i32>,
+    /// the opening's; nothing changes it
+    pub ceiling: i64,
+    pub sweeps: u32,
+    pub step: u32,
+    /// U
+    pub upper: i64,
+    /// "a pile of waiting nodes (each a mark per leg)", from bottom to top
+    pub stack: Vec<Vec<u8>>,
+    pub incumbent: Option<Vec<u8>>,
+    pub count: u64,
+    /// the multipliers of the node before, under a bent law; otherwise none
+    carried: Option<Vec<i32>>,
+}
+
+#[derive(Clone, PartialEq, Eq, Debug)]
+pub enum Call {
+    Open {
+        graph: Box<Graph>,
+        multipliers: Vec<i32>,
+        ceiling: i64,
+        sweeps: u32,
+        step: u32,
+    },
+    Run {
+        budget: u64,
+    },
+    Tell,
+    /// with a list of this many bytes
+    Show {
+        length: usize,
+    },
+    Close,
+}
+
+#[derive(Clone, Copy, PartialEq, Eq, Debug)]
+pub enum Verdict {
+    GoingOn,
+    None,
+    Cost(i64),
+}
+
+#[derive(Clone, PartialEq, Eq, Debug)]
+pub enum Answer {
+    Refused(Refusal),
+    Accepted,
+    Ran { finished: bool, count: u64 },
+    Told { verdict: Verdict, count: u64 },
+    Shown(Vec<u8>),
+}
+
+/// The machine; `None` is 'no hunt', "as on a fresh record".
+#[derive(Clone)]
+pub struct Machine {
+    law: Law,
+    method: Method,
+    pub search: Option<Search>,
+}
+
+impl Search {
+    /// "Finished means an empty pile."
+    pub fn finished(&self) -> bool {
+        self.stack.is_empty()
+    }
+
+    pub fn verdict(&self) -> Verdict {
+        match &self.incumbent {
+            _ if !self.finished() => Verdict::GoingOn,
+            None => Verdict::None,
+            Some(edges) => Verdict::Cost(cost(&self.graph, edges)),
+        }
+    }
+
+    fn run(&mut self, law: &Law, method: Method, budget: u64) {
+        let mut left = budget;
+        while left > 0 && self.count < (1 << 63) - 1 {
+            let Some(marks) = self.stack.pop() else {
+                return;
+            };
+            self.count += 1;
+            left -= 1;
+            self.open_node(law, method, marks);
+        }
+    }
+
+    /// Passes 0 to 'sweeps' over one node, then its two children.
+    fn open_node(&mut self, law: &Law, method: Method, mut marks: Vec<u8>) {
+        let mut multipliers = match &self.carried {
+            Some(carried) if !law.multipliers_reset => carried.clone(),
+            _ => self.multipliers.clone(),
+        };
+        for pass in 0..=self.sweeps {
+            let graph = self.graph.with_marks(&marks);
+            let tree = match tree::least(law, method, &graph, &multipliers) {
+                Some(tree) if tree.bound <= self.upper => tree,
+                _ => return,
+            };
+            if is_tour(&graph, &tree.edges) {
+                if law.upper_lowered {
+                    self.upper = cost(&graph, &tree.edges) - law.below_tour;
+                }
+                self.incumbent = Some(tree.edges);
+                return;
+            }
+            let ruled = rulings::rule(law, method, &graph, &multipliers, self.upper);
+            let Ruled::Bound { rulings, .. } = ruled else {
+                return;
+            };
+            apply(&mut marks, &rulings);
+            if let (false, Some(below)) = (law.marks_apart, self.stack.last_mut()) {
+                apply(below, &rulings);
+            }
+            if pass < self.sweeps {
+                adjust(law, &graph, &tree.edges, self.step, &mut multipliers);
+            }
+        }
+        if !law.multipliers_reset {
+            self.carried = Some(multipliers);
+        }
+        self.split(law, &marks);
+    }
+
+    /// "takes its lowest-numbered free leg and piles two nodes with the marks it now has: first that
+    /// leg struck, then, on top, that leg required. With no free leg it closes."
+    fn split(&mut self, law: &Law, marks: &[u8]) {
+        let Some(k) = marks.iter().position(|mark| *mark == FREE) else {
+            return;
+        };
+        let children = if law.required_on_top {
+            [EXCLUDED, REQUIRED]
+        } else {
+            [REQUIRED, EXCLUDED]
+        };
+        for mark in children {
+            let mut node = marks.to_vec();
+            node[k] = mark;
+            self.stack.push(node);
+        }
+    }
+}
+
+/// "the rulings under U are applied together"
+fn apply(marks: &mut [u8], rulings: &[u8]) {
+    for (mark, ruling) in marks.iter_mut().zip(rulings) {
+        match *ruling {
+            FORCE if *mark == FREE => *mark = REQUIRED,
+            BAR if *mark == FREE => *mark = EXCLUDED,
+            _ => {}
+        }
+    }
+}
+
+/// "each d(i), i ≥ 2, gains step × (g − 2), g being the number of the tree's legs that touch buoy i,
+/// and is held to its range"
+pub fn adjust(law: &Law, graph: &Graph, edges: &[u8], step: u32, multipliers: &mut [i32]) {
+    let mut touching = vec![0i64; graph.n + 1];
+    for k in (0..graph.m).filter(|k| edges[*k] == 1) {
+        touching[graph.a[k] as usize] += 1;
+        touching[graph.b[k] as usize] += 1;
+    }
+    for vertex in 2..=graph.n {
+        let gained = multipliers[vertex - 1] as i64 + step as i64 * (touching[vertex] - 2);
+        let held = gained.clamp(-law.max_multiplier, law.max_multiplier);
+        let kept = if law.multipliers_held { held } else { gained };
+        multipliers[vertex - 1] = kept as i32;
+    }
+}
+
+impl Machine {
+    pub fn new(law: &Law, method: Method) -> Machine {
+        Machine {
+            law: *law,
+            method,
+            search: None,
+        }
+    }
+
+    pub fn call(&mut self, call: &Call) -> Answer {
+        match self.answer(call) {
+            Ok(answer) => answer,
+            Err(refusal) => Answer::Refused(refusal),
+        }
+    }
+
+    fn answer(&mut self, call: &Call) -> Result<Answer, Refusal> {
+        if let Call::Open { .. } = call {
+            return self.open(call);
+        }
+        let (law, method) = (self.law, self.method);
+        let Some(search) = &mut self.search else {
+            return refuse(20, 0);
+        };
+        match call {
+            Call::Open { .. } => unreachable!("taken above"),
+            Call::Run { budget } => {
+                search.run(&law, method, *budget);
+                Ok(Answer::Ran {
+                    finished: search.finished(),
+                    count: search.count,
+                })
+            }
+            Call::Tell => Ok(Answer::Told {
+                verdict: search.verdict(),
+                count: search.count,
+            }),
+            Call::Show { length } => show(&law, search, *length),
+            Call::Close => {
+                self.search = None;
+                Ok(Answer::Accepted)
+            }
+        }
+    }
+
+    /// Refusals 21, 15, 11, 12, 13, 14; then "Opening piles one node, the chart's marks; count 0, no
+    /// best, U the ceiling."
+    fn open(&mut self, call: &Call) -> Result<Answer, Refusal> {
+        let Call::Open {
+            graph,
+            multipliers,
+            ceiling,
+            sweeps,
+            step,
+        } = call
+        else {
+            unreachable!("only an opening comes here");
+        };
+        if self.search.is_some() {
+            return refuse(21, 0);
+        }
+        tree::admit(&self.law, graph, multipliers, None)?;
+        if !ceiling_fits(&self.law, *ceiling) {
+            return refuse(13, 0);
+        }
+        if *sweeps > self.law.max_sweeps || *step > self.law.max_step {
+            return refuse(14, 0);
+        }
+        self.search = Some(Search {
+            graph: Graph::from_edges(graph.n, &graph.edges()),
+            multipliers: multipliers.clone(),
+            ceiling: *ceiling,
+            sweeps: *sweeps,
+            step: *step,
+            upper: *ceiling,
+            stack: vec![graph.marks()],
+            incumbent: None,
+            count: 0,
+            carried: None,
+        });
+        Ok(Answer::Accepted)
+    }
+}
+
+/// Refusals 22 and 23, then 11: what the record is unfit for comes before all input.
+fn show(law: &Law, search: &Search, length: usize) -> Result<Answer, Refusal> {
+    if !law.record_before_length && length != search.graph.m {
+        return refuse(11, 0);
+    }
+    if !search.finished() {
+        return refuse(22, 0);
+    }
+    let Some(edges) = &search.incumbent else {
+        return refuse(23, 0);
+    };
+    if length != search.graph.m {
+        return refuse(11, 0);
+    }
+    Ok(Answer::Shown(edges.clone()))
+}

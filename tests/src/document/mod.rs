@@ -1,0 +1,26 @@
+//! Document 01 in Rust, written from its text alone. Slow and plain where it can be: definitions by
+//! enumeration stand beside each algorithm. Our words: graph (chart, sea), vertex (buoy), edge (leg),
+//! excluded (struck), tour (round), multipliers (dues), search (hunt), stack (pile), incumbent (best).
+
+pub mod chart;
+pub mod graph;
+pub mod law;
+pub mod machine;
+pub mod programs;
+pub mod rulings;
+pub mod tours;
+pub mod tree;
+
+/// "Each answer is the number and a place".
+#[derive(Clone, Copy, PartialEq, Eq, Debug)]
+pub struct Refusal {
+    pub number: u32,
+    pub place: u64,
+}
+
+pub fn refuse<T>(number: u32, place: usize) -> Result<T, Refusal> {
+    Err(Refusal {
+        number,
+        place: place as u64,
+    })
+}

@@ -1,0 +1,13 @@
+//! Compares the planner's exported calls with an implementation written from document 01 alone.
+
+pub mod bends;
+pub mod chart_cases;
+pub mod document;
+#[cfg(feature = "library")]
+pub mod ffi;
+pub mod files;
+pub mod generate;
+pub mod random;
+pub mod record;
+pub mod report;
+pub mod suites;

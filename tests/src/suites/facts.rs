@@ -1,0 +1,171 @@
+//! The facts of 'A four-buoy sea' and what the programs print for it, held to the reference.
+
+use crate::bends;
+use crate::document::chart::write;
+use crate::document::graph::{Edge, Graph, FREE, REQUIRED};
+use crate::document::law::Law;
+use crate::document::machine::{adjust, Answer, Call, Machine, Verdict};
+use crate::document::rulings::{rule, Ruled};
+use crate::document::tree::{least, Method, Tree};
+use crate::document::{programs, tours};
+use crate::report::{Outcome, Suite, Tally};
+
+pub const SUITE: Suite = Suite {
+    name: "facts",
+    run,
+    bends: &[
+        bends::HIGHER_NUMBERED_FIRST,
+        bends::CEILING_NOT_WITHIN,
+        bends::REQUIRED_LEFT_OUT,
+        bends::MULTIPLIERS_NOT_HELD,
+    ],
+};
+
+const METHODS: [Method; 3] = [Method::Definition, Method::Kruskal, Method::Prim];
+
+/// A graph with all edges free.
+fn free(n: usize, edges: &[(u8, u8, i32)]) -> Graph {
+    let edges: Vec<Edge> = edges
+        .iter()
+        .map(|(a, b, cost)| Edge {
+            a: *a,
+            b: *b,
+            cost: *cost,
+            mark: FREE,
+        })
+        .collect();
+    Graph::from_edges(n, &edges)
+}
+
+/// "Legs, costs: 1: 1–2, 4. 2: 1–3, 3. 3: 1–4, 5. 4: 2–3, 2. 5: 2–4, 6. 6: 3–4, 1. All free."
+pub fn four() -> Graph {
+    let edges = [
+        (1, 2, 4),
+        (1, 3, 3),
+        (1, 4, 5),
+        (2, 3, 2),
+        (2, 4, 6),
+        (3, 4, 1),
+    ];
+    free(4, &edges)
+}
+
+fn run(law: &Law, tally: &mut Tally) -> Outcome {
+    for method in METHODS {
+        trees(law, method, tally)?;
+        rulings(law, method, tally)?;
+        searches(law, method, tally)?;
+    }
+    let mut costs: Vec<i64> = tours::all(&four()).iter().map(|tour| tour.cost).collect();
+    costs.sort();
+    let input = || "the four-vertex graph".to_string();
+    tally.compare("costs of its tours", input, &vec![12, 14, 16], &costs)?;
+    held(law, tally)?;
+    printed(law, tally)
+}
+
+fn trees(law: &Law, method: Method, tally: &mut Tally) -> Outcome {
+    let mut required = four();
+    required.mark[..3].fill(REQUIRED);
+    let tree = |bound| {
+        Some(Tree {
+            bound,
+            edges: vec![1, 1, 0, 1, 0, 1],
+        })
+    };
+    let cases = [
+        ("zero multipliers", four(), vec![0; 4], tree(10)),
+        ("d(3) = 1, d(4) = -1", four(), vec![0, 0, 1, -1], tree(12)),
+        ("three vertices, no edge", free(3, &[]), vec![0; 3], None),
+        ("three required at vertex 1", required, vec![0; 4], None),
+    ];
+    for (case, graph, multipliers, expected) in cases {
+        let got = least(law, method, &graph, &multipliers);
+        let input = || format!("{method:?}, {graph:?}, {multipliers:?}");
+        tally.compare(case, input, &expected, &got)?;
+    }
+    Ok(())
+}
+
+fn rulings(law: &Law, method: Method, tally: &mut Tally) -> Outcome {
+    let ruled = |rulings: [u8; 6]| Ruled::Bound {
+        bound: 10,
+        rulings: rulings.to_vec(),
+    };
+    let cases = [
+        (14, ruled([0, 0, 0, 0, 0, 1])),
+        (12, ruled([0, 0, 0, 1, 2, 1])),
+        (10, ruled([1, 1, 2, 1, 2, 1])),
+        (9, Ruled::Infeasible),
+    ];
+    for (ceiling, expected) in cases {
+        let got = rule(law, method, &four(), &[0; 4], ceiling);
+        let input = || format!("{method:?}, {:?}, ceiling {ceiling}", four());
+        tally.compare("rulings", input, &expected, &got)?;
+    }
+    Ok(())
+}
+
+fn searches(law: &Law, method: Method, tally: &mut Tally) -> Outcome {
+    let three = free(3, &[(1, 2, 1), (1, 3, 1), (2, 3, 1)]);
+    let cases = [
+        (four(), 12, Verdict::Cost(12), 5),
+        (four(), 11, Verdict::None, 3),
+        (free(3, &[]), 0, Verdict::None, 1),
+        (three.clone(), 3, Verdict::Cost(3), 1),
+        (three, 2, Verdict::None, 1),
+    ];
+    for (graph, ceiling, verdict, count) in cases {
+        let mut machine = Machine::new(law, method);
+        machine.call(&Call::Open {
+            graph: Box::new(graph.clone()),
+            multipliers: vec![0; graph.n],
+            ceiling,
+            sweeps: 0,
+            step: 0,
+        });
+        machine.call(&Call::Run { budget: u64::MAX });
+        let got = machine.call(&Call::Tell);
+        let input = || format!("{method:?}, {graph:?}, ceiling {ceiling}");
+        tally.compare("search", input, &Answer::Told { verdict, count }, &got)?;
+    }
+    Ok(())
+}
+
+/// "Due 999,999, step 10, three legs: 1,000,000."
+fn held(law: &Law, tally: &mut Tally) -> Outcome {
+    let graph = four();
+    let mut multipliers = [0, 0, 999_999, 0];
+    adjust(law, &graph, &[1, 1, 0, 1, 0, 1], 10, &mut multipliers);
+    let input = || "multiplier 999,999, step 10, three edges".to_string();
+    let expected = [0, 0, 1_000_000, -10];
+    tally.compare("multiplier held", input, &expected, &multipliers)
+}
+
+fn printed(law: &Law, tally: &mut Tally) -> Outcome {
+    let chart = write(law, &four(), 80).unwrap_or_default();
+    let input = |ceiling: i32| [&ceiling.to_le_bytes(), &chart[..]].concat();
+    let text = "bound 10 ceiling 12\n1 1-2 keep\n2 1-3 keep\n3 1-4 keep\n\
+                4 2-3 force\n5 2-4 bar\n6 3-4 force\n";
+    let mut damaged = input(60_000_000);
+    damaged[4 + 8 + 2 * 12 + 2] = 3;
+    let cases = [
+        (input(12), text, "cost 12\nnodes 5\n"),
+        (input(11), "", "none\nnodes 3\n"),
+        (input(9), "dead\n", "none\nnodes 1\n"),
+        (input(60_000_000), "refused 13 at 0\n", "refused 13 at 0\n"),
+        (damaged, "refused 8 at 3\n", "refused 8 at 3\n"),
+        (vec![1, 2, 3], "refused 1 at 0\n", "refused 1 at 0\n"),
+        (vec![0; 11], "refused 1 at 0\n", "refused 1 at 0\n"),
+    ];
+    for (bytes, rulings, search) in cases {
+        let shown = || crate::report::hex(&bytes);
+        if !rulings.is_empty() {
+            let got = programs::rulings(law, &bytes);
+            tally.compare("program rulings", shown, &rulings.to_string(), &got)?;
+        }
+        let got = programs::search(law, &bytes);
+        tally.compare("program hunt", shown, &search.to_string(), &got)?;
+    }
+    Ok(())
+}

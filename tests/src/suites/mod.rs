@@ -1,0 +1,64 @@
+//! The suites, in the order in which they run. Those of the first group need no library.
+
+use crate::report::Suite;
+
+pub mod calls;
+pub mod facts;
+pub mod own_charts;
+pub mod own_rulings;
+pub mod own_trees;
+pub mod searches;
+
+#[cfg(feature = "library")]
+pub mod check;
+#[cfg(feature = "library")]
+pub mod damage;
+#[cfg(feature = "library")]
+pub mod library_searches;
+#[cfg(feature = "rulings")]
+pub mod programs;
+#[cfg(feature = "library")]
+pub mod read;
+#[cfg(feature = "library")]
+pub mod records;
+#[cfg(feature = "library")]
+pub mod round_trips;
+#[cfg(feature = "library")]
+pub mod rule;
+#[cfg(feature = "library")]
+pub mod tree;
+#[cfg(feature = "library")]
+pub mod write;
+
+pub fn all() -> Vec<Suite> {
+    vec![
+        facts::SUITE,
+        own_charts::SUITE,
+        own_trees::SUITE,
+        own_rulings::SUITE,
+        searches::SUITE,
+        calls::SUITE,
+        #[cfg(feature = "library")]
+        check::SUITE,
+        #[cfg(feature = "library")]
+        read::SUITE,
+        #[cfg(feature = "library")]
+        write::SUITE,
+        #[cfg(feature = "library")]
+        round_trips::SUITE,
+        #[cfg(feature = "library")]
+        tree::SUITE,
+        #[cfg(feature = "library")]
+        rule::SUITE,
+        #[cfg(feature = "library")]
+        records::SUITE,
+        #[cfg(feature = "library")]
+        damage::SUITE,
+        #[cfg(feature = "library")]
+        library_searches::SUITE,
+        #[cfg(feature = "rulings")]
+        programs::RULINGS,
+        #[cfg(feature = "hunt")]
+        programs::HUNT,
+    ]
+}

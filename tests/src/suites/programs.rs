@@ -1,0 +1,122 @@
+//! The programs 'rulings' and 'hunt' in target/bin (PLANNER_BIN_DIR names another folder): what they
+//! print for an input.
+
+use super::own_rulings::turning_ceiling;
+use crate::bends;
+use crate::document::graph::Graph;
+use crate::document::law::Law;
+use crate::document::programs;
+use crate::files::{any_form, damage};
+use crate::generate;
+use crate::random::Random;
+use crate::report::{hex, Outcome, Suite, Tally};
+use std::env;
+use std::io::{self, Write};
+use std::path::PathBuf;
+use std::process::{Command, Stdio};
+
+/// Program 'rulings'.
+pub const RULINGS: Suite = Suite {
+    name: "program rulings",
+    run: run_rulings,
+    bends: &[
+        bends::HIGHER_CEILING,
+        bends::CEILING_NOT_WITHIN,
+        bends::LOWER_COST,
+    ],
+};
+
+/// Program 'hunt'.
+#[cfg(feature = "hunt")]
+pub const HUNT: Suite = Suite {
+    name: "program hunt",
+    run: run_hunt,
+    bends: &[bends::HIGHER_CEILING, bends::EXCLUDED_ON_TOP],
+};
+
+/// What a program prints when it is given these bytes.
+fn printed(name: &str, input: &[u8]) -> io::Result<String> {
+    let folder = match env::var_os("PLANNER_BIN_DIR") {
+        Some(folder) => PathBuf::from(folder),
+        None => PathBuf::from(env!("CARGO_MANIFEST_DIR")).join("../target/bin"),
+    };
+    let mut child = Command::new(folder.join(name))
+        .stdin(Stdio::piped())
+        .stdout(Stdio::piped())
+        .spawn()?;
+    if let Some(mut pipe) = child.stdin.take() {
+        // A program may answer before it has read everything.
+        let _ = pipe.write_all(input);
+    }
+    let output = child.wait_with_output()?;
+    Ok(String::from_utf8_lossy(&output.stdout).into_owned())
+}
+
+/// A ceiling and a chart; now and then damaged, cut short or with a ceiling out of range.
+fn input(random: &mut Random, graph: &Graph) -> Vec<u8> {
+    let zeros = vec![0; graph.n];
+    let ceiling = match random.below(12) {
+        0 => random.pick(&[50_000_001, -50_000_001, i32::MIN, i32::MAX]),
+        _ => turning_ceiling(random, graph, &zeros) as i32,
+    };
+    let mut chart = any_form(random, graph).bytes();
+    if random.one_in(5) {
+        damage(random, &mut chart);
+    }
+    let mut bytes = [&ceiling.to_le_bytes(), &chart[..]].concat();
+    if random.one_in(12) {
+        let most = if random.one_in(2) { 14 } else { bytes.len() };
+        let length = random.below(most);
+        bytes.truncate(length);
+    }
+    bytes
+}
+
+/// Compares what a program prints with what the reference says, on so many inputs.
+fn compare(
+    law: &Law,
+    tally: &mut Tally,
+    name: &'static str,
+    expected: fn(&Law, &[u8]) -> String,
+    rounds: usize,
+    largest: usize,
+) -> Outcome {
+    let random = &mut Random::new(0x7072_6f67_7261_6d73);
+    for round in 0..rounds {
+        let graph = match round % 3 {
+            0 if largest > 16 => generate::graph(random),
+            _ => generate::small_graph(random, 7, 16),
+        };
+        let bytes = input(random, &graph);
+        let got = printed(name, &bytes).unwrap_or_else(|error| error.to_string());
+        tally.compare(name, || hex(&bytes), &expected(law, &bytes), &got)?;
+    }
+    long_inputs(law, tally, name, expected, random)
+}
+
+/// Inputs longer than any chart: a valid one with bytes behind it, up to and past what a program reads.
+fn long_inputs(
+    law: &Law,
+    tally: &mut Tally,
+    name: &'static str,
+    expected: fn(&Law, &[u8]) -> String,
+    random: &mut Random,
+) -> Outcome {
+    for length in [12_011, 12_012, 12_013, 12_014, 12_024, 13_000, 70_000] {
+        let graph = generate::small_graph(random, 7, 16);
+        let mut bytes = input(random, &graph);
+        bytes.resize(length, 0);
+        let got = printed(name, &bytes).unwrap_or_else(|error| error.to_string());
+        tally.compare(name, || hex(&bytes), &expected(law, &bytes), &got)?;
+    }
+    Ok(())
+}
+
+fn run_rulings(law: &Law, tally: &mut Tally) -> Outcome {
+    compare(law, tally, "rulings", programs::rulings, 6000, 190)
+}
+
+#[cfg(feature = "hunt")]
+fn run_hunt(law: &Law, tally: &mut Tally) -> Outcome {
+    compare(law, tally, "hunt", programs::search, 6000, 16)
+}

@@ -1,0 +1,100 @@
+//! Whole lists of calls through the library, refused ones among them, against the reference machine: each answer, and after each call
+//! every byte of the record.
+
+use crate::bends;
+use crate::document::law::Law;
+use crate::document::machine::{Answer, Call, Machine, Verdict};
+use crate::document::tree::Method;
+use crate::ffi::searches::{Reply, ACCEPTED, BEST, FINISHED, GOING_ON, NO_TOUR};
+use crate::generate;
+use crate::random::Random;
+use crate::record::Record;
+use crate::report::{Outcome, Suite, Tally};
+
+pub const SUITE: Suite = Suite {
+    name: "records",
+    run,
+    bends: &[
+        bends::EXCLUDED_ON_TOP,
+        bends::MULTIPLIERS_NOT_RESET,
+        bends::MULTIPLIERS_NOT_HELD,
+        bends::MARKS_FROM_BELOW,
+        bends::UPPER_AT_COST,
+        bends::UPPER_NOT_LOWERED,
+        bends::MORE_SWEEPS,
+        bends::LARGER_STEP,
+        bends::HIGHER_CEILING,
+        bends::FIRST_MULTIPLIER_FREE,
+        bends::LENGTH_BEFORE_RECORD,
+        bends::HIGHER_NUMBERED_FIRST,
+    ],
+};
+
+/// What the library says where the machine answers so.
+pub fn reply(answer: &Answer) -> Reply {
+    let (number, value, nodes) = match answer {
+        Answer::Refused(refusal) => (refusal.number, None, None),
+        Answer::Accepted | Answer::Shown(_) => (ACCEPTED, None, None),
+        Answer::Ran { finished, count } => (
+            if *finished { FINISHED } else { GOING_ON },
+            None,
+            Some(*count),
+        ),
+        Answer::Told { verdict, count } => match verdict {
+            Verdict::GoingOn => (GOING_ON, None, Some(*count)),
+            Verdict::None => (NO_TOUR, None, Some(*count)),
+            Verdict::Cost(cost) => (BEST, Some(*cost), Some(*count)),
+        },
+    };
+    let out = match answer {
+        Answer::Shown(edges) if !edges.is_empty() => Some(edges.clone()),
+        _ => None,
+    };
+    Reply {
+        number,
+        place: 0,
+        value,
+        nodes,
+        out,
+        margins_kept: true,
+    }
+}
+
+/// Budgets 0, 1 and the greatest come up too; a list is no longer than memory has room for.
+fn vary(random: &mut Random, list: &mut [Call]) {
+    for call in list {
+        match call {
+            Call::Run { budget } if random.one_in(4) => {
+                *budget = random.pick(&[0, 1, 2, u64::MAX]);
+            }
+            Call::Show { length } => *length = (*length).min(3_000),
+            _ => {}
+        }
+    }
+}
+
+fn run(law: &Law, tally: &mut Tally) -> Outcome {
+    let random = &mut Random::new(0x0072_6563_6f72_6473);
+    for round in 0..4_000 {
+        let (vertices, most) = if round % 4 == 0 { (7, 14) } else { (5, 10) };
+        let mut list = generate::calls(random, vertices, most);
+        vary(random, &mut list);
+        let mut machine = Machine::new(law, Method::Kruskal);
+        let mut record = Record::made_fresh();
+        tally.compare(
+            "fresh",
+            || "a fresh record".to_string(),
+            &Record::fresh(),
+            &record,
+        )?;
+        for (i, call) in list.iter().enumerate() {
+            let input = || format!("the first {} of {list:?}", i + 1);
+            let expected = reply(&machine.call(call));
+            let got = record.call(call);
+            tally.compare("answer", input, &expected, &got)?;
+            tally.compare("record", input, &Record::of(&machine.search), &record)?;
+            tally.compare("passes its check", input, &true, &record.passes(law))?;
+        }
+    }
+    Ok(())
+}

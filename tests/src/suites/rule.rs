@@ -1,0 +1,112 @@
+//! The rule call: against all 1-trees on small graphs, on larger ones against each edge marked and
+//! the tree found again.
+
+use super::own_rulings::turning_ceiling;
+use super::own_trees::graph_for;
+use crate::bends;
+use crate::document::graph::Graph;
+use crate::document::law::Law;
+use crate::document::rulings::{self, Ruled};
+use crate::document::tree::Method;
+use crate::ffi::trees::{rule, BoundReply, NONE};
+use crate::generate::{self, MAX};
+use crate::random::Random;
+use crate::report::{Outcome, Suite, Tally};
+
+pub const SUITE: Suite = Suite {
+    name: "rule",
+    run,
+    bends: &[
+        bends::CEILING_NOT_WITHIN,
+        bends::REQUIRED_SWAPPED_OUT,
+        bends::MULTIPLIERS_OFF_ONCE,
+        bends::HIGHER_CEILING,
+        bends::HIGHER_MULTIPLIER,
+        bends::LENGTH_BEFORE_VALUE,
+    ],
+};
+
+struct Arguments {
+    graph: Graph,
+    multipliers: Vec<i32>,
+    ceiling: i64,
+    length: usize,
+}
+
+fn expected(law: &Law, method: Method, given: &Arguments) -> BoundReply {
+    let Arguments {
+        graph,
+        multipliers,
+        ceiling,
+        length,
+    } = given;
+    let ruled = rulings::call(law, method, graph, multipliers, *ceiling, *length);
+    let (number, bound, out) = match ruled {
+        Ok(Ruled::Bound { bound, rulings }) => (0, Some(bound), Some(rulings)),
+        Ok(Ruled::Infeasible) => (NONE, None, None),
+        Err(refusal) => (refusal.number, None, None),
+    };
+    BoundReply {
+        number,
+        bound,
+        out,
+        margins_kept: true,
+    }
+}
+
+fn arguments(random: &mut Random, small: bool, wrong: bool) -> Arguments {
+    let mut graph = graph_for(random, small);
+    let mut multipliers = generate::multipliers(random, graph.n);
+    let mut ceiling = turning_ceiling(random, &graph, &multipliers);
+    let mut length = graph.m;
+    if random.one_in(2) {
+        generate::junk_past_m(random, &mut graph);
+    }
+    for _ in 0..if wrong { 1 + random.below(2) } else { 0 } {
+        match random.below(5) {
+            0 => generate::break_value(random, &mut graph),
+            1 => multipliers.resize(generate::length(random, graph.n.min(30), true), 0),
+            2 => generate::break_multipliers(random, &mut multipliers),
+            3 => ceiling = random.pick(&[50 * MAX + 1, -50 * MAX - 1, i64::MAX, i64::MIN]),
+            _ => length = generate::length(random, length, true),
+        }
+    }
+    Arguments {
+        graph,
+        multipliers,
+        ceiling,
+        length,
+    }
+}
+
+fn run(law: &Law, tally: &mut Tally) -> Outcome {
+    let random = &mut Random::new(0x7275_6c65);
+    for round in 0..24_000 {
+        let small = round % 4 != 0;
+        let wrong = round % 6 >= 4;
+        let given = arguments(random, small, wrong);
+        let input = || {
+            format!(
+                "{:?}, multipliers {:?}, ceiling {}, a list of {} bytes",
+                given.graph, given.multipliers, given.ceiling, given.length
+            )
+        };
+        let reply = rule(
+            &given.graph,
+            &given.multipliers,
+            given.ceiling,
+            given.length,
+        );
+        let small = small && given.graph.m <= 16;
+        let methods = if small {
+            &[Method::Definition, Method::Kruskal][..]
+        } else {
+            &[Method::Kruskal][..]
+        };
+        for method in methods {
+            let wanted = expected(law, *method, &given);
+            tally.compare(&format!("{method:?}"), input, &wanted, &reply)?;
+        }
+    }
+    Ok(())
+}

@@ -38,40 +38,40 @@ use Rattle.onetree.specs.declared.rooted.Rooting.{Rooting}
 
 -- ---- at vertex 1
 
-abbrev pub NearIn : Graph → List ℕ → ℕ → Type 0
-NearIn g w k = (aAt g k ≡ 1) × (markAt g k ≡ 0) × (getD w k 0 ≡ 1)
+abbrev pub NearIn : List ℕ → List ℕ → List ℕ → ℕ → Type 0
+NearIn a mark w k = (getD a k 0 ≡ 1) × (getD mark k 0 ≡ 0) × (getD w k 0 ≡ 1)
 
-abbrev pub NearOut : Graph → List ℕ → ℕ → Type 0
-NearOut g w k = (aAt g k ≡ 1) × (markAt g k ≡ 0) × (getD w k 0 ≢ 1)
+abbrev pub NearOut : List ℕ → List ℕ → List ℕ → ℕ → Type 0
+NearOut a mark w k = (getD a k 0 ≡ 1) × (getD mark k 0 ≡ 0) × (getD w k 0 ≢ 1)
 
 -- the dearest of those in the tree and the cheapest of those outside it, among the first n
-pub record NearIs (g : Graph) (w c : List ℕ) (dearest cheapest n : ℕ) : Type 0 where
-  pub dear : Largest (NearIn g w) (chargeAt c) n dearest
-  pub cheap : Least (NearOut g w) (chargeAt c) noCharge n cheapest
+pub record NearIs (a mark w c : List ℕ) (dearest cheapest n : ℕ) : Type 0 where
+  pub dear : Largest (NearIn a mark w) (chargeAt c) n dearest
+  pub cheap : Least (NearOut a mark w) (chargeAt c) noCharge n cheapest
 
-pub near-none : (g : Graph) (w c : List ℕ) → NearIs g w c 0 noCharge 0
-near-none g w c = record { dear = largest-none (NearIn g w) (chargeAt c); cheap = least-none (NearOut g w) (chargeAt c) noCharge }
+pub near-none : (a mark w c : List ℕ) → NearIs a mark w c 0 noCharge 0
+near-none a mark w c = record { dear = largest-none (NearIn a mark w) (chargeAt c); cheap = least-none (NearOut a mark w) (chargeAt c) noCharge }
 
-module _ (g : Graph) (w c : List ℕ) (dearest cheapest n : ℕ) (h : NearIs g w c dearest cheapest n) where
-  pub near-skip : (aAt g n ≡ 1 → markAt g n ≡ 0 → ⊥) → NearIs g w c dearest cheapest (n + 1)
+module _ (a mark w c : List ℕ) (dearest cheapest n : ℕ) (h : NearIs a mark w c dearest cheapest n) where
+  pub near-skip : (getD a n 0 ≡ 1 → getD mark n 0 ≡ 0 → ⊥) → NearIs a mark w c dearest cheapest (n + 1)
   near-skip f = record {
-    dear = largest-skip (NearIn g w) (chargeAt c) n dearest (h .dear) (λ p. f (p .0) (p .1));
-    cheap = least-skip (NearOut g w) (chargeAt c) noCharge n cheapest (h .cheap) (λ p. f (p .0) (p .1));
+    dear = largest-skip (NearIn a mark w) (chargeAt c) n dearest (h .dear) (λ p. f (p .0) (p .1));
+    cheap = least-skip (NearOut a mark w) (chargeAt c) noCharge n cheapest (h .cheap) (λ p. f (p .0) (p .1));
   }
 
-  module _ (one : aAt g n ≡ 1) (free : markAt g n ≡ 0) where
+  module _ (one : getD a n 0 ≡ 1) (free : getD mark n 0 ≡ 0) where
     pub near-in : (x : ℕ) → getD w n 0 ≡ 1 → dearest ≤ x → chargeAt c n ≤ x → (x ≡ dearest) ⊎ (x ≡ chargeAt c n)
-        → NearIs g w c x cheapest (n + 1)
-    near-in x e a b q = record {
-      dear = largest-more (NearIn g w) (chargeAt c) n dearest x (h .dear) (one, free, e) a b q;
-      cheap = least-skip (NearOut g w) (chargeAt c) noCharge n cheapest (h .cheap) (λ p. p .2 e);
+        → NearIs a mark w c x cheapest (n + 1)
+    near-in x e l r q = record {
+      dear = largest-more (NearIn a mark w) (chargeAt c) n dearest x (h .dear) (one, free, e) l r q;
+      cheap = least-skip (NearOut a mark w) (chargeAt c) noCharge n cheapest (h .cheap) (λ p. p .2 e);
     }
 
     pub near-out : (x : ℕ) → getD w n 0 ≢ 1 → x ≤ cheapest → x ≤ chargeAt c n → (x ≡ cheapest) ⊎ (x ≡ chargeAt c n)
-        → NearIs g w c dearest x (n + 1)
-    near-out x e a b q = record {
-      dear = largest-skip (NearIn g w) (chargeAt c) n dearest (h .dear) (λ p. e (p .2));
-      cheap = least-more (NearOut g w) (chargeAt c) noCharge n cheapest x (h .cheap) (one, free, e) a b q;
+        → NearIs a mark w c dearest x (n + 1)
+    near-out x e l r q = record {
+      dear = largest-skip (NearIn a mark w) (chargeAt c) n dearest (h .dear) (λ p. e (p .2));
+      cheap = least-more (NearOut a mark w) (chargeAt c) noCharge n cheapest x (h .cheap) (one, free, e) l r q;
     }
 
 -- ---- weights on the circle
@@ -80,8 +80,8 @@ unfoldable pub weightOf : ℕ → ℕ → ℕ
 weightOf mark c = cond (eqb mark 1) 0 c
 
 -- of the edge above v
-abbrev pub weightAt : Graph → List ℕ → List ℕ → ℕ → ℕ
-weightAt g c edge v = weightOf (markAt g (getD edge v 0)) (chargeAt c (getD edge v 0))
+abbrev pub weightAt : List ℕ → List ℕ → List ℕ → ℕ → ℕ
+weightAt mark c edge v = weightOf (getD mark (getD edge v 0) 0) (chargeAt c (getD edge v 0))
 
 weight-required : (mark c : ℕ) → mark ≡ 1 → weightOf mark c ≡ 0
 unfolding weightOf
@@ -106,13 +106,13 @@ place-near g r i k (inr p) e = absurd (p .0 e)
 -- ---- the edge at place k is at vertex 1
 
 module _ (g : Graph) (w c : List ℕ) (r : Rooting) (k : ℕ) (one : aAt g k ≡ 1) (free : markAt g k ≡ 0) where
-  pub near-gives : (x : ℕ) → Largest (NearIn g w) (chargeAt c) (g .m) x → Largest (Gives g w r k) (chargeAt c) (g .m) x
-  near-gives x = largest-as (NearIn g w) (Gives g w r k) (chargeAt c) (g .m) x
+  pub near-gives : (x : ℕ) → Largest (NearIn (g .a) (g .mark) w) (chargeAt c) (g .m) x → Largest (Gives g w r k) (chargeAt c) (g .m) x
+  near-gives x = largest-as (NearIn (g .a) (g .mark) w) (Gives g w r k) (chargeAt c) (g .m) x
       (λ i h p. (p .2, record { loose = p .1; allowed = free; place = inl (p .0, one) }))
       (λ i h p. (near-place g r i k (p .1 .place) one, p .1 .loose, p .0))
 
-  pub near-comes : (x : ℕ) → Least (NearOut g w) (chargeAt c) noCharge (g .m) x → Least (Comes g w r k) (chargeAt c) noCharge (g .m) x
-  near-comes x = least-as (NearOut g w) (Comes g w r k) (chargeAt c) (g .m) x
+  pub near-comes : (x : ℕ) → Least (NearOut (g .a) (g .mark) w) (chargeAt c) noCharge (g .m) x → Least (Comes g w r k) (chargeAt c) noCharge (g .m) x
+  near-comes x = least-as (NearOut (g .a) (g .mark) w) (Comes g w r k) (chargeAt c) (g .m) x
       (λ i h p. (p .2, record { loose = free; allowed = p .1; place = inl (one, p .0) }))
       (λ i h p. (place-near g r k i (p .1 .place) one, p .1 .allowed, p .0)) noCharge
 
@@ -124,19 +124,19 @@ module _ (g : Graph) (v : value.Valid g) (w c : List ℕ) (o : OneTree (network 
   on-circle i (inl p) = absurd (away (p .1))
   on-circle i (inr p) = p .2
 
-  pub far-gives : (weight old rep : List ℕ) (x y : ℕ) → Filled (weightAt g c (r .edge)) 3 weight (g .n + 1)
+  pub far-gives : (weight old rep : List ℕ) (x y : ℕ) → Filled (weightAt (g .mark) c (r .edge)) 3 weight (g .n + 1)
       → Climbed (shape (r .parent) (r .depth)) (λ u. getD weight u 0) old y (aAt g k) (bAt g k) x rep
       → Largest (Gives g w r k) (chargeAt c) (g .m) x
   unfolding network
   far-gives weight old rep x y f m = record { all = λ i h p. most i p (on-circle i (p .1 .place)); best = go (m .best) }
     where
-      weighs : (u : ℕ) → Below r u → getD weight u 0 ≡ weightAt g c (r .edge) u
+      weighs : (u : ℕ) → Below r u → getD weight u 0 ≡ weightAt (g .mark) c (r .edge) u
       weighs u b = f .done u (b .0) (omega (arith, t .only u (b .1)))
 
       most : (i : ℕ) → Gives g w r k i → (u : ℕ) × Below r u × (edgeAt r u ≡ i) × Through g r u k → chargeAt c i ≤ x
       most i p u = omega (arith, m .passed (u .0) (u .3) .0, weighs (u .0) (u .1), same)
         where
-          same : weightAt g c (r .edge) (u .0) ≡ chargeAt c i
+          same : weightAt (g .mark) c (r .edge) (u .0) ≡ chargeAt c i
           same = rw (u .2) (weight-other (markAt g i) (chargeAt c i) (λ e. omega (arith, p .1 .loose)))
 
       go : Reached (shape (r .parent) (r .depth)) (λ u. getD weight u 0) (aAt g k) (bAt g k) x → Taken (Gives g w r k) (chargeAt c) 0
@@ -150,7 +150,7 @@ module _ (g : Graph) (v : value.Valid g) (w c : List ℕ) (o : OneTree (network 
           at : (edgeAt r (q .0) < g .m) × (getD w (edgeAt r (q .0)) 0 ≡ 1) × (aAt g (edgeAt r (q .0)) ≢ 1)
           at = over-in g v w o r t (q .0) (q .1)
 
-          is : weightAt g c (r .edge) (q .0) ≡ x
+          is : weightAt (g .mark) c (r .edge) (q .0) ≡ x
           is = sym (weighs (q .0) (q .1)) ∙ q .3
 
           pick : Dec (markAt g (edgeAt r (q .0)) ≡ 1) → Taken (Gives g w r k) (chargeAt c) 0 (g .m) x

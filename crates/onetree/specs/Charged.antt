@@ -28,13 +28,9 @@ pub record ChargeAt (g : Graph) (d : List ℤ) (k x : ℕ) : Type 0 where
   pub low : 1 ≤ x
   pub high : x ≤ maxCharge
 
--- the first n places of c have the charges of the first n edges
-abbrev pub ChargedTo : Graph → List ℤ → List ℕ → ℕ → Type 0
-ChargedTo g d c n = (k : ℕ) → k < n → ChargeAt g d k (getD c k 0)
-
--- all edges
+-- c has the charges of all edges
 abbrev pub Charged : Graph → List ℤ → List ℕ → Type 0
-Charged g d c = ChargedTo g d c (g .m)
+Charged g d c = (k : ℕ) → k < g .m → ChargeAt g d k (getD c k 0)
 
 -- as the laws of bounds want it
 pub offs : (g : Graph) (d : List ℤ) (c : List ℕ) → Charged g d c → Shifted (network g) (multiplier d) offset (entry c)

@@ -15,6 +15,7 @@ use Rattle.lists.specs.Select.{select}
 use Rattle.lists.specs.Numbers.{upTo}
 use Rattle.lists.specs.Weights.{weight}
 use Rattle.integers.specs.Parts.{IsDiff, up, dn, add-parts, diff-one, diff-add}
+use Rattle.integers.specs.Range.{InRange}
 use Rattle.integers.specs.Sums.{sumZ, twice}
 use Rattle.graph.specs.declared.Graph.{Graph}
 use Rattle.graph.specs.Limits.{maxCost, maxMultiplier}
@@ -26,7 +27,7 @@ use Rattle.onetree.specs.Inputs.{multiplier}
 use Rattle.onetree.specs.Link.{to-parts}
 use Rattle.onetree.specs.Bound.{bound-diff}
 use Rattle.onetree.specs.Arrays.{entry, bytes, network-valid}
-use Rattle.onetree.specs.Charged.{offset, maxCharge, ChargeAt, ChargedTo, Charged, offs}
+use Rattle.onetree.specs.Charged.{offset, maxCharge, Charged, offs}
 
 -- ---- the array of charges
 
@@ -34,20 +35,39 @@ pub raise-three : (x y z : ℤ) (a b c : ℕ) → IsDiff x a maxCost → IsDiff 
     → IsDiff ((x +ℤ y) +ℤ z) (a + b + c + 1) offset
 raise-three x y z a b c h k l = omega (arith, add-parts x y, add-parts (x +ℤ y) z)
 
--- one more place
-pub charged-more : (g : Graph) (d : List ℤ) (c : List ℕ) (n x : ℕ) → n < length c → n < g .m → ChargedTo g d c n
-    → IsDiff ((getD (g .cost) n (pos 0) +ℤ multiplier d (getD (g .a) n 0)) +ℤ multiplier d (getD (g .b) n 0)) x offset
-    × (1 ≤ x) × (x ≤ maxCharge)
-    → ChargedTo g d (set c n x) (n + 1)
-unfolding charge
-charged-more g d c n x room h t new k l = at (ℕ-discrete k n)
-  where
-    this : ChargeAt g d n x
-    this = record { is = rw (network-a g n h, network-b g n h, network-cost g n h) (new .0); low = new .1; high = new .2 }
+-- an edge that can be charged: its ends are among n vertices
+abbrev pub Chargeable : ℕ → ℕ → ℕ → ℤ → Type 0
+Chargeable n a b cost = (1 ≤ a) × (a ≤ n) × (1 ≤ b) × (b ≤ n) × InRange maxCost cost
 
-    at : Dec (k ≡ n) → ChargeAt g d k (getD (set c n x) k 0)
-    at (yes e) = rw (e, getD-set-same c n x 0 room) this
+-- x is the charge at ends a, b
+abbrev pub ChargeOf : ℕ → ℕ → ℤ → List ℤ → ℕ → Type 0
+ChargeOf a b cost d x = IsDiff ((cost +ℤ multiplier d a) +ℤ multiplier d b) x offset × (1 ≤ x) × (x ≤ maxCharge)
+
+-- the first n places of c have the charges of the edges with those ends and costs
+abbrev pub ChargesOf : List ℕ → List ℕ → List ℤ → List ℤ → List ℕ → ℕ → Type 0
+ChargesOf a b cost d c n = (k : ℕ) → k < n → ChargeOf (getD a k 0) (getD b k 0) (getD cost k (pos 0)) d (getD c k 0)
+
+-- one more place
+pub charges-more : (a b : List ℕ) (cost d : List ℤ) (c : List ℕ) (n x : ℕ) → n < length c → ChargesOf a b cost d c n
+    → ChargeOf (getD a n 0) (getD b n 0) (getD cost n (pos 0)) d x → ChargesOf a b cost d (set c n x) (n + 1)
+charges-more a b cost d c n x room t new k l = at (ℕ-discrete k n)
+  where
+    at : Dec (k ≡ n) → ChargeOf (getD a k 0) (getD b k 0) (getD cost k (pos 0)) d (getD (set c n x) k 0)
+    at (yes e) = rw (e, getD-set-same c n x 0 room) new
     at (no e) = rw (getD-set-other c n k x 0 e) (t k (omega arith))
+
+-- of a graph's edges
+pub charged-of : (g : Graph) (d : List ℤ) (c : List ℕ) → ChargesOf (g .a) (g .b) (g .cost) d c (g .m) → Charged g d c
+unfolding charge
+charged-of g d c t k h =
+    let x = t k h in
+    record { is = rw (network-a g k h, network-b g k h, network-cost g k h) (x .0); low = x .1; high = x .2 }
+
+pub chargeable : (g : Graph) (n : ℕ) → value.Valid g → n ≡ g .n
+    → (k : ℕ) → k < g .m → Chargeable n (getD (g .a) k 0) (getD (g .b) k 0) (getD (g .cost) k (pos 0))
+chargeable g n v e k h =
+    let x = v .each k h in
+    (x .from, omega (arith, x .less, x .to), omega (arith, x .from, x .less), omega (arith, x .to), x .range)
 
 -- ---- the edges that are in, one more
 

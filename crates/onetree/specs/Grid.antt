@@ -1,8 +1,7 @@
--- A table of numbers: a list of rows, with a write of one cell, and of a cell and the one across the diagonal. Assumes nothing.
+-- A table of numbers: a list of rows, with a write of one cell. Assumes nothing.
 use mathlib.Core.Path.{_≡_, refl, _∙_, ap}
-use mathlib.Core.Logic.{_⊎_, inl, inr}
 use mathlib.Core.List.{List, []}
-use Prim.Native.Nat.{ℕ, zero, suc, _-_, _<_, _≤_}
+use Prim.Native.Nat.{ℕ, zero, suc, _<_}
 use native.Mathlib.Omega.{arith}
 use native.Mathlib.Decide.{ℕ-discrete}
 use lib.ListN.{length, getD, set, length-set, replicate, length-replicate}
@@ -68,60 +67,3 @@ unfolding cell
 zero-cell m zero i j = refl
 zero-cell m (suc n) zero j = zeros m j
 zero-cell m (suc n) (suc i) j = zero-cell m n i j
-
--- ---- the table of vertices, which count from 1
-
-abbrev pub across : List (List ℕ) → ℕ → ℕ → ℕ
-across t x y = cell t (x - 1) (y - 1)
-
--- v is put at (a, b) and at (b, a)
-unfoldable pub link : List (List ℕ) → ℕ → ℕ → ℕ → List (List ℕ)
-link t a b v = put (put t (a - 1) (b - 1) v) (b - 1) (a - 1) v
-
-abbrev pub Pair : ℕ → ℕ → ℕ → ℕ → Type 0
-Pair a b x y = ((a ≡ x) × (b ≡ y)) ⊎ ((a ≡ y) × (b ≡ x))
-
-module _ (n : ℕ) (t : List (List ℕ)) (a b v : ℕ) (s : Square n t) (la : 1 ≤ a) (ab : a < b) (hb : b ≤ n) where
-  once : Square n (put t (a - 1) (b - 1) v)
-  once = put-square n t (a - 1) (b - 1) v s (omega arith) (omega arith)
-
-  pub link-square : Square n (link t a b v)
-  unfolding link
-  link-square = put-square n (put t (a - 1) (b - 1) v) (b - 1) (a - 1) v once (omega arith) (omega arith)
-
-  there : across (link t a b v) a b ≡ v
-  unfolding link
-  there =
-      put-other n (put t (a - 1) (b - 1) v) (b - 1) (a - 1) v once (omega arith) (omega arith) (a - 1) (b - 1) (λ e. omega (arith, e .0))
-      ∙ put-same n t (a - 1) (b - 1) v s (omega arith) (omega arith)
-
-  back : across (link t a b v) b a ≡ v
-  unfolding link
-  back = put-same n (put t (a - 1) (b - 1) v) (b - 1) (a - 1) v once (omega arith) (omega arith)
-
-  other : (x y : ℕ) → 1 ≤ x → 1 ≤ y → ((x ≡ a) × (y ≡ b) → ⊥) → ((x ≡ b) × (y ≡ a) → ⊥)
-      → across (link t a b v) x y ≡ across t x y
-  unfolding link
-  other x y hx hy f g =
-      put-other n (put t (a - 1) (b - 1) v) (b - 1) (a - 1) v once (omega arith) (omega arith) (x - 1) (y - 1)
-      (λ e. g (omega (arith, e .0), omega (arith, e .1)))
-      ∙ put-other n t (a - 1) (b - 1) v s (omega arith) (omega arith) (x - 1) (y - 1)
-      (λ e. f (omega (arith, e .0), omega (arith, e .1)))
-
-  -- a cell then has v, if it is that of the pair, or what it had
-  pub link-cell : (x y : ℕ) → 1 ≤ x → 1 ≤ y
-      → ((across (link t a b v) x y ≡ v) × Pair a b x y) ⊎ (across (link t a b v) x y ≡ across t x y)
-  link-cell x y hx hy = go (ℕ-discrete x a) (ℕ-discrete y b) (ℕ-discrete x b) (ℕ-discrete y a)
-    where
-      go : Dec (x ≡ a) → Dec (y ≡ b) → Dec (x ≡ b) → Dec (y ≡ a)
-          → ((across (link t a b v) x y ≡ v) × Pair a b x y) ⊎ (across (link t a b v) x y ≡ across t x y)
-      go (yes p) (yes q) r u = inl (rw (p, q) there, rw (p, q) (inl (refl, refl)))
-      go (yes p) (no q) r u = inr (other x y hx hy (λ z. q (z .1)) (λ z. omega (arith, z .0)))
-      go (no p) q (yes r) (yes u) = inl (rw (r, u) back, rw (r, u) (inr (refl, refl)))
-      go (no p) q (yes r) (no u) = inr (other x y hx hy (λ z. p (z .0)) (λ z. u (z .1)))
-      go (no p) q (no r) u = inr (other x y hx hy (λ z. p (z .0)) (λ z. r (z .0)))
-
-  -- that of the pair has v
-  pub link-pair : (x y : ℕ) → Pair a b x y → across (link t a b v) x y ≡ v
-  link-pair x y (inl p) = rw (← p .0, ← p .1) there
-  link-pair x y (inr p) = rw (← p .0, ← p .1) back

@@ -29,8 +29,8 @@ pub record Ready (g : Graph) (w c : List ℕ) (r : Rooting) (weight : List ℕ) 
   pub valid : value.Valid g
   pub tree : OneTree (network g) (bytes w)
   pub rooted : RootedIn g w r
-  pub weights : Filled (weightAt g c (r .edge)) 3 weight (g .n + 1)
-  pub near : Largest (NearIn g w) (chargeAt c) (g .m) dearest
+  pub weights : Filled (weightAt (g .mark) c (r .edge)) 3 weight (g .n + 1)
+  pub near : Largest (NearIn (g .a) (g .mark) w) (chargeAt c) (g .m) dearest
 
 -- the tree in three lists
 abbrev pub hung : List ℕ → List ℕ → List ℕ → Rooting

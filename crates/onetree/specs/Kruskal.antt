@@ -33,9 +33,13 @@ use Rattle.onetree.specs.Keys.{Keyed, queued}
 use Rattle.onetree.specs.Growth.{Grew, nearOf, farOf, nearTaken, farTaken}
 use Rattle.onetree.specs.Queue.{Placed, requiredOf, freeOf, placed, Queued, in-order}
 
--- every required edge is in
+-- of the first m edges every required one is in
+abbrev pub KeptBy : List ℕ → ℕ → List ℕ → Type 0
+KeptBy marks m w = (k : ℕ) → k < m → getD marks k 0 ≡ 1 → getD w k 0 ≡ 1
+
+-- of a graph's
 abbrev pub Kept : Graph → List ℕ → Type 0
-Kept g w = (k : ℕ) → k < g .m → getD (g .mark) k 0 ≡ 1 → getD w k 0 ≡ 1
+Kept g w = KeptBy (g .mark) (g .m) w
 
 -- the edges taken were looked at, each as one of its kind
 near-looked : (g : Graph) (es : List ℕ) (e : ℕ) → e ∈ nearTaken (network g) es → (e ∈ es) × (isNear (network g) e ≡ true)

@@ -36,6 +36,8 @@ pub mod Found
 pub mod Sorting
 pub mod Falling
 pub mod Keys
+pub mod Making
+pub mod Looks
 pub mod Growth
 pub mod Turn
 pub mod Relabelling

@@ -1,4 +1,4 @@
--- A 1-tree's far edges, hung from its table, are a rooted tree: every vertex hangs, since a 1-tree connects it to vertex 2; and the edges
+-- A 1-tree's far edges, hung from their lists, are a rooted tree: every vertex hangs, since a 1-tree connects it to vertex 2; and the edges
 -- above the vertices are all the far edges, since there are as many. Assumes nothing.
 use mathlib.Core.Path.{_≡_, refl, _∙_, sym, ap, subst}
 use mathlib.Core.Logic.{_≢_, inl, inr}
@@ -23,10 +23,10 @@ use Rattle.onetree.specs.OneTree.{OneTree, away}
 use Rattle.onetree.specs.Valid.{isNear, isExcluded, far, far-in, in-far, in-others}
 use Rattle.onetree.specs.Link.{Parts, to-parts, away-is}
 use Rattle.onetree.specs.Arrays.{bytes, edge-of, of-edge, network-valid}
-use Rattle.onetree.specs.Grid.{across}
-use Rattle.onetree.specs.TreeTable.{Table, Inner, Between}
+use Rattle.onetree.specs.Grid.{cell}
+use Rattle.onetree.specs.TreeTable.{Lists, Inner, End, listed}
 use Rattle.onetree.specs.Hanging.{Shape, Child}
-use Rattle.onetree.specs.Visiting.{Hung, Among, Complete, parentAt, depthAt, edgeAt}
+use Rattle.onetree.specs.Visiting.{Rows, Leads, Joined, opposite, Hung, Among, Complete, parentAt, depthAt, edgeAt}
 use Rattle.onetree.specs.Rooted.{Rooted, Joins, one-vertex}
 use Rattle.onetree.specs.declared.rooted.Rooting.{Rooting}
 
@@ -64,8 +64,31 @@ unfolding over
 over-length r zero = refl
 over-length r (suc j) = ap suc (over-length r j)
 
-module _ (g : Graph) (v : value.Valid g) (w : List ℕ) (o : OneTree (network g) (bytes w)) (t : List (List ℕ)) (table : Table g w t (g .m))
-    (r : Rooting) (h : Hung t (g .n) r 22) (complete : Complete t (g .n) r) where
+-- the lists of a 1-tree's edges can be walked
+pub walkable : (g : Graph) (w : List ℕ) (t : List (List ℕ)) → value.Valid g → Lists g w t → Rows (g .a) (g .b) (g .n) t
+unfolding cell
+walkable g w t v table = record { leading = λ x a i f. leads x (table .only x i a f); stops = table .stops }
+  where
+    leads : (x : ℕ) {i : ℕ} → (k : ℕ) × (k < g .m) × (i ≡ suc k) × Inner g w k × End g k x → Leads (g .a) (g .b) (g .n) x (i - 1)
+    leads x q = subst (λ (k : ℕ). Leads (g .a) (g .b) (g .n) x k) (omega (arith, q .2)) (go (q .4))
+      where
+        edge : value.EdgeAt g (q .0)
+        edge = v .each (q .0) (q .1)
+
+        go : End g (q .0) x → Leads (g .a) (g .b) (g .n) x (q .0)
+        go (inl p) = record {
+          room = omega (arith, q .1, v .few);
+          joins = inl (p, omega (arith, p));
+          among = (omega (arith, p, edge .from, edge .less), omega (arith, p, edge .to));
+        }
+        go (inr p) = record {
+          room = omega (arith, q .1, v .few);
+          joins = inr (omega (arith, p), p);
+          among = (omega (arith, p, edge .from, q .3 .far), omega (arith, p, edge .less, edge .to));
+        }
+
+module _ (g : Graph) (v : value.Valid g) (w : List ℕ) (o : OneTree (network g) (bytes w)) (t : List (List ℕ)) (table : Lists g w t)
+    (r : Rooting) (h : Hung (g .a) (g .b) t (g .n) r) (complete : Complete (g .a) (g .b) t r) where
   parts : Parts (network g) (bytes w)
   parts = to-parts (network g) (network-valid g v) (bytes w) o
 
@@ -101,6 +124,15 @@ module _ (g : Graph) (v : value.Valid g) (w : List ℕ) (o : OneTree (network g)
       chosen : getD w (q .0) 0 ≡ 1
       chosen = eqb-true (getD w (q .0) 0) 1 (subst (λ (x : ℕ). bytes w x ≡ true) (q .2) (i .1))
 
+  -- with one end of it hangs the other
+  across : (k x y : ℕ) → k < g .m → Inner g w k → 1 ≤ x → End g k x → opposite (g .a) (g .b) x k ≡ y → 1 ≤ depthAt r x → 1 ≤ depthAt r y
+  across k x y hk i lx e f d =
+      subst (λ (z : ℕ). 1 ≤ depthAt r z) (ap (opposite (g .a) (g .b) x) (omega (arith, s .1)) ∙ f)
+      (complete x (s .0) d (λ j l. table .packed x (s .0) j lx (λ z. omega (arith, s .1)) l))
+    where
+      s : (j : ℕ) × (listed t x j ≡ suc k)
+      s = table .all k hk i x e
+
   pub reached : (u : ℕ) → Among (g .n) u → 1 ≤ depthAt r u
   unfolding network
   reached u i = omega (arith, h .root, walk-respects (network g .a) (network g .b) (λ x. min 1 (depthAt r x)) keeps walk)
@@ -114,8 +146,8 @@ module _ (g : Graph) (v : value.Valid g) (w : List ℕ) (o : OneTree (network g)
           go : (k : ℕ) × (k < g .m) × (e ≡ suc k) × Inner g w k
               → min 1 (depthAt r (network g .a e)) ≡ min 1 (depthAt r (network g .b e))
           go q = rw (q .2, network-a g (q .0) (q .1), network-b g (q .0) (q .1)) (both-hang (depthAt r a) (depthAt r b)
-              (λ p. complete a b p (omega (arith, low, edge .less), edge .to) (table .all (q .0) (q .1) (q .3) a b (inl (refl, refl))))
-              (λ p. complete b a p (low, omega (arith, edge .less, edge .to)) (table .all (q .0) (q .1) (q .3) b a (inr (refl, refl)))))
+              (across (q .0) a b (q .1) (q .3) (edge .from) (inl refl) (omega arith))
+              (across (q .0) b a (q .1) (q .3) (omega (arith, edge .less)) (inr refl) (omega arith)))
             where
               a : ℕ
               a = getD (g .a) (q .0) 0
@@ -126,20 +158,18 @@ module _ (g : Graph) (v : value.Valid g) (w : List ℕ) (o : OneTree (network g)
               edge : value.EdgeAt g (q .0)
               edge = v .each (q .0) (q .1)
 
-              low : 2 ≤ getD (g .a) (q .0) 0
-              low = omega (arith, edge .from, q .3 .far)
-
-  -- the edge above a vertex stands in the table
-  pub edge-in : (u : ℕ) → Child (shape (r .parent) (r .depth)) u → (edgeAt r u < g .m) × Inner g w (edgeAt r u) × Between g
-      (edgeAt r u) (parentAt r u) u
-  edge-in u i = subst (λ (k : ℕ). (k < g .m) × Inner g w k × Between g k (parentAt r u) u) (omega (arith, e, q .2)) (q .1, q .3, q .4)
+  -- the edge above a vertex stands in the list of its parent
+  pub edge-in : (u : ℕ) → Child (shape (r .parent) (r .depth)) u
+      → (edgeAt r u < g .m) × Inner g w (edgeAt r u) × Joined (g .a) (g .b) (edgeAt r u) (parentAt r u) u
+  edge-in u i = subst (λ (k : ℕ). (k < g .m) × Inner g w k × Joined (g .a) (g .b) (edgeAt r u) (parentAt r u) u)
+      (omega (arith, e .0 .1, q .2)) (q .1, q .3, e .1)
     where
-      e : across t (parentAt r u) u ≡ suc (edgeAt r u)
+      e : ((j : ℕ) × (listed t (parentAt r u) j ≡ suc (edgeAt r u))) × Joined (g .a) (g .b) (edgeAt r u) (parentAt r u) u
       e = h .edge u (i .0) (i .1)
 
-      q : (k : ℕ) × (k < g .m) × (across t (parentAt r u) u ≡ suc k) × Inner g w k × Between g k (parentAt r u) u
-      q = table .only (parentAt r u) u (omega (arith, h .inside (parentAt r u) (h .seen u (i .0) (i .1)) .0)) (omega (arith, i .0))
-          (λ z. omega (arith, e))
+      q : (k : ℕ) × (k < g .m) × (listed t (parentAt r u) (e .0 .0) ≡ suc k) × Inner g w k × End g k (parentAt r u)
+      q = table .only (parentAt r u) (e .0 .0) (omega (arith, h .inside (parentAt r u) (h .seen u (i .0) (i .1)) .0))
+          (λ z. omega (arith, e .0 .1))
 
   ends-at : (u : ℕ) → Child (shape (r .parent) (r .depth)) u → Joins (network g) (edgeOver r u) u (parentAt r u)
   ends-at u i = go (edge-in u i .2)
@@ -147,7 +177,7 @@ module _ (g : Graph) (v : value.Valid g) (w : List ℕ) (o : OneTree (network g)
       hk : edgeAt r u < g .m
       hk = edge-in u i .0
 
-      go : Between g (edgeAt r u) (parentAt r u) u → Joins (network g) (edgeOver r u) u (parentAt r u)
+      go : Joined (g .a) (g .b) (edgeAt r u) (parentAt r u) u → Joins (network g) (edgeOver r u) u (parentAt r u)
       go (inl q) = inr (network-a g (edgeAt r u) hk ∙ q .0, network-b g (edgeAt r u) hk ∙ q .1)
       go (inr q) = inl (network-a g (edgeAt r u) hk ∙ q .0, network-b g (edgeAt r u) hk ∙ q .1)
 
@@ -161,7 +191,7 @@ module _ (g : Graph) (v : value.Valid g) (w : List ℕ) (o : OneTree (network g)
       e : ℕ
       e = edgeOver r u
 
-      q : (edgeAt r u < g .m) × Inner g w (edgeAt r u) × Between g (edgeAt r u) (parentAt r u) u
+      q : (edgeAt r u < g .m) × Inner g w (edgeAt r u) × Joined (g .a) (g .b) (edgeAt r u) (parentAt r u) u
       q = edge-in u i
 
       m : edgeOver r u ∈ upTo (g .m)

@@ -43,9 +43,9 @@ unfoldable pub rulingOf : ℕ → ℕ → ℕ → ℕ → ℕ → ℕ → ℕ
 unfolding forceByte
 rulingOf mark x low c slack old = cond (eqb mark 1) 3 (cond (eqb mark 2) 4 (cond (eqb x 1) (forceByte low c slack) old))
 
-abbrev pub finalAt : Graph → List ℕ → List ℕ → ℕ → List ℕ → List ℕ → List ℕ → ℕ → ℕ → ℕ
-finalAt g w c slack depth cheapest out near k =
-    rulingOf (markAt g k) (getD w k 0) (lowOf (aAt g k) (bAt g k) depth cheapest near) (chargeAt c k) slack (getD out k 0)
+abbrev pub finalAt : List ℕ → List ℕ → List ℕ → List ℕ → List ℕ → ℕ → List ℕ → List ℕ → List ℕ → ℕ → ℕ → ℕ
+finalAt a b mark w c slack depth cheapest out near k =
+    rulingOf (getD mark k 0) (getD w k 0) (lowOf (getD a k 0) (getD b k 0) depth cheapest near) (chargeAt c k) slack (getD out k 0)
 
 -- every edge's byte is its ruling's, and past the edges there is 0
 pub record RuledBy (g : Graph) (w c : List ℕ) (slack : ℕ) (res : List ℕ) : Type 0 where
@@ -60,7 +60,7 @@ mark-cases (suc (suc zero)) h = inr (inr refl)
 mark-cases (suc (suc (suc x))) h = absurd (omega arith)
 
 module _ (g : Graph) (w c : List ℕ) (r : Rooting) (weight : List ℕ) (dearest near : ℕ) (ready : Ready g w c r weight dearest)
-    (cheap : Least (NearOut g w) (chargeAt c) noCharge (g .m) near) (slack : ℕ) (out rep : List ℕ)
+    (cheap : Least (NearOut (g .a) (g .mark) w) (chargeAt c) noCharge (g .m) near) (slack : ℕ) (out rep : List ℕ)
     (h : Judged g w c r slack out rep (g .m)) where
   -- the cheapest that may come in for a free edge of the tree
   comes : (k : ℕ) → k < g .m → getD w k 0 ≡ 1 → markAt g k ≡ 0
@@ -99,7 +99,7 @@ module _ (g : Graph) (w c : List ℕ) (r : Rooting) (weight : List ℕ) (dearest
               rw (a, b, lt-ltb (depthAt r (parentAt r (u .0))) (depthAt r (u .0)) (omega (arith, deep)))
 
   module _ (d : List ℤ) (z : ℤ) (j : Judgement g w c slack d z) (k : ℕ) (hk : k < g .m) where
-    final : finalAt g w c slack (r .depth) rep out near k ≡ rulingByte (ruling (network g) (multiplier d) z (suc k))
+    final : finalAt (g .a) (g .b) (g .mark) w c slack (r .depth) rep out near k ≡ rulingByte (ruling (network g) (multiplier d) z (suc k))
     unfolding rulingOf network
     final = go (mark-cases (markAt g k) (ready .valid .each k hk .known))
       where
@@ -107,7 +107,7 @@ module _ (g : Graph) (w c : List ℕ) (r : Rooting) (weight : List ℕ) (dearest
         mk = of-edge (g .m) k hk
 
         byTree : markAt g k ≡ 0 → Dec (getD w k 0 ≡ 1)
-            → finalAt g w c slack (r .depth) rep out near k ≡ rulingByte (ruling (network g) (multiplier d) z (suc k))
+            → finalAt (g .a) (g .b) (g .mark) w c slack (r .depth) rep out near k ≡ rulingByte (ruling (network g) (multiplier d) z (suc k))
         byTree free (yes e) = rw (free, eq-eqb (getD w k 0) 1 e)
             (sym (in-byte g (ready .valid) w c r (ready .rooted) slack d z j k hk free e
             (lowOf (aAt g k) (bAt g k) (r .depth) rep near) (comes k hk e free)))
@@ -118,11 +118,11 @@ module _ (g : Graph) (w c : List ℕ) (r : Rooting) (weight : List ℕ) (dearest
             q = h .bars k hk e free
 
         go : (markAt g k ≡ 0) ⊎ ((markAt g k ≡ 1) ⊎ (markAt g k ≡ 2))
-            → finalAt g w c slack (r .depth) rep out near k ≡ rulingByte (ruling (network g) (multiplier d) z (suc k))
+            → finalAt (g .a) (g .b) (g .mark) w c slack (r .depth) rep out near k ≡ rulingByte (ruling (network g) (multiplier d) z (suc k))
         go (inl e) = byTree e (ℕ-discrete (getD w k 0) 1)
         go (inr (inl e)) = rw e (sym (ap rulingByte (rules-required (network g) (multiplier d) z (suc k) mk (mark-required g k hk e))))
         go (inr (inr e)) = rw e (sym (ap rulingByte (rules-excluded (network g) (multiplier d) z (suc k) mk (mark-excluded g k hk e))))
 
   -- THE RULINGS
-  pub ruled-by : (res : List ℕ) → Filled (finalAt g w c slack (r .depth) rep out near) 0 res (g .m) → RuledBy g w c slack res
+  pub ruled-by : (res : List ℕ) → Filled (finalAt (g .a) (g .b) (g .mark) w c slack (r .depth) rep out near) 0 res (g .m) → RuledBy g w c slack res
   ruled-by res f = record { each = λ d z j k hk. f .done k (omega arith) hk ∙ final d z j k hk; past = f .rest }

@@ -5,9 +5,10 @@ use mathlib.Core.List.{List, _∷_}
 use Prim.Native.Nat.{ℕ, suc, _+_, _%_, _<_, _≤_}
 use native.Mathlib.Omega.{arith}
 use lib.ListN.{length, getD, set, length-set}
+use lib.IntN.{pos}
 use Rattle.lists.specs.Select.{select}
 use Rattle.graph.specs.Limits.{maxVertices, maxEdges}
-use Rattle.graph.specs.Network.{Network}
+use Rattle.graph.specs.Network.{Network, free}
 use Rattle.spanning.specs.Walks.{label, relabel}
 use Rattle.spanning.specs.Held.{Holds}
 use Rattle.onetree.specs.Keys.{queued, queued-step}
@@ -27,6 +28,21 @@ use Rattle.onetree.specs.Growth.{
 -- vertices number from 1, so labels have a place more
 abbrev pub maxLabels : ℕ
 maxLabels = maxVertices + 1
+
+-- place k of the ends a, b is an edge's, and its ends have labels
+abbrev pub Joins : List ℕ → List ℕ → ℕ → Type 0
+Joins a b k = (k < maxEdges) × (getD a k 0 < maxLabels) × (getD b k 0 < maxLabels)
+
+-- the first f edges to look at have the ends a, b in the network
+abbrev pub Reads : Network → List ℕ → List ℕ → List ℕ → ℕ → Type 0
+Reads G a b ks f =
+    (i : ℕ) → i < f
+    → (G .a (suc (getD ks i 0 % 256)) ≡ getD a (getD ks i 0 % 256) 0) × (G .b (suc (getD ks i 0 % 256)) ≡ getD b (getD ks i 0 % 256) 0)
+
+-- a network with these ends
+abbrev pub joining : List ℕ → List ℕ → Network
+joining a b =
+    record { n = 0; m = 0; a = λ k. getD (0 ∷ a) k 0; b = λ k. getD (0 ∷ b) k 0; cost = λ k. pos 0; mark = λ k. free }
 
 -- after i edges: the labels l, the set w, the counts
 pub record Turn (G : Network) (ks : List ℕ) (i : ℕ) (l w : List ℕ) (near far : ℕ) : Type 0 where

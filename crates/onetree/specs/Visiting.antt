@@ -1,17 +1,21 @@
--- The vertices are hung one by one, each on a vertex that hangs and that the table of the tree joins it to; at the end every vertex that
--- the table joins to one that hangs, hangs too. Assumes nothing.
+-- The vertices are hung one by one, each on a vertex that hangs and whose list has the edge between them, and wait in a queue to be
+-- visited; at the end every neighbour of a vertex that hangs, hangs too. Assumes nothing.
 use mathlib.Core.Path.{_≡_, refl, _∙_, sym, ap}
-use mathlib.Core.Logic.{_≢_}
-use mathlib.Core.Bool.{Bool, true, false, true≢false}
+use mathlib.Core.Logic.{_≢_, _⊎_}
 use mathlib.Core.List.{List, [], _∷_}
 use Prim.Native.Nat.{ℕ, zero, suc, _+_, _-_, _<_, _≤_}
 use native.Mathlib.Omega.{arith}
-use native.Mathlib.Decide.{ℕ-discrete}
+use native.Mathlib.Decide.{ℕ-discrete, decLe}
+use native.Mathlib.Numerals.{add-one}
 use lib.ListN.{length, getD, set, length-set, replicate}
 use lib.Seq.{getD-set-same, getD-set-other}
 use Rattle.lists.specs.Rows.{zeros}
-use Rattle.onetree.specs.Grid.{cell, across}
+use Rattle.onetree.specs.Grid.{cell}
+use Rattle.onetree.specs.TreeTable.{listed}
 use Rattle.onetree.specs.declared.rooted.Rooting.{Rooting}
+
+abbrev pub rooting : List ℕ → List ℕ → List ℕ → Rooting
+rooting parent depth edge = record { parent = parent; depth = depth; edge = edge }
 
 abbrev pub parentAt : Rooting → ℕ → ℕ
 parentAt r v = getD (r .parent) v 0
@@ -26,66 +30,75 @@ edgeAt r v = getD (r .edge) v 0
 abbrev pub Among : ℕ → ℕ → Type 0
 Among n v = (2 ≤ v) × (v ≤ n)
 
--- a vertex hangs when it has a depth, and no depth is above the limit; the root hangs on nothing
-pub record Hung (t : List (List ℕ)) (n : ℕ) (r : Rooting) (limit : ℕ) : Type 0 where
+-- the edge at place k joins x and y, where a and b have the ends of the edges
+abbrev pub Joined : List ℕ → List ℕ → ℕ → ℕ → ℕ → Type 0
+Joined a b k x y = ((getD a k 0 ≡ x) × (getD b k 0 ≡ y)) ⊎ ((getD a k 0 ≡ y) × (getD b k 0 ≡ x))
+
+-- its end other than x
+abbrev pub opposite : List ℕ → List ℕ → ℕ → ℕ → ℕ
+opposite a b x k = (getD a k 0 + getD b k 0) - x
+
+-- from x it leads to a vertex that is to hang
+pub record Leads (a b : List ℕ) (n x k : ℕ) : Type 0 where
+  pub room : k < 190
+  pub joins : Joined a b k x (opposite a b x k)
+  pub among : Among n (opposite a b x k)
+
+pub leads-more : (a b : List ℕ) (n n′ x k : ℕ) → n ≤ n′ → Leads a b n x k → Leads a b n′ x k
+leads-more a b n n′ x k h l = record { room = l .room; joins = l .joins; among = (l .among .0, omega (arith, l .among .1)) }
+
+-- so does every edge of a list
+abbrev pub Leading : List ℕ → List ℕ → ℕ → ℕ → List ℕ → Type 0
+Leading a b n x row = (i : ℕ) → getD row i 0 ≢ 0 → Leads a b n x (getD row i 0 - 1)
+
+-- the lists are fit to be walked
+pub record Rows (a b : List ℕ) (n : ℕ) (t : List (List ℕ)) : Type 0 where
+  pub leading : (x : ℕ) → 1 ≤ x → Leading a b n x (getD t (x - 1) [])
+  pub stops : (x : ℕ) → 1 ≤ x → listed t x 19 ≡ 0
+
+-- a vertex hangs when it has a depth; the root hangs on nothing
+pub record Hung (a b : List ℕ) (t : List (List ℕ)) (n : ℕ) (r : Rooting) : Type 0 where
   pub long : (length (r .parent) ≡ 21) × (length (r .depth) ≡ 21) × (length (r .edge) ≡ 21)
   pub root : depthAt r 2 ≡ 1
   pub inside : (v : ℕ) → 1 ≤ depthAt r v → Among n v
   pub seen : (v : ℕ) → 3 ≤ v → 1 ≤ depthAt r v → 1 ≤ depthAt r (parentAt r v)
   pub deep : (v : ℕ) → 3 ≤ v → 1 ≤ depthAt r v → depthAt r v ≡ suc (depthAt r (parentAt r v))
-  pub edge : (v : ℕ) → 3 ≤ v → 1 ≤ depthAt r v → across t (parentAt r v) v ≡ suc (edgeAt r v)
-  pub bound : (v : ℕ) → depthAt r v ≤ limit
+  pub edge : (v : ℕ) → 3 ≤ v → 1 ≤ depthAt r v
+      → ((i : ℕ) × (listed t (parentAt r v) i ≡ suc (edgeAt r v))) × Joined a b (edgeAt r v) (parentAt r v) v
 
--- what the table joins to a vertex that hangs, hangs
-abbrev pub Complete : List (List ℕ) → ℕ → Rooting → Type 0
-Complete t n r = (x y : ℕ) → 1 ≤ depthAt r x → Among n y → across t x y ≢ 0 → 1 ≤ depthAt r y
-
-pub hung-more : (t : List (List ℕ)) (n : ℕ) (r : Rooting) (limit limit′ : ℕ) → limit ≤ limit′ → Hung t n r limit → Hung t n r limit′
-hung-more t n r limit limit′ l h = record {
-  long = h .long;
-  root = h .root;
-  inside = h .inside;
-  seen = h .seen;
-  deep = h .deep;
-  edge = h .edge;
-  bound = λ v. omega (arith, h .bound v);
-}
+-- where the list of a vertex that hangs leads, hangs, as far as the list has no zero
+abbrev pub Complete : List ℕ → List ℕ → List (List ℕ) → Rooting → Type 0
+Complete a b t r = (x i : ℕ) → 1 ≤ depthAt r x → ((j : ℕ) → j ≤ i → listed t x j ≢ 0)
+    → 1 ≤ depthAt r (opposite a b x (listed t x i - 1))
 
 -- at first the root alone hangs
 abbrev pub alone : Rooting
 alone = record { parent = replicate 21 0; depth = set (replicate 21 0) 2 1; edge = replicate 21 0 }
 
-pub hung-root : (t : List (List ℕ)) (n : ℕ) → 2 ≤ n → Hung t n alone 1
-hung-root t n h = record {
+only-two : (v : ℕ) → 1 ≤ depthAt alone v → v ≡ 2
+only-two v l = go (ℕ-discrete v 2)
+  where
+    go : Dec (v ≡ 2) → v ≡ 2
+    go (yes e) = e
+    go (no e) = absurd (omega (arith, getD-set-other {A = ℕ} (replicate 21 0) 2 v 1 0 e, zeros 21 v))
+
+pub hung-root : (a b : List ℕ) (t : List (List ℕ)) (n : ℕ) → 2 ≤ n → Hung a b t n alone
+hung-root a b t n h = record {
   long = (refl, refl, refl);
   root = refl;
-  inside = λ v l. (omega (arith, two v l), omega (arith, two v l));
-  seen = λ v i l. absurd (omega (arith, two v l));
-  deep = λ v i l. absurd (omega (arith, two v l));
-  edge = λ v i l. absurd (omega (arith, two v l));
-  bound = λ v. one v (ℕ-discrete v 2);
+  inside = λ v l. (omega (arith, only-two v l), omega (arith, only-two v l));
+  seen = λ v i l. absurd (omega (arith, only-two v l));
+  deep = λ v i l. absurd (omega (arith, only-two v l));
+  edge = λ v i l. absurd (omega (arith, only-two v l));
 }
-  where
-    none : (v : ℕ) → v ≢ 2 → depthAt alone v ≡ 0
-    none v f = getD-set-other (replicate 21 0) 2 v 1 0 f ∙ zeros 21 v
-
-    two : (v : ℕ) → 1 ≤ depthAt alone v → v ≡ 2
-    two v l = go (ℕ-discrete v 2)
-      where
-        go : Dec (v ≡ 2) → v ≡ 2
-        go (yes e) = e
-        go (no e) = absurd (omega (arith, none v e))
-
-    one : (v : ℕ) → Dec (v ≡ 2) → depthAt alone v ≤ 1
-    one v (yes e) = rw e (omega arith)
-    one v (no e) = omega (arith, none v e)
 
 -- y is hung on x, by the edge at place e and with the depth d
 abbrev pub hungOn : Rooting → ℕ → ℕ → ℕ → ℕ → Rooting
 hungOn r x y d e = record { parent = set (r .parent) y x; depth = set (r .depth) y d; edge = set (r .edge) y e }
 
-module _ (t : List (List ℕ)) (n : ℕ) (r : Rooting) (limit x y d e : ℕ) (h : Hung t n r limit) (hx : 1 ≤ depthAt r x)
-    (hy : depthAt r y ≡ 0) (vy : Among n y) (room : y < 21) (at : across t x y ≡ suc e) (dx : d ≡ depthAt r x + 1) (lx : d ≤ limit) where
+module _ (a b : List ℕ) (t : List (List ℕ)) (n : ℕ) (r : Rooting) (x y d e : ℕ) (h : Hung a b t n r) (hx : 1 ≤ depthAt r x)
+    (hy : depthAt r y ≡ 0) (vy : Among n y) (room : y < 21) (at : (i : ℕ) × (listed t x i ≡ suc e)) (ends : Joined a b e x y)
+    (dx : d ≡ depthAt r x + 1) where
   newP : parentAt (hungOn r x y d e) y ≡ x
   newP = getD-set-same (r .parent) y x 0 (omega (arith, h .long .0))
 
@@ -111,7 +124,7 @@ module _ (t : List (List ℕ)) (n : ℕ) (r : Rooting) (limit x y d e : ℕ) (h 
   not-y : (v : ℕ) → 1 ≤ depthAt r v → v ≢ y
   not-y v l q = omega (arith, ap (depthAt r) q)
 
-  pub hung-on : Hung t n (hungOn r x y d e) limit
+  hung-on : Hung a b t n (hungOn r x y d e)
   hung-on = record {
     long = (length-set (r .parent) y x ∙ h .long .0, length-set (r .depth) y d ∙ h .long .1, length-set (r .edge) y e ∙ h .long .2);
     root = oldD 2 (not-y 2 (omega (arith, h .root))) ∙ h .root;
@@ -119,7 +132,6 @@ module _ (t : List (List ℕ)) (n : ℕ) (r : Rooting) (limit x y d e : ℕ) (h 
     seen = λ v i l. seenAt v i l (ℕ-discrete v y);
     deep = λ v i l. deepAt v i l (ℕ-discrete v y);
     edge = λ v i l. edgeIs v i l (ℕ-discrete v y);
-    bound = λ v. boundAt v (ℕ-discrete v y);
   }
     where
       insideAt : (v : ℕ) → 1 ≤ depthAt (hungOn r x y d e) v → Dec (v ≡ y) → Among n v
@@ -138,93 +150,216 @@ module _ (t : List (List ℕ)) (n : ℕ) (r : Rooting) (limit x y d e : ℕ) (h 
           rw (oldP v q, oldD (parentAt r v) (not-y (parentAt r v) (h .seen v i (was v q l))), oldD v q) (h .deep v i (was v q l))
 
       edgeIs : (v : ℕ) → 3 ≤ v → 1 ≤ depthAt (hungOn r x y d e) v → Dec (v ≡ y)
-          → across t (parentAt (hungOn r x y d e) v) v ≡ suc (edgeAt (hungOn r x y d e) v)
-      edgeIs v i l (yes q) = rw (q, newP, newE) at
+          → ((i : ℕ) × (listed t (parentAt (hungOn r x y d e) v) i ≡ suc (edgeAt (hungOn r x y d e) v)))
+          × Joined a b (edgeAt (hungOn r x y d e) v) (parentAt (hungOn r x y d e) v) v
+      edgeIs v i l (yes q) = rw (q, newP, newE) (at, ends)
       edgeIs v i l (no q) = rw (oldP v q, oldE v q) (h .edge v i (was v q l))
 
-      boundAt : (v : ℕ) → Dec (v ≡ y) → depthAt (hungOn r x y d e) v ≤ limit
-      boundAt v (yes q) = rw (q, newD) lx
-      boundAt v (no q) = omega (arith, oldD v q, h .bound v)
+-- ---- the queue: the vertices that hang, in the order of hanging
 
--- ---- a visit of x, from r to s: the vertices below y have been looked at in its row of the table
+-- how many do not hang
+unfoldable pub left : List ℕ → ℕ
+left [] = 0
+left (zero ∷ l) = suc (left l)
+left (suc d ∷ l) = left l
 
-pub record Visited (n x : ℕ) (row : List ℕ) (r s : Rooting) (y : ℕ) : Type 0 where
-  pub kept : (t : List (List ℕ)) (limit : ℕ) → getD t (x - 1) [] ≡ row → 1 ≤ depthAt r x → depthAt r x < limit
-      → Hung t n r limit → Hung t n s limit
-  pub same : (v : ℕ) → 1 ≤ depthAt r v → depthAt s v ≡ depthAt r v
-  pub all : (z : ℕ) → 2 ≤ z → z < y → getD row (z - 1) 0 ≢ 0 → 1 ≤ depthAt s z
-  pub long : length (s .depth) ≡ 21
+left-less : (l : List ℕ) (i d : ℕ) → i < length l → getD l i 0 ≡ 0 → suc (left (set l i (suc d))) ≡ left l
+unfolding left
+left-less [] i d h e = absurd (let z : suc i ≤ 0 = h in omega arith)
+left-less (zero ∷ l) zero d h e = refl
+left-less (suc x ∷ l) zero d h e = absurd (let z : suc x ≡ 0 = e in omega arith)
+left-less (zero ∷ l) (suc i) d h e = ap suc (left-less l i d (omega arith) e)
+left-less (suc x ∷ l) (suc i) d h e = left-less l i d (omega arith) e
 
-pub visited-none : (n x : ℕ) (row : List ℕ) (r : Rooting) → length (r .depth) ≡ 21 → Visited n x row r r 2
-visited-none n x row r l = record { kept = λ t limit a b c h. h; same = λ v h. refl; all = λ z a b. absurd (omega arith); long = l }
+pub record Lined (depth queue : List ℕ) (count : ℕ) : Type 0 where
+  pub long : length queue ≡ 21
+  pub bound : (v : ℕ) → getD depth v 0 ≤ count
+  pub hangs : (j : ℕ) → j < count → 1 ≤ getD depth (getD queue j 0) 0
+  pub each : (v : ℕ) → 1 ≤ getD depth v 0 → (j : ℕ) × (j < count) × (getD queue j 0 ≡ v)
+  pub room : count + left depth ≡ 21
 
-module _ (n x : ℕ) (row : List ℕ) (r s : Rooting) (y : ℕ) (ly : 2 ≤ y) (w : Visited n x row r s y) where
-  pub visited-on : (getD row (y - 1) 0 ≢ 0 → 1 ≤ depthAt s y) → Visited n x row r s (y + 1)
-  visited-on h = record { kept = w .kept; same = w .same; all = λ z a b. go z a b (ℕ-discrete z y); long = w .long }
-    where
-      go : (z : ℕ) → 2 ≤ z → z < y + 1 → Dec (z ≡ y) → getD row (z - 1) 0 ≢ 0 → 1 ≤ depthAt s z
-      go z a b (yes q) f = rw q (h (rw q at f))
-      go z a b (no q) f = w .all z a (omega arith) f
+pub lined-root : Lined (alone .depth) (set (replicate 21 0) 0 2) 1
+unfolding left
+lined-root = record {
+  long = refl;
+  bound = λ v. boundAt v (ℕ-discrete v 2);
+  hangs = λ j l. hangsAt j l;
+  each = λ v l. (0, omega arith, sym (only-two v l));
+  room = refl;
+}
+  where
+    boundAt : (v : ℕ) → Dec (v ≡ 2) → depthAt alone v ≤ 1
+    boundAt v (yes e) = rw e (omega arith)
+    boundAt v (no e) = omega (arith, getD-set-other {A = ℕ} (replicate 21 0) 2 v 1 0 e, zeros 21 v)
 
-  pub visited-hang : getD row (y - 1) 0 ≢ 0 → depthAt s y ≡ 0 → y ≤ n → n ≤ 20
-      → Visited n x row r (hungOn s x y (depthAt r x + 1) (getD row (y - 1) 0 - 1)) (y + 1)
-  unfolding cell
-  visited-hang f e ny small = record {
-    kept = λ t limit a b c h. let k = w .kept t limit a b c h in let q = w .same x b in
-        hung-on t n s limit x y (depthAt r x + 1) (getD row (y - 1) 0 - 1) k (omega (arith, q)) e (ly, ny) (omega arith)
-        (ap (λ (l : List ℕ). getD l (y - 1) 0) a ∙ some) (omega (arith, q)) (omega arith);
-    same = λ v h. getD-set-other (s .depth) y v (depthAt r x + 1) 0 (λ q. omega (arith, w .same v h, ap (depthAt s) q)) ∙ w .same v h;
-    all = λ z a b. go z a b (ℕ-discrete z y);
-    long = length-set (s .depth) y (depthAt r x + 1) ∙ w .long;
+    hangsAt : (j : ℕ) → j < 1 → 1 ≤ depthAt alone (getD (set (replicate 21 0) 0 2) j 0)
+    hangsAt zero l = omega arith
+    hangsAt (suc j) l = absurd (let z : suc (suc j) ≤ 1 = l in omega arith)
+
+module _ (depth queue : List ℕ) (count y d : ℕ) (long : length depth ≡ 21) (h : Lined depth queue count) (hy : getD depth y 0 ≡ 0)
+    (ly : y < 21) where
+  lined-room : count < 21
+  lined-room = omega (arith, h .room, left-less depth y 0 (omega arith) hy)
+
+  lined-more : d ≤ count → Lined (set depth y (suc d)) (set queue count y) (count + 1)
+  lined-more low = record {
+    long = length-set queue count y ∙ h .long;
+    bound = λ v. boundAt v (ℕ-discrete v y);
+    hangs = λ j l. hangsAt j l (ℕ-discrete j count);
+    each = λ v l. eachAt v l (ℕ-discrete v y);
+    room = omega (arith, h .room, left-less depth y d (omega arith) hy);
   }
     where
-      some : getD row (y - 1) 0 ≡ suc (getD row (y - 1) 0 - 1)
-      some = omega arith
+      new : getD (set depth y (suc d)) y 0 ≡ suc d
+      new = getD-set-same depth y (suc d) 0 (omega arith)
 
-      go : (z : ℕ) → 2 ≤ z → z < y + 1 → Dec (z ≡ y) → getD row (z - 1) 0 ≢ 0
-          → 1 ≤ getD (set (s .depth) y (depthAt r x + 1)) z 0
-      go z a b (yes q) g = rw (q, getD-set-same (s .depth) y (depthAt r x + 1) 0 (omega (arith, w .long))) (omega arith)
-      go z a b (no q) g = rw (getD-set-other (s .depth) y z (depthAt r x + 1) 0 q) (w .all z a (omega arith) g)
+      last : getD (set queue count y) count 0 ≡ y
+      last = getD-set-same queue count y 0 (omega (arith, lined-room, h .long))
 
--- ---- which vertices are done
+      boundAt : (v : ℕ) → Dec (v ≡ y) → getD (set depth y (suc d)) v 0 ≤ count + 1
+      boundAt v (yes q) = rw (q, new) (omega arith)
+      boundAt v (no q) = omega (arith, getD-set-other depth y v (suc d) 0 q, h .bound v)
 
--- the next vertex to visit
-pub record Picked (depth : List ℕ) (done : List Bool) (x : ℕ) : Type 0 where
-  pub room : x < 21
-  pub next : 1 ≤ x → (1 ≤ getD depth x 0) × (getD done x false ≡ false)
-  pub none : x ≡ 0 → (v : ℕ) → 2 ≤ v → v < 21 → 1 ≤ getD depth v 0 → getD done v false ≡ true
+      still : (v : ℕ) → 1 ≤ getD depth v 0 → 1 ≤ getD (set depth y (suc d)) v 0
+      still v l = rw (getD-set-other depth y v (suc d) 0 (λ q. omega (arith, ap (λ (z : ℕ). getD depth z 0) q))) l
 
--- how many are not
-unfoldable pub undone : List Bool → ℕ
-undone [] = 0
-undone (true ∷ l) = undone l
-undone (false ∷ l) = suc (undone l)
+      hangsAt : (j : ℕ) → j < count + 1 → Dec (j ≡ count) → 1 ≤ getD (set depth y (suc d)) (getD (set queue count y) j 0) 0
+      hangsAt j l (yes q) = rw (q, last, new) (omega arith)
+      hangsAt j l (no q) = rw (getD-set-other queue count j y 0 q) (still (getD queue j 0) (h .hangs j (omega arith)))
 
-pub undone-less : (l : List Bool) (i : ℕ) → i < length l → getD l i false ≡ false → suc (undone (set l i true)) ≡ undone l
-unfolding undone
-undone-less [] i h e = absurd (let z : suc i ≤ 0 = h in omega arith)
-undone-less (false ∷ l) zero h e = refl
-undone-less (true ∷ l) zero h e = absurd (true≢false e)
-undone-less (false ∷ l) (suc i) h e = ap suc (undone-less l i (omega arith) e)
-undone-less (true ∷ l) (suc i) h e = undone-less l i (omega arith) e
+      eachAt : (v : ℕ) → 1 ≤ getD (set depth y (suc d)) v 0 → Dec (v ≡ y)
+          → (j : ℕ) × (j < count + 1) × (getD (set queue count y) j 0 ≡ v)
+      eachAt v l (yes q) = (count, omega arith, last ∙ sym q)
+      eachAt v l (no q) =
+          let r = h .each v (omega (arith, getD-set-other depth y v (suc d) 0 q)) in
+          (r .0, omega (arith, r .1), getD-set-other queue count (r .0) y 0 (λ z. omega (arith, r .1)) ∙ r .2)
 
--- what the table joins to a vertex that is done, hangs
-abbrev pub Closed : List (List ℕ) → ℕ → Rooting → List Bool → Type 0
-Closed t n r done = (x y : ℕ) → getD done x false ≡ true → Among n y → across t x y ≢ 0 → 1 ≤ depthAt r y
+-- ---- a visit of x, whose list is the row
 
-falses : (n k : ℕ) → getD (replicate n false) k false ≡ false
-falses zero k = refl
-falses (suc n) zero = refl
-falses (suc n) (suc k) = falses n k
+-- what it needs
+pub record Leaving (a b row : List ℕ) (x : ℕ) (r : Rooting) (queue : List ℕ) (count : ℕ) : Type 0 where
+  pub long : (length (r .parent) ≡ 21) × (length (r .depth) ≡ 21) × (length (r .edge) ≡ 21)
+  pub lined : Lined (r .depth) queue count
+  pub small : x < 21
+  pub hangs : 1 ≤ depthAt r x
+  pub leading : Leading a b 20 x row
+  pub stops : getD row 19 0 ≡ 0
 
-pub closed-none : (t : List (List ℕ)) (n : ℕ) (r : Rooting) → Closed t n r (replicate 21 false)
-closed-none t n r x y d = absurd (true≢false (sym d ∙ falses 21 x))
+-- what it made of r and the queue when it has walked i places of the row
+pub record Visited (a b row : List ℕ) (x : ℕ) (r : Rooting) (queue : List ℕ) (count : ℕ) (s : Rooting) (queue′ : List ℕ) (count′ i : ℕ) : Type 0 where
+  pub long : (length (s .parent) ≡ 21) × (length (s .depth) ≡ 21) × (length (s .edge) ≡ 21)
+  pub lined : Lined (s .depth) queue′ count′
+  pub more : count ≤ count′
+  pub old : (j : ℕ) → j < count → getD queue′ j 0 ≡ getD queue j 0
+  pub same : (v : ℕ) → 1 ≤ depthAt r v → depthAt s v ≡ depthAt r v
+  pub all : (j : ℕ) → j < i → 1 ≤ depthAt s (opposite a b x (getD row j 0 - 1))
+  pub kept : (t : List (List ℕ)) (n : ℕ) → getD t (x - 1) [] ≡ row → Leading a b n x row → Hung a b t n r → Hung a b t n s
 
-pub closed-more : (t : List (List ℕ)) (n : ℕ) (r s : Rooting) (done : List Bool) (x : ℕ) → Closed t n r done
-    → Visited n x (getD t (x - 1) []) r s (n + 1) → Closed t n s (set done x true)
+-- at the end
+abbrev pub Left : List ℕ → List ℕ → List ℕ → ℕ → Rooting → List ℕ → ℕ → Rooting → List ℕ → ℕ → Type 0
+Left a b row x r queue count s queue′ count′ =
+    (i : ℕ) × (getD row i 0 ≡ 0) × Visited a b row x r queue count s queue′ count′ i
+
+module _ (a b row : List ℕ) (x : ℕ) (r : Rooting) (queue : List ℕ) (count : ℕ) (l : Leaving a b row x r queue count) where
+  pub visited-none : Visited a b row x r queue count r queue count 0
+  visited-none = record {
+    long = l .long;
+    lined = l .lined;
+    more = omega arith;
+    old = λ j h. refl;
+    same = λ v h. refl;
+    all = λ j h. absurd (let z : suc j ≤ 0 = h in omega arith);
+    kept = λ t n e d h. h;
+  }
+
+  module _ (s : Rooting) (queue′ : List ℕ) (count′ i : ℕ) (w : Visited a b row x r queue count s queue′ count′ i) where
+    pub visited-on : 1 ≤ depthAt s (opposite a b x (getD row i 0 - 1)) → Visited a b row x r queue count s queue′ count′ (i + 1)
+    visited-on h = record {
+      long = w .long;
+      lined = w .lined;
+      more = w .more;
+      old = w .old;
+      same = w .same;
+      all = λ j k. go j k (ℕ-discrete j i);
+      kept = w .kept;
+    }
+      where
+        go : (j : ℕ) → j < i + 1 → Dec (j ≡ i) → 1 ≤ depthAt s (opposite a b x (getD row j 0 - 1))
+        go j k (yes q) = rw q h
+        go j k (no q) = w .all j (omega arith)
+
+    module _ (f : getD row i 0 ≢ 0) (y : ℕ) (ey : y ≡ opposite a b x (getD row i 0 - 1)) (hy : depthAt s y ≡ 0) where
+      ly : y < 21
+      ly = omega (arith, ey, l .leading i f .among)
+
+      still : (v : ℕ) → 1 ≤ depthAt s v → depthAt (hungOn s x y (depthAt r x + 1) (getD row i 0 - 1)) v ≡ depthAt s v
+      still v h = getD-set-other (s .depth) y v (depthAt r x + 1) 0 (λ q. omega (arith, ap (depthAt s) q))
+
+      pub visited-room : count′ < 21
+      visited-room = lined-room (s .depth) queue′ count′ y 0 (w .long .1) (w .lined) hy ly
+
+      pub visited-hang : Visited a b row x r queue count
+          (hungOn s x y (depthAt r x + 1) (getD row i 0 - 1)) (set queue′ count′ y) (count′ + 1) (i + 1)
+      unfolding cell
+      visited-hang = record {
+        long = (
+          length-set (s .parent) y x ∙ w .long .0,
+          length-set (s .depth) y (depthAt r x + 1) ∙ w .long .1,
+          length-set (s .edge) y (getD row i 0 - 1) ∙ w .long .2,
+        );
+        lined = rw add-one (lined-more (s .depth) queue′ count′ y (depthAt r x) (w .long .1) (w .lined) hy ly
+            (omega (arith, l .lined .bound x, w .more)));
+        more = omega (arith, w .more);
+        old = λ j h. getD-set-other queue′ count′ j y 0 (λ q. omega (arith, w .more)) ∙ w .old j h;
+        same = λ v h. still v (rw (w .same v h) h) ∙ w .same v h;
+        all = λ j k. go j k (ℕ-discrete j i);
+        kept = λ t n e d h.
+            let q = w .same x (l .hangs) in
+            hung-on a b t n s x y (depthAt r x + 1) (getD row i 0 - 1) (w .kept t n e d h) (omega (arith, q, l .hangs)) hy
+            (rw ey (d i f .among)) ly (i, ap (λ (u : List ℕ). getD u i 0) e ∙ omega arith) (rw ey (d i f .joins)) (omega (arith, q));
+      }
+        where
+          new : depthAt (hungOn s x y (depthAt r x + 1) (getD row i 0 - 1)) y ≡ depthAt r x + 1
+          new = getD-set-same (s .depth) y (depthAt r x + 1) 0 (omega (arith, w .long .1, ly))
+
+          go : (j : ℕ) → j < i + 1 → Dec (j ≡ i)
+              → 1 ≤ depthAt (hungOn s x y (depthAt r x + 1) (getD row i 0 - 1)) (opposite a b x (getD row j 0 - 1))
+          go j k (yes q) = rw (q, ← ey, new) (omega arith)
+          go j k (no q) = let h = w .all j (omega arith) in rw (still (opposite a b x (getD row j 0 - 1)) h) h
+
+-- ---- where the lists of the first i vertices of the queue lead, hangs
+
+abbrev pub Closed : List ℕ → List ℕ → List (List ℕ) → List ℕ → List ℕ → ℕ → Type 0
+Closed a b t depth queue i = (p j : ℕ) → p < i → ((q : ℕ) → q ≤ j → listed t (getD queue p 0) q ≢ 0)
+    → 1 ≤ getD depth (opposite a b (getD queue p 0) (listed t (getD queue p 0) j - 1)) 0
+
+pub closed-more : (a b : List ℕ) (t : List (List ℕ)) (x : ℕ) (r : Rooting) (queue : List ℕ) (count : ℕ) (s : Rooting) (queue′ : List ℕ)
+    (count′ i : ℕ) → i < count → x ≡ getD queue i 0 → Closed a b t (r .depth) queue i
+    → Left a b (getD t (x - 1) []) x r queue count s queue′ count′ → Closed a b t (s .depth) queue′ (i + 1)
 unfolding cell
-closed-more t n r s done x c w z y d a e = go (ℕ-discrete z x)
+closed-more a b t x r queue count s queue′ count′ i li ex c (k, stop, w) p j h full = go (ℕ-discrete p i)
   where
-    go : Dec (z ≡ x) → 1 ≤ depthAt s y
-    go (yes q) = w .all y (a .0) (omega (arith, a .1)) (rw q at e)
-    go (no q) = let h = c z y (sym (getD-set-other done x z true false q) ∙ d) a e in omega (arith, w .same y h)
+    same : getD queue′ p 0 ≡ getD queue p 0
+    same = w .old p (omega arith)
+
+    go : Dec (p ≡ i) → 1 ≤ getD (s .depth) (opposite a b (getD queue′ p 0) (listed t (getD queue′ p 0) j - 1)) 0
+    go (yes q) = rw here (w .all j (before (decLe k j)))
+      where
+        here : getD queue′ p 0 ≡ x
+        here = same ∙ ap (λ (z : ℕ). getD queue z 0) q ∙ sym ex
+
+        before : Dec (k ≤ j) → j < k
+        before (no z) = omega arith
+        before (yes z) = absurd (full k z (rw here stop))
+    go (no q) = rw same (still _ (c p j (omega arith) (rw same at full)))
+      where
+        still : (v : ℕ) → 1 ≤ getD (r .depth) v 0 → 1 ≤ getD (s .depth) v 0
+        still v l = rw (w .same v l) l
+
+-- when all of the queue has been visited the tree is complete
+pub closed-all : (a b : List ℕ) (t : List (List ℕ)) (r : Rooting) (queue : List ℕ) (count : ℕ) → Lined (r .depth) queue count
+    → Closed a b t (r .depth) queue count → Complete a b t r
+closed-all a b t r queue count l c x i h full = go (l .each x h)
+  where
+    go : (j : ℕ) × (j < count) × (getD queue j 0 ≡ x) → 1 ≤ depthAt r (opposite a b x (listed t x i - 1))
+    go p = rw (p .2) at (c (p .0) i (p .1) (rw (p .2) full))

@@ -1,22 +1,21 @@
 // Charged costs, each moved up by one offset so that it is unsigned, and the bound that a sum of them stands for.
 ghost use mathlib.Core.Path.{_≡_};
+ghost use mathlib.Core.Logic.{_≢_, _⊎_};
 ghost use Prim.Native.Nat.{ℕ, _+_, _*_, _<_, _≤_};
 ghost use lib.ListN.{length, getD};
-ghost use lib.IntN.{_+ℤ_};
+ghost use lib.IntN.{pos, _+ℤ_};
 ghost use Rattle.lists.specs.Select.{select};
 ghost use Rattle.lists.specs.Numbers.{upTo};
 ghost use Rattle.lists.specs.Weights.{weight};
 ghost use Rattle.integers.specs.Parts.{IsDiff};
 ghost use Rattle.integers.specs.Range.{InRange};
 ghost use Rattle.graph.specs.Limits.{maxCost, maxMultiplier, maxEdges, maxVertices};
-ghost use Rattle.graph.specs.Valid.{Valid};
 ghost use Rattle.onetree.specs.Inputs.{multiplier};
 ghost use Rattle.onetree.specs.Arrays.{entry, bytes};
 ghost use Rattle.onetree.specs.Multipliers.{Ranged};
-ghost use Rattle.onetree.specs.Charged.{offset, maxCharge, Charged};
-ghost use Rattle.onetree.specs.Charging.{Raised};
+ghost use Rattle.onetree.specs.Charged.{offset, maxCharge};
+ghost use Rattle.onetree.specs.Charging.{Chargeable, ChargesOf, Raised};
 use crate::wide;
-use graph::Graph;
 
 // A cost or a multiplier, moved up by its limit.
 fn raised(x: i32) -> u32
@@ -41,36 +40,46 @@ fn multiplier_at(d: &[i32], v: u8) -> i32
     d[wide(v) - 1]
 }
 
-// Every edge's charge.
-pub(crate) fn charges(g: Graph, d: &[i32]) -> [u32; 190]
-    requires { ⌜ Valid g × Ranged (now d) × (length (now d) ≡ g .n) ⌝ }
-    ensures { λ r. ⌜ Charged g (now (d .entry)) r ⌝ }
+// Every edge's charge, into c.
+pub(crate) fn charges<'a>(
+    a: &'a [u8; 190],
+    b: &'a [u8; 190],
+    cost: &'a [i32; 190],
+    m: usize,
+    d: &'a [i32],
+    c: &mut [u32; 190],
+)
+    requires { ⌜ Ranged (now d) × (m ≤ maxEdges)
+        × ((k : ℕ) → k < m → Chargeable (length (now d)) (getD (now a) k 0) (getD (now b) k 0) (getD (now cost) k (pos 0)))
+        × (length (now c) ≡ maxEdges) ⌝ }
+    ensures { λ _. ⌜ ChargesOf (now (a .entry)) (now (b .entry)) (now (cost .entry)) (now (d .entry)) (now (c .exit)) m ⌝ }
 {
-    let mut c = [0u32; 190];
-    let m = g.m;
     let mut k = 0;
     while k < m {
-        c[k] = charge(
-            g.cost[k],
-            multiplier_at(d, g.a[k]),
-            multiplier_at(d, g.b[k]),
-        );
+        c[k] = charge(cost[k], multiplier_at(d, a[k]), multiplier_at(d, b[k]));
         k = k + 1;
     }
-    c
 }
 
-// The sum of the charges of the edges that are in.
-pub(crate) fn weigh(c: [u32; 190], w: [u8; 190], m: usize) -> u64
-    requires { ⌜ (m ≤ maxEdges) × ((k : ℕ) → k < m → getD c k 0 ≤ maxCharge) ⌝ }
-    ensures { λ r. ⌜ (r ≡ weight (entry c) (select (bytes w) (upTo m))) × (r ≤ maxCharge * m) ⌝ }
+// What an edge with charge c adds to the sum.
+fn share(c: u32, x: u8) -> u32
+    ensures { λ r. ⌜ ((x ≡ 1) × (r ≡ c)) ⊎ ((x ≢ 1) × (r ≡ 0)) ⌝ }
+{
+    if x == 1 {
+        return c;
+    }
+    0
+}
+
+// The sum of the charges of the edges that are in: no branch in the loop, so that it goes many edges at a time.
+pub(crate) fn weigh<'a>(c: &'a [u32; 190], w: &'a [u8; 190], m: usize) -> u64
+    requires { ⌜ (m ≤ maxEdges) × ((k : ℕ) → k < m → getD (now c) k 0 ≤ maxCharge) ⌝ }
+    ensures { λ r. ⌜ (r ≡ weight (entry (now (c .entry))) (select (bytes (now (w .entry))) (upTo m))) × (r ≤ maxCharge * m) ⌝ }
 {
     let mut sum: u64 = 0;
     let mut k = 0;
     while k < m {
-        if w[k] == 1 {
-            sum = sum + c[k] as u64;
-        }
+        sum = sum + long(share(c[k], w[k]));
         k = k + 1;
     }
     sum

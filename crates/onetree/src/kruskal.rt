@@ -1,24 +1,22 @@
 // The greedy choice: of the edges in order, the first two at vertex 1, and of the others each that joins two components.
 ghost use mathlib.Core.Path.{_≡_};
+ghost use mathlib.Core.Logic.{_≢_, _⊎_};
 ghost use Prim.Native.Nat.{ℕ, _+_, _%_, _<_, _≤_, min, max};
 ghost use lib.ListN.{length, getD};
 ghost use Rattle.lists.specs.Bools.{Says};
 ghost use Rattle.graph.specs.Limits.{maxEdges};
-ghost use Rattle.graph.specs.Network.{network};
-ghost use Rattle.graph.specs.Valid.{Valid};
+ghost use Rattle.graph.specs.Network.{Network};
 ghost use Rattle.spanning.specs.Walks.{relabel};
 ghost use Rattle.onetree.specs.Keys.{queued};
 ghost use Rattle.onetree.specs.Growth.{Grew};
-ghost use Rattle.onetree.specs.Kruskal.{Kept};
-use crate::order::Queue;
+ghost use Rattle.onetree.specs.Turn.{Joins, Reads};
+ghost use Rattle.onetree.specs.Kruskal.{KeptBy};
 use crate::order::place;
 use crate::wide;
-use graph::Graph;
 use graph::REQUIRED;
 
-// What the greedy choice took: one byte an edge; how many edges at vertex 1 it met, and how many others it took.
+// What the greedy choice came to: how many edges at vertex 1 it met, and how many others it took.
 pub(crate) struct Grown {
-    pub within: [u8; 190],
     pub near: usize,
     pub far: usize,
 }
@@ -65,28 +63,35 @@ fn join(l: &mut [u8; 21], x: u8, y: u8)
     }
 }
 
-pub(crate) fn grow(g: Graph, o: Queue) -> Grown
-    requires { ⌜ Valid g × (o .count ≤ maxEdges) × ((i : ℕ) → i < o .count → getD (o .keys) i 0 % 256 < g .m) ⌝ }
-    ensures { λ r. ⌜ Grew (network g) (queued (o .keys) (o .count)) (r .within) (r .near) (r .far) × (r .far ≤ maxEdges) ⌝ }
+// One byte an edge, into w.
+pub(crate) fn grow<'a>(
+    a: &'a [u8; 190],
+    b: &'a [u8; 190],
+    keys: &'a [u32; 190],
+    f: usize,
+    w: &mut [u8; 190],
+) -> Grown
+    requires { ⌜ (f ≤ maxEdges) × ((i : ℕ) → i < f → Joins (now a) (now b) (getD (now keys) i 0 % 256))
+        × (length (now w) ≡ maxEdges) × ((k : ℕ) → getD (now w) k 0 ≡ 0) ⌝ }
+    ensures { λ r. ⌜ (r .far ≤ maxEdges) × ((G : Network) → Reads G (now (a .entry)) (now (b .entry)) (now (keys .entry)) f
+        → Grew G (queued (now (keys .entry)) f) (now (w .exit)) (r .near) (r .far)) ⌝ }
 {
     let mut l = labels();
-    let mut w = [0u8; 190];
     let mut near = 0;
     let mut far = 0;
-    let f = o.count;
     let mut i = 0;
     while i < f {
-        let k = place(o.keys[i]);
-        let a = wide(g.a[k]);
-        let b = wide(g.b[k]);
-        if a == 1 {
+        let k = place(keys[i]);
+        let u = wide(a[k]);
+        let v = wide(b[k]);
+        if u == 1 {
             if near < 2 {
                 w[k] = 1;
             }
             near = near + 1;
         } else {
-            let x = l[a];
-            let y = l[b];
+            let x = l[u];
+            let y = l[v];
             if x != y {
                 join(&mut l, x, y);
                 w[k] = 1;
@@ -96,41 +101,53 @@ pub(crate) fn grow(g: Graph, o: Queue) -> Grown
         i = i + 1;
     }
     Grown {
-        within: w,
         near: near,
         far: far,
     }
 }
 
-// Was every required edge taken?
-fn kept(g: Graph, w: [u8; 190]) -> bool
-    requires { ⌜ Valid g ⌝ }
-    ensures { λ r. ⌜ Says r (Kept g w) ⌝ }
+// 1 for a required edge that was not taken, else 0.
+fn left_out(mark: u8, x: u8) -> u8
+    ensures { λ r. ⌜ ((r ≡ 0) × (mark ≡ 1 → x ≡ 1)) ⊎ ((r ≡ 1) × (mark ≡ 1) × (x ≢ 1)) ⌝ }
 {
-    let m = g.m;
-    let mut k = 0;
-    while k < m {
-        if g.mark[k] == REQUIRED {
-            if w[k] != 1 {
-                return false;
-            }
-        }
-        k = k + 1;
+    if mark != REQUIRED {
+        return 0;
     }
-    true
+    if x == 1 {
+        return 0;
+    }
+    1
 }
 
-// Is what was taken a 1-tree?
-pub(crate) fn whole(g: Graph, t: Grown) -> bool
-    requires { ⌜ Valid g × (t .far ≤ maxEdges) ⌝ }
-    ensures { λ r. ⌜ Says r ((2 ≤ t .near) × (t .far + 2 ≡ g .n) × Kept g (t .within)) ⌝ }
+// Was every required edge taken? Those left out are counted: without an early end the loop goes many edges at a time.
+fn kept<'a>(mark: &'a [u8; 190], m: usize, w: &'a [u8; 190]) -> bool
+    requires { ⌜ m ≤ maxEdges ⌝ }
+    ensures { λ r. ⌜ Says r (KeptBy (now (mark .entry)) m (now (w .entry))) ⌝ }
 {
-    if t.near < 2 {
+    let mut lost: u8 = 0;
+    for k in 0..m {
+        lost = lost + left_out(mark[k], w[k]);
+    }
+    lost == 0
+}
+
+// Is what was taken a 1-tree? met: how many edges at vertex 1 there were to choose from; far: how many others were taken.
+pub(crate) fn whole<'a>(
+    mark: &'a [u8; 190],
+    n: usize,
+    m: usize,
+    w: &'a [u8; 190],
+    met: usize,
+    far: usize,
+) -> bool
+    requires { ⌜ (m ≤ maxEdges) × (far ≤ maxEdges) ⌝ }
+    ensures { λ r. ⌜ Says r ((2 ≤ met) × (far + 2 ≡ n) × KeptBy (now (mark .entry)) m (now (w .entry))) ⌝ }
+{
+    if met < 2 {
         return false;
     }
-    if t.far + 2 != g.n {
+    if far + 2 != n {
         return false;
     }
-    let w = t.within;
-    kept(g, w)
+    kept(mark, m, w)
 }

@@ -8,6 +8,7 @@ ghost use Rattle.graph.specs.Valid.{Valid};
 ghost use Rattle.onetree.specs.Arrays.{entry};
 ghost use Rattle.onetree.specs.Multipliers.{Ranged};
 ghost use Rattle.onetree.specs.Found.{FoundIs};
+ghost use Rattle.onetree.specs.Looks.{Looks};
 ghost use Rattle.onetree.specs.Answers.{treeMeaning, treeReply, treeLeaves, ruleMeaning, ruleReply, ruleLeaves, passTree, passRulings};
 
 mod charges;
@@ -43,19 +44,24 @@ pub enum RuleAnswer {
     Refused(u32, u64),
 }
 
-// The tree and the rulings from one 1-tree, for a search: a byte for each edge and 0 past them, all 0 where the answer has no bound.
+// The tree and the rulings from one 1-tree, for a search: a byte for each edge and 0 past them, all 0 where the answer has no bound. And in
+// the first `live` bytes of `order` the places of the edges that are not excluded, as they were looked at; or live is 0.
 pub struct Passed {
     pub answer: RuleAnswer,
     pub tree: [u8; 190],
     pub rulings: [u8; 190],
+    pub order: [u8; 190],
+    pub live: usize,
 }
 
-// The least 1-tree, one byte an edge, and its bound, where there is any; and the charges that it was found by.
+// The least 1-tree, one byte an edge, and its bound, where there is any; and the charges that it was found by, and the order.
 pub(crate) struct Found {
     pub any: bool,
     pub bound: i64,
     pub within: [u8; 190],
     pub charge: [u32; 190],
+    pub order: [u8; 190],
+    pub live: usize,
 }
 
 pub(crate) fn wide(x: u8) -> usize
@@ -64,22 +70,33 @@ pub(crate) fn wide(x: u8) -> usize
     x as usize
 }
 
-pub(crate) fn find(g: Graph, multipliers: &[i32]) -> Found
+pub(crate) fn find(g: Graph, multipliers: &[i32], hint: &[u8]) -> Found
     requires { ⌜ Valid g × Ranged (now multipliers) × (length (now multipliers) ≡ g .n) ⌝ }
-    ensures { λ r. ⌜ FoundIs g (now (multipliers .entry)) (r .any) (r .bound) (r .within) (r .charge) ⌝ }
+    ensures { λ r. ⌜ FoundIs g (now (multipliers .entry)) (r .any) (r .bound) (r .within) (r .charge)
+        × Looks (g .mark) (g .m) (r .order) (r .live) ⌝ }
 {
-    let c = charges::charges(g, multipliers);
-    let o = order::order(g, c);
-    let t = kruskal::grow(g, o);
-    let any = kruskal::whole(g, t);
-    let w = t.within;
-    let sum = charges::weigh(c, w, g.m);
-    let b = charges::bound(sum, g.n, charges::total(multipliers));
+    let a = g.a;
+    let b = g.b;
+    let cost = g.cost;
+    let mark = g.mark;
+    let mut c = [0u32; 190];
+    charges::charges(&a, &b, &cost, g.m, multipliers, &mut c);
+    let mut ks = [0u32; 190];
+    let f = order::order(&mark, g.m, &c, hint, &mut ks);
+    let mut order = [0u8; 190];
+    order::places(&ks, f, &mut order);
+    let mut w = [0u8; 190];
+    let t = kruskal::grow(&a, &b, &ks, f, &mut w);
+    let any = kruskal::whole(&mark, g.n, g.m, &w, t.near, t.far);
+    let sum = charges::weigh(&c, &w, g.m);
+    let lowest = charges::bound(sum, g.n, charges::total(multipliers));
     Found {
         any: any,
-        bound: b,
+        bound: lowest,
         within: w,
         charge: c,
+        order: order,
+        live: f,
     }
 }
 
@@ -105,7 +122,7 @@ pub fn tree(g: Graph, multipliers: &[i32], out: &mut [u8]) -> TreeAnswer
     if fault != 0 {
         return TreeAnswer::Refused(fault, 0);
     }
-    let f = find(g, multipliers);
+    let f = find(g, multipliers, &[]);
     if !f.any {
         return TreeAnswer::NoTree;
     }
@@ -124,7 +141,7 @@ pub fn rule(g: Graph, multipliers: &[i32], ceiling: i64, out: &mut [u8]) -> Rule
     if fault != 0 {
         return RuleAnswer::Refused(fault, 0);
     }
-    let j = judge::judge(g, multipliers, ceiling);
+    let j = judge::judge(g, multipliers, ceiling, &[]);
     if !j.any {
         return RuleAnswer::Infeasible;
     }
@@ -133,12 +150,14 @@ pub fn rule(g: Graph, multipliers: &[i32], ceiling: i64, out: &mut [u8]) -> Rule
     RuleAnswer::Bound(j.bound)
 }
 
-// What the tree call and the rule call say, from one tree.
+// What the tree call and the rule call say, from one tree. hint: an order to start sorting from; whatever it holds, the answers are the
+// same.
 // Ruled out: a byte of either list where the answer has no bound, or past the edges.
-pub fn pass(g: Graph, multipliers: &[i32], ceiling: i64) -> Passed
+pub fn pass(g: Graph, multipliers: &[i32], ceiling: i64, hint: &[u8]) -> Passed
     ensures { λ r. ⌜ (ruleMeaning (r .answer) ≡ ruleReply g (now (multipliers .entry)) ceiling (g .m))
         × (r .tree ≡ passTree g (now (multipliers .entry)) ceiling)
-        × (r .rulings ≡ passRulings g (now (multipliers .entry)) ceiling) ⌝ }
+        × (r .rulings ≡ passRulings g (now (multipliers .entry)) ceiling)
+        × (r .live ≤ maxEdges) × (0 < r .live → Looks (g .mark) (g .m) (r .order) (r .live)) ⌝ }
 {
     let fault = judge::rule_fault(g, multipliers, ceiling, g.m);
     if fault != 0 {
@@ -146,21 +165,28 @@ pub fn pass(g: Graph, multipliers: &[i32], ceiling: i64) -> Passed
             answer: RuleAnswer::Refused(fault, 0),
             tree: [0; 190],
             rulings: [0; 190],
+            order: [0; 190],
+            live: 0,
         };
     }
-    let j = judge::judge(g, multipliers, ceiling);
+    let j = judge::judge(g, multipliers, ceiling, hint);
     if !j.any {
         return Passed {
             answer: RuleAnswer::Infeasible,
             tree: [0; 190],
             rulings: [0; 190],
+            order: [0; 190],
+            live: 0,
         };
     }
     let tree = j.tree;
+    let order = j.order;
     let rulings = j.rulings;
     Passed {
         answer: RuleAnswer::Bound(j.bound),
         tree: tree,
         rulings: rulings,
+        order: order,
+        live: j.live,
     }
 }

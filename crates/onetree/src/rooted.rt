@@ -1,11 +1,14 @@
 // The least 1-tree away from vertex 1, hung on vertex 2: what the walk of a circle climbs.
-ghost use Prim.Native.Nat.{_+_, _<_, _≤_};
-ghost use lib.ListN.{getD};
+ghost use mathlib.Core.List.{List};
+ghost use Prim.Native.Nat.{ℕ, _≤_};
+ghost use lib.IntN.{ℤ};
+ghost use Rattle.graph.specs.Network.{network};
 ghost use Rattle.graph.specs.Valid.{Valid};
-ghost use Rattle.onetree.specs.TreeTable.{Table};
-ghost use Rattle.onetree.specs.Visiting.{Hung, Visited, Picked, Complete};
+ghost use Rattle.onetree.specs.OneTree.{OneTree};
+ghost use Rattle.onetree.specs.Arrays.{bytes, graphOf};
+ghost use Rattle.onetree.specs.TreeTable.{Lists};
+ghost use Rattle.onetree.specs.Visiting.{rooting, Hung, Complete, Leaving, Left, Rows};
 use crate::wide;
-use graph::Graph;
 
 // The vertex above each vertex, how deep it hangs (0: nowhere yet) and the place of the edge to the vertex above.
 pub(crate) struct Rooting {
@@ -14,89 +17,110 @@ pub(crate) struct Rooting {
     pub edge: [u8; 21],
 }
 
-// Across two vertices one more than the place of the tree's edge that joins them; 0 where none does. Edges at vertex 1 have no part in it.
-pub(crate) fn table(g: Graph, w: [u8; 190]) -> [[u8; 20]; 20]
-    requires { ⌜ Valid g ⌝ }
-    ensures { λ r. ⌜ Table g w r (g .m) ⌝ }
+// Row x - 1 lists the tree's edges at vertex x, each as one more than its place, and has zeros after them. Edges at vertex 1 have no part
+// in it.
+pub(crate) fn table<'a>(
+    a: &'a [u8; 190],
+    b: &'a [u8; 190],
+    w: &'a [u8; 190],
+    m: usize,
+) -> [[u8; 20]; 20]
+    requires { ⌜ ((n : ℕ) × (cost : List ℤ) × (mark : List ℕ) × Valid (graphOf n m (now a) (now b) cost mark)
+        × OneTree (network (graphOf n m (now a) (now b) cost mark)) (bytes (now w))) ⌝ }
+    ensures { λ r. ⌜ ((n : ℕ) (cost : List ℤ) (mark : List ℕ) → Valid (graphOf n m (now (a .entry)) (now (b .entry)) cost mark)
+        → OneTree (network (graphOf n m (now (a .entry)) (now (b .entry)) cost mark)) (bytes (now (w .entry)))
+        → Lists (graphOf n m (now (a .entry)) (now (b .entry)) cost mark) (now (w .entry)) r) ⌝ }
 {
     let mut t = [[0u8; 20]; 20];
-    let m = g.m;
+    let mut count = [0u8; 21];
     for k in 0..m {
         if w[k] == 1 {
-            let a = wide(g.a[k]);
-            let b = wide(g.b[k]);
-            if a != 1 {
-                let i = a - 1;
-                let j = b - 1;
+            let x = wide(a[k]);
+            let y = wide(b[k]);
+            if x != 1 {
                 let e = (k + 1) as u8;
-                t[i][j] = e;
-                t[j][i] = e;
+                let i = x - 1;
+                let p = wide(count[x]);
+                t[i][p] = e;
+                count[x] = (p + 1) as u8;
+                let j = y - 1;
+                let q = wide(count[y]);
+                t[j][q] = e;
+                count[y] = (q + 1) as u8;
             }
         }
     }
     t
 }
 
-// Every neighbour of x that hangs nowhere yet is hung on x.
-fn visit(r: Rooting, row: [u8; 20], x: usize, n: usize) -> Rooting
-    requires { ⌜ (x < 21) × (n ≤ 20) × (getD (r .depth) x 0 ≤ 100) ⌝ }
-    ensures { λ s. ⌜ Visited n x row r s (n + 1) ⌝ }
+// Every neighbour of x that hangs nowhere yet is hung on x, and put at the end of the queue, whose length is handed on.
+fn visit<'a>(
+    a: &'a [u8; 190],
+    b: &'a [u8; 190],
+    row: [u8; 20],
+    x: usize,
+    parent: &mut [u8; 21],
+    depth: &mut [u8; 21],
+    edge: &mut [u8; 21],
+    queue: &mut [u8; 21],
+    count: usize,
+) -> usize
+    requires { ⌜ Leaving (now a) (now b) row x (rooting (now parent) (now depth) (now edge)) (now queue) count ⌝ }
+    ensures { λ r. ⌜ Left (now (a .entry)) (now (b .entry)) row x (rooting (now (parent .entry)) (now (depth .entry)) (now (edge .entry)))
+        (now (queue .entry)) count (rooting (now (parent .exit)) (now (depth .exit)) (now (edge .exit))) (now (queue .exit)) r ⌝ }
 {
-    let mut s = r;
-    let d = s.depth[x];
-    let mut y = 2;
-    while y <= n {
-        let e = row[y - 1];
-        if e != 0 {
-            if s.depth[y] == 0 {
-                s.parent[y] = x as u8;
-                s.depth[y] = d + 1;
-                s.edge[y] = e - 1;
-            }
+    let d = depth[x] + 1;
+    let mut c = count;
+    let mut i = 0;
+    while row[i] != 0 {
+        let k = wide(row[i]) - 1;
+        let y = wide(a[k]) + wide(b[k]) - x;
+        if depth[y] == 0 {
+            parent[y] = x as u8;
+            depth[y] = d;
+            edge[y] = k as u8;
+            queue[c] = y as u8;
+            c = c + 1;
         }
-        y = y + 1;
+        i = i + 1;
     }
-    s
+    c
 }
 
-// A vertex that hangs and is not done; 0 where there is none.
-fn pick(depth: [u8; 21], done: [bool; 21]) -> usize
-    ensures { λ r. ⌜ Picked depth done r ⌝ }
+// Vertex 2 hangs; from each vertex in the order of hanging its neighbours are hung.
+pub(crate) fn hang<'a>(a: &'a [u8; 190], b: &'a [u8; 190], t: &'a [[u8; 20]; 20]) -> Rooting
+    requires { ⌜ ((n : ℕ) × (2 ≤ n) × (n ≤ 20) × Rows (now a) (now b) n (now t)) ⌝ }
+    ensures { λ r. ⌜ ((n : ℕ) → 2 ≤ n → Rows (now (a .entry)) (now (b .entry)) n (now (t .entry))
+        → Hung (now (a .entry)) (now (b .entry)) (now (t .entry)) n r)
+        × Complete (now (a .entry)) (now (b .entry)) (now (t .entry)) r ⌝ }
 {
-    let mut v = 2;
-    while v < 21 {
-        if depth[v] != 0 {
-            if !done[v] {
-                return v;
-            }
-        }
-        v = v + 1;
-    }
-    0
-}
-
-// Vertex 2 hangs; from each vertex that hangs, once, its neighbours are hung.
-pub(crate) fn hang(t: [[u8; 20]; 20], n: usize) -> Rooting
-    requires { ⌜ (2 ≤ n) × (n ≤ 20) ⌝ }
-    ensures { λ r. ⌜ Hung t n r 22 × Complete t n r ⌝ }
-{
+    let mut parent = [0u8; 21];
     let mut depth = [0u8; 21];
+    let mut edge = [0u8; 21];
+    let mut queue = [0u8; 21];
     depth[2] = 1;
-    let mut s = Rooting {
-        parent: [0; 21],
-        depth: depth,
-        edge: [0; 21],
-    };
-    let mut done = [false; 21];
-    loop {
-        let d = s.depth;
-        let x = pick(d, done);
-        if x == 0 {
-            break;
-        }
+    queue[0] = 2;
+    let mut count: usize = 1;
+    let mut i = 0;
+    while i < count {
+        let x = wide(queue[i]);
         let row = t[x - 1];
-        s = visit(s, row, x, n);
-        done[x] = true;
+        count = visit(
+            a,
+            b,
+            row,
+            x,
+            &mut parent,
+            &mut depth,
+            &mut edge,
+            &mut queue,
+            count,
+        );
+        i = i + 1;
     }
-    s
+    Rooting {
+        parent: parent,
+        depth: depth,
+        edge: edge,
+    }
 }

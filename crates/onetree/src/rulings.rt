@@ -3,21 +3,22 @@
 ghost use mathlib.Core.Path.{_≡_};
 ghost use mathlib.Core.Bool.{_&&_, not};
 ghost use mathlib.Core.Logic.{_⊎_};
+ghost use mathlib.Core.List.{List};
 ghost use Prim.Native.Nat.{ℕ, _+_, _<_, _≤_};
 ghost use lib.Dec.{eqb};
 ghost use lib.ListN.{getD};
+ghost use lib.IntN.{ℤ};
 ghost use Rattle.graph.specs.Valid.{Valid};
 ghost use Rattle.graph.specs.Network.{network};
 ghost use Rattle.onetree.specs.OneTree.{OneTree};
-ghost use Rattle.onetree.specs.Arrays.{bytes};
+ghost use Rattle.onetree.specs.Arrays.{bytes, graphOf};
 ghost use Rattle.onetree.specs.Filled.{Filled};
 ghost use Rattle.onetree.specs.Verdicts.{barByte, forceByte};
 ghost use Rattle.onetree.specs.Candidates.{weightOf, weightAt, NearIs};
-ghost use Rattle.onetree.specs.Judging.{Ready, Judged};
+ghost use Rattle.onetree.specs.Judging.{Ready, Judged, hung};
 ghost use Rattle.onetree.specs.Ruled.{lowOf, rulingOf, finalAt, RuledBy};
 use crate::climb::climb;
 use crate::climb::greater;
-use crate::rooted::Rooting;
 use crate::rooted::hang;
 use crate::rooted::table;
 use crate::wide;
@@ -70,15 +71,20 @@ fn free_at_one(a: u8, mark: u8) -> bool
     mark == FREE
 }
 
-fn near_one(g: Graph, w: [u8; 190], c: [u32; 190]) -> Near
-    requires { ⌜ g .m ≤ 190 ⌝ }
-    ensures { λ r. ⌜ NearIs g w c (r .dearest) (r .cheapest) (g .m) ⌝ }
+fn near_one<'a>(
+    a: &'a [u8; 190],
+    mark: &'a [u8; 190],
+    w: &'a [u8; 190],
+    c: &'a [u32; 190],
+    m: usize,
+) -> Near
+    requires { ⌜ m ≤ 190 ⌝ }
+    ensures { λ r. ⌜ NearIs (now (a .entry)) (now (mark .entry)) (now (w .entry)) (now (c .entry)) (r .dearest) (r .cheapest) m ⌝ }
 {
     let mut dearest: u32 = 0;
     let mut cheapest: u32 = NONE;
-    let m = g.m;
     for k in 0..m {
-        if free_at_one(g.a[k], g.mark[k]) {
+        if free_at_one(a[k], mark[k]) {
             if w[k] == 1 {
                 dearest = greater(dearest, c[k]);
             } else {
@@ -103,16 +109,15 @@ fn weight_of(mark: u8, c: u32) -> u32
 }
 
 // What the edge above each vertex weighs.
-fn weights(g: Graph, c: [u32; 190], edge: [u8; 21]) -> [u32; 21]
-    requires { ⌜ Valid g × ((v : ℕ) → 3 ≤ v → v ≤ g .n → getD edge v 0 < 190) ⌝ }
-    ensures { λ r. ⌜ Filled (weightAt g c edge) 3 r (g .n + 1) ⌝ }
+fn weights<'a>(mark: &'a [u8; 190], c: &'a [u32; 190], edge: &'a [u8; 21], n: usize) -> [u32; 21]
+    requires { ⌜ (2 ≤ n) × (n ≤ 20) × ((v : ℕ) → 3 ≤ v → v ≤ n → getD (now edge) v 0 < 190) ⌝ }
+    ensures { λ r. ⌜ Filled (weightAt (now (mark .entry)) (now (c .entry)) (now (edge .entry))) 3 r (n + 1) ⌝ }
 {
     let mut weight = [0u32; 21];
-    let n = g.n;
     let mut v = 3;
     while v <= n {
         let k = wide(edge[v]);
-        weight[v] = weight_of(g.mark[k], c[k]);
+        weight[v] = weight_of(mark[k], c[k]);
         v = v + 1;
     }
     weight
@@ -149,31 +154,37 @@ fn free_outside(x: u8, mark: u8) -> bool
 }
 
 // Every free edge outside the tree: at vertex 1 against the dearest there, elsewhere against the dearest on its circle.
-fn judge_outside(
-    g: Graph,
-    w: [u8; 190],
-    c: [u32; 190],
-    r: Rooting,
-    weight: [u32; 21],
+fn judge_outside<'a>(
+    a: &'a [u8; 190],
+    b: &'a [u8; 190],
+    mark: &'a [u8; 190],
+    w: &'a [u8; 190],
+    c: &'a [u32; 190],
+    parent: &'a [u8; 21],
+    depth: &'a [u8; 21],
+    weight: &'a [u32; 21],
+    m: usize,
     dearest: u32,
     slack: u32,
 ) -> Outside
-    requires { ⌜ Ready g w c r weight dearest ⌝ }
-    ensures { λ o. ⌜ Judged g w c r slack (o .out) (o .cheapest) (g .m) ⌝ }
+    requires { ⌜ ((n : ℕ) × (cost : List ℤ) × (edge : List ℕ) × Ready (graphOf n m (now a) (now b) cost (now mark)) (now w) (now c)
+        (hung (now parent) (now depth) edge) (now weight) dearest) ⌝ }
+    ensures { λ o. ⌜ ((n : ℕ) (cost : List ℤ) (edge : List ℕ)
+        → Ready (graphOf n m (now (a .entry)) (now (b .entry)) cost (now (mark .entry))) (now (w .entry)) (now (c .entry))
+        (hung (now (parent .entry)) (now (depth .entry)) edge) (now (weight .entry)) dearest
+        → Judged (graphOf n m (now (a .entry)) (now (b .entry)) cost (now (mark .entry))) (now (w .entry)) (now (c .entry))
+        (hung (now (parent .entry)) (now (depth .entry)) edge) slack (o .out) (o .cheapest) m) ⌝ }
 {
     let mut out = [0u8; 190];
     let mut cheapest = [NONE; 21];
-    let parent = r.parent;
-    let depth = r.depth;
-    let m = g.m;
     for k in 0..m {
-        if free_outside(w[k], g.mark[k]) {
-            let a = wide(g.a[k]);
-            let b = wide(g.b[k]);
-            if a == 1 {
+        if free_outside(w[k], mark[k]) {
+            let x = wide(a[k]);
+            let y = wide(b[k]);
+            if x == 1 {
                 out[k] = bar(dearest, c[k], slack);
             } else {
-                let top = climb(&parent, &depth, &weight, &mut cheapest, a, b, c[k]);
+                let top = climb(parent, depth, weight, &mut cheapest, x, y, c[k]);
                 out[k] = bar(top, c[k], slack);
             }
         }
@@ -214,27 +225,29 @@ fn ruling_of(mark: u8, x: u8, low: u32, c: u32, slack: u32, old: u8) -> u8
 }
 
 // Edge by edge: what its mark says, or whether it is forced, or what was found outside the tree.
-fn finish(
-    g: Graph,
-    w: [u8; 190],
-    c: [u32; 190],
-    o: Outside,
-    depth: [u8; 21],
+fn finish<'a>(
+    a: &'a [u8; 190],
+    b: &'a [u8; 190],
+    mark: &'a [u8; 190],
+    w: &'a [u8; 190],
+    c: &'a [u32; 190],
+    out: &'a [u8; 190],
+    depth: &'a [u8; 21],
+    cheapest: &'a [u32; 21],
+    m: usize,
     near: u32,
     slack: u32,
 ) -> [u8; 190]
-    requires { ⌜ Valid g ⌝ }
-    ensures { λ r. ⌜ Filled (finalAt g w c slack depth (o .cheapest) (o .out) near) 0 r (g .m) ⌝ }
+    requires { ⌜ (m ≤ 190) × ((k : ℕ) → k < m → (getD (now a) k 0 < 21) × (getD (now b) k 0 < 21)) ⌝ }
+    ensures { λ r. ⌜ Filled (finalAt (now (a .entry)) (now (b .entry)) (now (mark .entry)) (now (w .entry)) (now (c .entry)) slack
+        (now (depth .entry)) (now (cheapest .entry)) (now (out .entry)) near) 0 r m ⌝ }
 {
     let mut res = [0u8; 190];
-    let cheapest = o.cheapest;
-    let out = o.out;
-    let m = g.m;
     for k in 0..m {
-        let a = wide(g.a[k]);
-        let b = wide(g.b[k]);
-        let low = low_of(a, b, &depth, &cheapest, near);
-        res[k] = ruling_of(g.mark[k], w[k], low, c[k], slack, out[k]);
+        let x = wide(a[k]);
+        let y = wide(b[k]);
+        let low = low_of(x, y, depth, cheapest, near);
+        res[k] = ruling_of(mark[k], w[k], low, c[k], slack, out[k]);
     }
     res
 }
@@ -245,14 +258,32 @@ pub(crate) fn rulings(g: Graph, w: [u8; 190], c: [u32; 190], slack: u32) -> [u8;
     requires { ⌜ Valid g × OneTree (network g) (bytes w) ⌝ }
     ensures { λ r. ⌜ RuledBy g w c slack r ⌝ }
 {
-    let t = table(g, w);
-    let r = hang(t, g.n);
-    let edge = r.edge;
+    let a = g.a;
+    let b = g.b;
+    let mark = g.mark;
+    let m = g.m;
+    let t = table(&a, &b, &w, m);
+    let r = hang(&a, &b, &t);
+    let parent = r.parent;
     let depth = r.depth;
-    let weight = weights(g, c, edge);
-    let one = near_one(g, w, c);
-    let dearest = one.dearest;
-    let cheapest = one.cheapest;
-    let o = judge_outside(g, w, c, r, weight, dearest, slack);
-    finish(g, w, c, o, depth, cheapest, slack)
+    let edge = r.edge;
+    let weight = weights(&mark, &c, &edge, g.n);
+    let one = near_one(&a, &mark, &w, &c, m);
+    let near = one.cheapest;
+    let o = judge_outside(
+        &a,
+        &b,
+        &mark,
+        &w,
+        &c,
+        &parent,
+        &depth,
+        &weight,
+        m,
+        one.dearest,
+        slack,
+    );
+    let out = o.out;
+    let low = o.cheapest;
+    finish(&a, &b, &mark, &w, &c, &out, &depth, &low, m, near, slack)
 }

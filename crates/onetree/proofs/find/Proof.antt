@@ -1,89 +1,120 @@
 -- What the greedy choice comes to (found, missing) and the bound that its charges stand for (bound-is).
-use Prim.Native.Nat.{ℕ, _<_, _≤_}
+use Prim.Native.Nat.{ℕ, _<_, _≤_, _%_}
+use mathlib.Core.Path.{refl}
 use lib.ListN.{getD}
-use borrow.Author.Needs.{needs}
 use native.Mathlib.Omega.{arith}
+use Rattle.lists.specs.Rows.{zeros}
 use Rattle.lists.specs.Bools.{says-yes, says-no}
 use Rattle.integers.specs.Parts.{up, dn}
 use Rattle.integers.specs.Differences.{diff-range}
 use Rattle.integers.specs.Words.{back64}
+use Rattle.graph.specs.Network.{network}
+use Rattle.graph.specs.Places.{network-a, network-b}
+use Rattle.onetree.specs.Filled.{filled-none}
 use Rattle.onetree.specs.Found.{highBound, lowBound}
 use Rattle.onetree.specs.Keys.{keyed-small}
+use Rattle.onetree.specs.Looks.{keyed-looks}
 use Rattle.onetree.specs.Kruskal.{found, missing, bit-at, past-none}
-use Rattle.onetree.specs.Charging.{Raised, bound-is}
+use Rattle.onetree.specs.Charging.{Raised, chargeable, charged-of, bound-is}
 use Rattle.onetree.proofs.find.Statement.{statement}
 use Rattle.onetree.proofs.find.Tie as tie
 
 charges-requires : tie.Need-charges-requires
-charges-requires c κs = search needs
+charges-requires c κs = let s = c .before .before .before .before .before .before .before .before .before in (s .pre .1, s .pre .0 .few, chargeable (s .args .g) _ (s .pre .0) (s .pre .2), refl)
 
 order-requires : tie.Need-order-requires
-order-requires c κs = (c .before .pre .0, λ k h. c .charges .ensures k h .high)
+order-requires c κs = (c .before .before .before .before .before .before .before .before .before .before .before .before .before .pre .0 .few, λ k h. c .before .before .before .charges .ensures k h .2, refl)
+
+places-requires : tie.Need-places-requires
+places-requires c κs = (c .before .before .order .ensures .2, refl, filled-none _ 0 190)
+
+-- an edge that is looked at is one of the graph's
+looked : (c : tie.After-order)
+    → let g = c .before .before .before .before .before .before .before .before .before .before .before .before .before .before .args .g in (i : ℕ) → i < c .order .result → getD (c .order .last .1 .1 .1 .1 .0) i 0 % 256 < g .m
+looked c = let o = c .order .ensures in keyed-small _ _ _ _ _ (o .0) (omega (arith, c .before .before .before .before .before .before .before .before .before .before .before .before .before .before .pre .0 .few))
 
 grow-requires : tie.Need-grow-requires
 grow-requires c κs =
-    let o = c .order .ensures in
-    let v = c .before .before .pre .0 in
-    (v, o .2, keyed-small _ _ _ _ _ (o .0) (omega (arith, v .few)))
+    let at = c .before .before .before .before .before .before .before in
+    let v = at .before .before .before .before .before .before .before .before .before .before .before .before .before .before .pre .0 in (
+      at .order .ensures .2,
+      λ i h. let k = looked at i h in
+          let e = v .each _ k in
+          (omega (arith, k, v .few), omega (arith, e .less, e .to, v .high), omega (arith, e .to, v .high)),
+      refl,
+      zeros 190,
+    )
 
 whole-requires : tie.Need-whole-requires
-whole-requires c κs = search needs
+whole-requires c κs = (c .before .before .before .before .before .before .before .before .before .before .before .before .before .before .before .before .before .before .before .before .before .before .before .before .pre .0 .few, c .before .before .grow .ensures .0)
 
 weigh-requires : tie.Need-weigh-requires
-weigh-requires c κs =
-    let at = c .before .before .before .before in
-    (at .before .pre .0 .few, λ k h. at .charges .ensures k h .high)
+weigh-requires c κs = (c .before .before .before .before .before .before .before .before .before .before .before .before .before .before .before .before .before .before .before .before .before .before .before .before .before .before .before .pre .0 .few, λ k h. c .before .before .before .before .before .before .before .before .before .before .before .before .before .before .before .before .before .charges .ensures k h .2)
 
 total-requires : tie.Need-total-requires
-total-requires c κs = search needs
+total-requires c κs = let p = c .before .before .before .before .before .before .before .before .before .before .before .before .before .before .before .before .before .before .before .before .before .before .before .before .before .before .before .before .pre in (p .1, omega (arith, p .2, p .0 .high))
 
 bound-requires : tie.Need-bound-requires
-bound-requires c κs = search needs
+bound-requires c κs =
+    let p = c .before .before .before .before .before .before .before .before .before .before .before .before .before .before .before .before .before .before .before .before .before .before .before .before .before .before .before .before .before .pre in (
+      omega (arith, c .before .weigh .ensures .1, p .0 .few),
+      p .0 .high,
+      omega (arith, c .total .ensures .1, p .2, p .0 .high),
+    )
 
 range : (c : tie.After-bound) → (up (c .bound .result) ≤ highBound) × (dn (c .bound .result) ≤ lowBound)
 range c =
-    let start = c .before .before .before .before .before .before .before .before in
+    let p = c .before .before .before .before .before .before .before .before .before .before .before .before .before .before .before .before .before .before .before .before .before .before .before .before .before .before .before .before .before .before .pre in
     let d = diff-range (c .bound .result) _ _ (c .bound .ensures) in (
-      omega (arith, d .0, c .before .before .weigh .ensures .1, start .pre .0 .few),
-      omega (arith, d .1, c .before .total .ensures .1, start .pre .2, start .pre .0 .high),
+      omega (arith, d .0, c .before .before .weigh .ensures .1, p .0 .few),
+      omega (arith, d .1, c .before .total .ensures .1, p .2, p .0 .high),
     )
 
 returns : tie.Need-returns
 returns c =
-    let w = c .before .before .before .before in
-    let start = w .before .before .before .before in
+    let w = c .before .before .before .before .before in
+    let at = w .before .before .before .before .before .before .before .before .before .before .before in
+    let start = at .before .before .before .before .before .before .before .before .before .before .before .before .before .before in
     let g = start .args .g in
     let d = start .args .multipliers .now in
     let v = start .pre .0 in
-    let x = w .before .before .before .charges in
-    let low : (k : ℕ) → k < g .m → 1 ≤ getD (x .result) k 0 = λ k h. x .ensures k h .low in
-    let o = w .before .before .order in
-    let t = w .before .grow in
+    let x = at .before .before .before .before .charges in
+    let cs = x .last .1 .1 .1 .1 .1 .0 in
+    let charged = charged-of g d cs (x .ensures) in
+    let low : (k : ℕ) → k < g .m → 1 ≤ getD cs k 0 = λ k h. x .ensures k h .1 in
+    let o = at .order in
+    let ks = o .last .1 .1 .1 .1 .0 in
+    let t = w .before .before .before .grow in
+    let tree = t .last .1 .1 .1 .1 .0 in
+    let grew = t .ensures .1 (network g) (λ i h. (network-a g _ (looked at i h), network-b g _ (looked at i h))) in
     let said = w .whole in
     let sum = c .before .before .weigh in
     let all = c .before .total in
     let h : Raised d (g .n) (all .result) = rw (start .pre .2) at (all .ensures) in
-    rw (back64 (c .bound .result) (c .bound .ok))
-    (record {
-      charged = x .ensures;
-      fits = c .bound .ok;
-      high = range c .0;
-      low = range c .1;
-      some = λ e.
-          let k = says-yes (said .result) (said .ensures) e in
-          let l = found g v (x .result) low (o .result .keys) (o .result .count) (o .ensures .0) (o .ensures .1) (t .result .within)
-          (t .result .near) (t .result .far) (t .ensures .0) d (x .ensures) (k .0) (k .1) (k .2) in (
-            l,
-            bound-is g v d (x .result) (t .result .within) (c .bound .result) (sum .result) (all .result) (x .ensures) (l .tree)
-                (sum .ensures .0) h (c .bound .ensures),
-          );
-      none = λ e. missing g v (x .result) low (o .result .keys) (o .result .count) (o .ensures .0) (o .ensures .1) (t .result .within)
-          (t .result .near) (t .result .far) (t .ensures .0) (says-no (said .result) (said .ensures) e);
-      bits = bit-at g v (x .result) low (o .result .keys) (o .result .count) (o .ensures .0) (o .ensures .1) (t .result .within)
-          (t .result .near) (t .result .far) (t .ensures .0);
-      past = past-none g v (x .result) low (o .result .keys) (o .result .count) (o .ensures .0) (o .ensures .1) (t .result .within)
-          (t .result .near) (t .result .far) (t .ensures .0);
-    })
+    let looks = keyed-looks _ _ _ _ _ _ (omega (arith, v .few)) (o .ensures .0) (o .ensures .2) (w .before .before .before .before .before .before .before .before .places .ensures) in
+    rw (back64 (c .bound .result) (c .bound .ok)) (
+      record {
+        charged = charged;
+        fits = c .bound .ok;
+        high = range c .0;
+        low = range c .1;
+        some = λ e.
+            let k = says-yes (said .result) (said .ensures) e in
+            let l = found g v cs low ks (o .result) (o .ensures .0) (o .ensures .1) tree
+            (t .result .near) (t .result .far) grew d charged (k .0) (k .1) (k .2) in (
+              l,
+              bound-is g v d cs tree (c .bound .result) (sum .result) (all .result) charged (l .tree)
+                  (sum .ensures .0) h (c .bound .ensures),
+            );
+        none = λ e. missing g v cs low ks (o .result) (o .ensures .0) (o .ensures .1) tree
+            (t .result .near) (t .result .far) grew (says-no (said .result) (said .ensures) e);
+        bits = bit-at g v cs low ks (o .result) (o .ensures .0) (o .ensures .1) tree
+            (t .result .near) (t .result .far) grew;
+        past = past-none g v cs low ks (o .result) (o .ensures .0) (o .ensures .1) tree
+            (t .result .near) (t .result .far) grew;
+      },
+      looks,
+    )
 
 pub find-spec : {M : Type 1} → statement M
 find-spec =
@@ -91,6 +122,7 @@ find-spec =
     (tie.spec
     charges-requires
     order-requires
+    places-requires
     grow-requires
     whole-requires
     weigh-requires

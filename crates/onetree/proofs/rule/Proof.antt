@@ -23,12 +23,12 @@ faultless : (c : tie.Else1)
 faultless c = sym (fault (c .before)) ∙ c .if1 .left
 
 judged : (c : tie.After-judge)
-    → let start = c .before .before .before .before in
+    → let start = c .before .before .before .before .before in
     let a = start .args in let j = c .judge .result in
     JudgedIs (a .g) (a .multipliers .now) (a .ceiling) (j .any) (j .bound) (j .tree) (j .rulings)
 judged c =
-    let start = c .before .before .before .before in
-    rw (toZ-ofZ (start .fits .ceiling)) at (c .judge .ensures)
+    let start = c .before .before .before .before .before in
+    rw (toZ-ofZ (start .fits .ceiling)) at (c .judge .ensures .0)
 
 rule-fault-requires : tie.Need-rule-fault-requires
 rule-fault-requires c κs = search needs
@@ -42,17 +42,20 @@ returns c =
     (c .if1 .taken) in
     (r .reply, r .left)
 
+slice-aggregate-judge : tie.Need-slice-aggregate-judge
+slice-aggregate-judge c = search needs
+
 judge-requires : tie.Need-judge-requires
 judge-requires c κs =
-    let start = c .before .before .before in
-    let ok = rule-no-fault _ _ _ _ (faultless c) in
+    let start = c .before .before .before .before in
+    let ok = rule-no-fault _ _ _ _ (faultless (c .before)) in
     rw (toZ-ofZ (start .fits .ceiling)) (ok .0 .valid, ok .0 .ranged, ok .0 .multipliers, ok .1)
 
 returns-2 : tie.Need-returns-2
 unfolding ruleMeaning
 returns-2 c =
     let at-judge = c .before .before in
-    let at-if1 = at-judge .before in
+    let at-if1 = at-judge .before .before in
     let start = at-if1 .before .before .before in
     let a = start .args in
     let r = rule-none (a .g) (a .multipliers .now) (a .ceiling) (a .out .now) (faultless at-if1)
@@ -61,7 +64,7 @@ returns-2 c =
 
 write-requires : tie.Need-write-requires
 write-requires c κs =
-    let at-if1 = c .before .before .before .before .before in
+    let at-if1 = c .before .before .before .before .before .before in
     let ok = rule-no-fault _ _ _ _ (faultless at-if1) .0 in omega (arith, ok .lent, ok .valid .few)
 
 same-length : tie.Need-same-length
@@ -73,7 +76,7 @@ returns-3 c =
     let at-write = c .before .before .before in
     let at-if2 = at-write .before .before .before in
     let at-judge = at-if2 .before .before in
-    let at-if1 = at-judge .before in
+    let at-if1 = at-judge .before .before in
     let start = at-if1 .before .before .before in
     let a = start .args in
     let j = at-judge .judge .result in
@@ -88,6 +91,7 @@ rule-spec =
     (tie.spec
     rule-fault-requires
     returns
+    slice-aggregate-judge
     judge-requires
     returns-2
     write-requires

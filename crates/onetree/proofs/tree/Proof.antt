@@ -29,21 +29,24 @@ returns c =
     let r = tree-refused (a .g) (a .multipliers .now) (a .out .now) (f .result) (f .ensures) (c .if1 .taken) in
     (r .reply, r .left)
 
+slice-aggregate-find : tie.Need-slice-aggregate-find
+slice-aggregate-find c = search needs
+
 find-requires : tie.Need-find-requires
-find-requires c κs = let a = accepted c in (a .valid, a .ranged, a .multipliers)
+find-requires c κs = let a = accepted (c .before) in (a .valid, a .ranged, a .multipliers)
 
 returns-2 : tie.Need-returns-2
 unfolding treeMeaning
 returns-2 c =
     let found = c .before .before in
     let f = found .find in
-    let a = found .before .before .before .before .args in
+    let a = found .before .before .before .before .before .args in
     let r = tree-none (a .g) (a .multipliers .now) (a .out .now) (f .result .any) (f .result .bound) (f .result .within) (f .result .charge)
-    (faultless (found .before)) (f .ensures) (not-true _ (c .if2 .taken)) in
+    (faultless (found .before .before)) (f .ensures .0) (not-true _ (c .if2 .taken)) in
     (r .reply, r .left)
 
 write-requires : tie.Need-write-requires
-write-requires c κs = let a = accepted (c .before .before .before .before .before) in omega (arith, a .lent, a .valid .few)
+write-requires c κs = let a = accepted (c .before .before .before .before .before .before) in omega (arith, a .lent, a .valid .few)
 
 same-length : tie.Need-same-length
 same-length c = search needs
@@ -55,10 +58,10 @@ returns-3 c =
     let tested = written .before .before .before in
     let found = tested .before .before in
     let f = found .find in
-    let a = found .before .before .before .before .args in
+    let a = found .before .before .before .before .before .args in
     let r = tree-some (a .g) (a .multipliers .now) (a .out .now) (f .result .any) (f .result .bound) (f .result .within) (f .result .charge)
-    (faultless (found .before)) (f .ensures) (not-false _ (tested .if2 .left)) in
-    rw (back64 (f .result .bound) (f .ensures .fits)) (r .reply, written .write .ensures ∙ r .left)
+    (faultless (found .before .before)) (f .ensures .0) (not-false _ (tested .if2 .left)) in
+    rw (back64 (f .result .bound) (f .ensures .0 .fits)) (r .reply, written .write .ensures ∙ r .left)
 
 pub tree-spec : {M : Type 1} → statement M
 tree-spec =
@@ -66,6 +69,7 @@ tree-spec =
     (tie.spec
     input-fault-requires
     returns
+    slice-aggregate-find
     find-requires
     returns-2
     write-requires

@@ -1,31 +1,54 @@
--- The loop keeps: every required edge of the first k is in.
-use Prim.Native.Nat.{ℕ, _≤_, _<_, _-_}
+-- The loop keeps: of the first k edges either none is lost and every required one is in, or one that is required is not.
+use Prim.Native.Nat.{ℕ, _≤_, _<_, _-_, _+_}
 use mathlib.Core.Path.{_≡_, refl}
-use mathlib.Core.Logic.{⊎-elim}
+use mathlib.Core.Logic.{_≢_, _⊎_, inl, inr, ⊎-elim}
+use mathlib.Core.List.{List}
 use borrow.Author.Count.{below-more}
+use lib.Dec.{eqb}
 use lib.ListN.{getD}
 use borrow.Author.Needs.{needs}
+use borrow.Author.Tests.{eq-eqb, ne-eqb}
 use native.Mathlib.Omega.{arith}
+use Rattle.lists.specs.Bools.{Says}
 use Rattle.onetree.proofs.kruskal.kept.Statement.{statement}
 use Rattle.onetree.proofs.kruskal.kept.Tie as tie
 
+-- of the first k edges lost many that are required are not in
+abbrev Lost : List ℕ → List ℕ → ℕ → ℕ → Type 0
+Lost mark w lost k =
+    ((lost ≡ 0) × ((j : ℕ) → j < k → getD mark j 0 ≡ 1 → getD w j 0 ≡ 1))
+    ⊎ ((1 ≤ lost) × ((j : ℕ) × (j < k) × (getD mark j 0 ≡ 1) × (getD w j 0 ≢ 1)))
+
 abbrev Inv-loop : tie.InvT-loop
-Inv-loop g w m k₀ k = (m ≡ g .m) × (k ≤ m) × (m ≤ 190) × ((j : ℕ) → j < k → getD (g .mark) j 0 ≡ 1 → getD w j 0 ≡ 1)
+Inv-loop mark m w lost₀ k₀ lost k = (k ≤ m) × (m ≤ 190) × (lost ≤ k) × Lost mark w lost k
 
 abbrev μ-loop : tie.MeasureT-loop
-μ-loop g w m k₀ k = m - k
+μ-loop mark m w lost₀ k₀ lost k = m - k
+
+one-more : (mark w : List ℕ) (lost k r : ℕ) → Lost mark w lost k
+    → ((r ≡ 0) × (getD mark k 0 ≡ 1 → getD w k 0 ≡ 1)) ⊎ ((r ≡ 1) × (getD mark k 0 ≡ 1) × (getD w k 0 ≢ 1))
+    → Lost mark w (lost + r) (k + 1)
+one-more mark w lost k r (inl h) (inl q) = inl (omega (arith, h .0, q .0), below-more _ _ (h .1) (q .1))
+one-more mark w lost k r (inr h) q = inr (omega (arith, h .0), (h .1 .0, omega (arith, h .1 .1), h .1 .2, h .1 .3))
+one-more mark w lost k r (inl h) (inr q) = inr (omega (arith, q .0), (k, omega arith, q .1, q .2))
 
 loop-holds : tie.Need-loop-holds Inv-loop μ-loop
-loop-holds c = (refl, omega arith, c .pre .few, λ j h. absurd (omega arith))
+loop-holds c = (omega arith, c .pre, omega arith, inl (refl, λ j h. absurd (omega arith)))
 
-element-copy-out-if1 : tie.Need-element-copy-out-if1 Inv-loop μ-loop
-element-copy-out-if1 c = search needs
+element-copy-out-left-out : tie.Need-element-copy-out-left-out Inv-loop μ-loop
+element-copy-out-left-out c = search needs
 
-array-read-if2 : tie.Need-array-read-if2 Inv-loop μ-loop
-array-read-if2 c = search needs
+element-copy-out-left-out-2 : tie.Need-element-copy-out-left-out-2 Inv-loop μ-loop
+element-copy-out-left-out-2 c = search needs
 
-returns : tie.Need-returns Inv-loop μ-loop
-returns c = λ e. let l = c .before .before .before .before .loop in c .if2 .taken (e (l .k) (omega arith) (c .before .if1 .taken))
+left-out-requires : tie.Need-left-out-requires Inv-loop μ-loop
+left-out-requires c κs = search needs
+
+most : (c : tie.After-left-out Inv-loop μ-loop) → c .left-out .result ≤ 1
+most c = ⊎-elim (λ u. omega (arith, u .0)) (λ u. omega (arith, u .0)) (c .left-out .ensures)
+
+add-lost : tie.Need-add-lost Inv-loop μ-loop
+add-lost c = omega (arith, most c)
 
 add-k : tie.Need-add-k Inv-loop μ-loop
 add-k c = search needs
@@ -35,15 +58,24 @@ loop-less c = search needs
 
 loop-again : tie.Need-loop-again Inv-loop μ-loop
 loop-again c =
-    let l = c .before .before .before .loop in (
-      refl,
+    let l = c .before .before .before .before .loop in
+    let a = c .before .before .before .before .before .args in (
       omega arith,
-      l .inv .2,
-      below-more _ _ (l .inv .3) (⊎-elim (λ w e. w .1 .left) (λ w e. absurd (w .left e)) (c .if1 .came)),
+      l .inv .1,
+      omega (arith, most c),
+      one-more (a .mark .now) (a .w .now) (l .lost) (l .k) (c .left-out .result) (l .inv .3) (c .left-out .ensures),
     )
 
-returns-2 : tie.Need-returns-2 Inv-loop μ-loop
-returns-2 c = λ j h. c .before .loop .inv .3 j (omega (arith, c .before .loop .inv .0))
+returns : tie.Need-returns Inv-loop μ-loop
+returns c =
+    let l = c .before .loop in
+    let a = c .before .before .args in
+    let P = (k : ℕ) → k < a .m → getD (a .mark .now) k 0 ≡ 1 → getD (a .w .now) k 0 ≡ 1 in
+    ⊎-elim {C = Says (eqb (l .lost) 0) P}
+    (λ u. rw (eq-eqb (l .lost) 0 (u .0)) (λ j h. u .1 j (omega arith)))
+    (λ u. rw (ne-eqb (l .lost) 0 (λ z. omega (arith, u .0)))
+    (λ e. u .1 .3 (e (u .1 .0) (omega (arith, u .1 .1)) (u .1 .2))))
+    (l .inv .3)
 
 pub kept-spec : {M : Type 1} → statement M
 kept-spec =
@@ -52,10 +84,11 @@ kept-spec =
     Inv-loop
     μ-loop
     loop-holds
-    element-copy-out-if1
-    array-read-if2
-    returns
+    element-copy-out-left-out
+    element-copy-out-left-out-2
+    left-out-requires
+    add-lost
     add-k
     loop-less
     loop-again
-    returns-2)
+    returns)

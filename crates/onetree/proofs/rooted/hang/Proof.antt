@@ -1,104 +1,115 @@
--- The loop: what hangs keeps `Hung`, with a depth for each vertex that is done, and what a done vertex is joined to hangs.
+-- The loop: what hangs keeps `Hung`, the queue has all of it, and where the lists of those visited lead hangs.
 use native.Mathlib.Omega.{arith}
 use borrow.Author.Needs.{needs}
-use Prim.Native.Nat.{_≤_, _-_, suc}
-use mathlib.Core.Path.{_≡_, refl, _∙_}
-use mathlib.Core.Bool.{true}
-use lib.ListN.{length, set, length-set}
-use Rattle.onetree.specs.Visiting.{Hung, Closed, alone, hung-root, hung-more, undone, undone-less, closed-none, closed-more}
+use Prim.Native.Nat.{ℕ, _≤_, _-_}
+use mathlib.Core.Path.{_≡_, refl, subst}
+use lib.ListN.{getD}
+use Rattle.onetree.specs.Grid.{cell}
+use Rattle.onetree.specs.Visiting.{rooting, Among, Rows, leads-more, Hung, hung-root, Lined, lined-root}
+use Rattle.onetree.specs.Visiting.{Closed, closed-more, closed-all}
 use Rattle.onetree.proofs.rooted.hang.Statement.{statement}
 use Rattle.onetree.proofs.rooted.hang.Tie as tie
 
 abbrev Inv-loop : tie.InvT-loop
-Inv-loop n t s₀ done₀ s done = (2 ≤ n) × (n ≤ 20) × (length done ≡ 21) × (undone done ≤ 21) × Hung t n s (22 - undone done)
-    × Closed t n s done
+Inv-loop a b t parent₀ depth₀ edge₀ queue₀ count₀ i₀ parent depth edge queue count i =
+    (i ≤ count) × Lined depth queue count
+    × ((n : ℕ) → 2 ≤ n → Rows a b n t → Hung a b t n (rooting parent depth edge))
+    × Closed a b t depth queue i
 
 abbrev μ-loop : tie.MeasureT-loop
-μ-loop n t s₀ done₀ s done = undone done
+μ-loop a b t parent₀ depth₀ edge₀ queue₀ count₀ i₀ parent depth edge queue count i = 21 - i
 
--- one vertex more is done
-fewer : (c : tie.After-visit Inv-loop μ-loop)
-    → let at-pick = c .before .before .before in
-    let at-loop = at-pick .before .before in
-    suc (undone (set (at-loop .loop .done) (at-pick .pick .result) true)) ≡ undone (at-loop .loop .done)
-fewer c =
-    let at-if1 = c .before .before in
-    let at-pick = at-if1 .before in
-    let at-loop = at-pick .before .before in
-    let turn = at-loop .loop in
-    let x = at-pick .pick in
-    undone-less (turn .done) (x .result) (omega (arith, x .ensures .room, turn .inv .2))
-    (x .ensures .next (omega (arith, at-if1 .if1 .left)) .1)
+-- what hangs, as far as the loop has come
+hung : (c : tie.At-loop Inv-loop μ-loop)
+    → let turn = c .loop in
+    let s = c .before .args in
+    Hung (s .a .now) (s .b .now) (s .t .now) (c .before .pre .0) (rooting (turn .parent) (turn .depth) (turn .edge))
+hung c = let p = c .before .pre in c .loop .inv .2 (p .0) (p .1) (p .3)
+
+-- the next vertex of the queue hangs
+next : (c : tie.After-wide Inv-loop μ-loop) → let turn = c .before .before .loop in 1 ≤ getD (turn .depth) (c .wide .result) 0
+next c =
+    let turn = c .before .before .loop in
+    let e : c .wide .result ≡ getD (turn .queue) (turn .i) 0 = c .wide .ensures .0 in
+    rw e (turn .inv .1 .hangs (turn .i) (c .before .loop-test .taken))
+
+vertex : (c : tie.After-wide Inv-loop μ-loop) → Among 20 (c .wide .result)
+vertex c =
+    let at-loop = c .before .before in
+    let v = hung at-loop .inside (c .wide .result) (next c) in
+    (v .0, omega (arith, v .1, at-loop .before .pre .2))
 
 array-write-depth : tie.Need-array-write-depth Inv-loop μ-loop
 array-write-depth c = search needs
 
-loop-holds : tie.Need-loop-holds Inv-loop μ-loop
-unfolding undone
-loop-holds c = (
-  omega arith,
-  omega arith,
-  refl,
-  omega arith,
-  hung-root (c .args .t1) (c .args .n) (omega arith),
-  closed-none
-      (c .args .t1) (c .args .n) alone,
-)
+array-write-queue : tie.Need-array-write-queue Inv-loop μ-loop
+array-write-queue c = search needs
 
-pick-requires : tie.Need-pick-requires Inv-loop μ-loop
-pick-requires c κs = search needs
+loop-holds : tie.Need-loop-holds Inv-loop μ-loop
+loop-holds c = (omega arith, lined-root, λ n l d. hung-root _ _ _ n l, λ p j h. absurd (omega arith))
+
+array-read-wide : tie.Need-array-read-wide Inv-loop μ-loop
+array-read-wide c = omega (arith, c .before .loop .inv .1 .room)
+
+wide-requires : tie.Need-wide-requires Inv-loop μ-loop
+wide-requires c κs = search needs
 
 sub-row : tie.Need-sub-row Inv-loop μ-loop
-sub-row c = search needs
+sub-row c = omega (arith, vertex c)
 
 mul-row : tie.Need-mul-row Inv-loop μ-loop
 mul-row c = search needs
 
-array-copy-out-row : tie.Need-array-copy-out-row Inv-loop μ-loop
-array-copy-out-row c = search needs
+element-copy-out-row : tie.Need-element-copy-out-row Inv-loop μ-loop
+element-copy-out-row c = omega (arith, vertex c)
 
 visit-requires : tie.Need-visit-requires Inv-loop μ-loop
+unfolding cell
 visit-requires c κs =
-    let at-pick = c .before .before in
-    let at-loop = at-pick .before .before in
-    let turn = at-loop .loop in
-    let x = at-pick .pick in
-    (x .ensures .room, turn .inv .1, omega (arith, turn .inv .4 .bound (x .result)))
+    let at-wide = c .before .before .before .before .before in
+    let at-loop = at-wide .before .before in
+    let p = at-loop .before .pre in
+    let v = vertex at-wide in
+    let x = at-wide .wide .result in
+    record {
+      long = hung at-loop .long;
+      lined = at-loop .loop .inv .1;
+      small = omega (arith, v .1);
+      hangs = next at-wide;
+      leading = λ i f. leads-more _ _ _ 20 x _ (p .2) (p .3 .leading x (omega (arith, v .0)) i f);
+      stops = p .3 .stops x (omega (arith, v .0));
+    }
 
-array-write-done : tie.Need-array-write-done Inv-loop μ-loop
-array-write-done c = search needs
+add-i : tie.Need-add-i Inv-loop μ-loop
+add-i c = omega (arith, c .before .before .before .before .before .before .before .before .loop .inv .1 .room)
 
 loop-less : tie.Need-loop-less Inv-loop μ-loop
-loop-less c = omega (arith, fewer c)
+loop-less c = omega (arith, c .before .before .before .before .before .before .before .before .loop .inv .1 .room)
 
 loop-again : tie.Need-loop-again Inv-loop μ-loop
 loop-again c =
-    let at-if1 = c .before .before in
-    let at-pick = at-if1 .before in
-    let at-loop = at-pick .before .before in
-    let start = at-loop .before in
+    let at-wide = c .before .before .before .before .before .before in
+    let at-loop = at-wide .before .before in
     let turn = at-loop .loop in
-    let x = at-pick .pick .result in
-    let new = at-pick .pick .ensures .next (omega (arith, at-if1 .if1 .left)) in
-    let t = start .args .t1 in
-    let visited = c .visit .ensures in (
-      turn .inv .0,
-      turn .inv .1,
-      length-set (turn .done) x true ∙ turn .inv .2,
-      omega (arith, fewer c, turn .inv .3),
-      visited .kept t (22 - undone (set (turn .done) x true)) refl (new .0)
-          (omega (arith, fewer c, turn .inv .3, turn .inv .4 .bound x))
-          (hung-more _ _ _ _ _ (omega (arith, fewer c, turn .inv .3)) (turn .inv .4)),
-      closed-more t (start .args .n) (turn .s) (c .visit .result) (turn .done) x (turn .inv .5) visited,
+    let s = at-loop .before .args in
+    let x = at-wide .wide .result in
+    let w = c .visit .ensures .2 in (
+      omega (arith, w .more),
+      w .lined,
+      λ n l d. w .kept _ n refl (d .leading x (omega (arith, vertex at-wide .0))) (turn .inv .2 n l d),
+      closed-more (s .a .now) (s .b .now) (s .t .now) x (rooting (turn .parent) (turn .depth) (turn .edge)) (turn .queue) (turn .count)
+          _ _ _ (turn .i) (at-wide .before .loop-test .taken) (at-wide .wide .ensures .0) (turn .inv .3) (c .visit .ensures),
     )
 
 returns : tie.Need-returns Inv-loop μ-loop
 returns c =
-    let at-loop = c .before .before .before in
-    let turn = at-loop .loop in
-    let all = c .before .pick .ensures .none (c .if1 .taken) in (
-      hung-more _ _ _ _ _ (omega arith) (turn .inv .4),
-      λ x y h a e. let v = turn .inv .4 .inside x h in turn .inv .5 x y (all x (v .0) (omega (arith, v .1, turn .inv .1)) h) a e,
+    let turn = c .before .loop in
+    let e : turn .i ≡ turn .count = omega (arith, turn .inv .0) in
+    let s = c .before .before .args in (
+      turn .inv .2,
+      closed-all (s .a .now) (s .b .now) (s .t .now) (rooting (turn .parent) (turn .depth) (turn .edge)) (turn .queue) (turn .count)
+          (turn .inv .1)
+          (subst (λ (j : ℕ). Closed (s .a .now) (s .b .now) (s .t .now) (turn .depth) (turn .queue) j) e (turn .inv .3)),
     )
 
 pub hang-spec : {M : Type 1} → statement M
@@ -108,13 +119,15 @@ hang-spec =
     Inv-loop
     μ-loop
     array-write-depth
+    array-write-queue
     loop-holds
-    pick-requires
+    array-read-wide
+    wide-requires
     sub-row
     mul-row
-    array-copy-out-row
+    element-copy-out-row
     visit-requires
-    array-write-done
+    add-i
     loop-less
     loop-again
     returns)

@@ -4,21 +4,20 @@ use borrow.Author.Needs.{needs}
 use Prim.Native.Nat.{ℕ, _≤_, _-_}
 use mathlib.Core.Path.{_≡_, refl, subst, _∙_}
 use lib.ListN.{length, length-set}
-use Rattle.graph.specs.Valid.{Valid}
 use Rattle.onetree.specs.Filled.{Filled, filled-none, filled-more}
 use Rattle.onetree.specs.Ruled.{finalAt}
 use Rattle.onetree.proofs.rulings.finish.Statement.{statement}
 use Rattle.onetree.proofs.rulings.finish.Tie as tie
 
 abbrev Inv-loop : tie.InvT-loop
-Inv-loop near slack g w c depth res₀ cheapest out m k₀ res k =
-    (m ≡ g .m) × (k ≤ m) × (m ≤ 190) × Valid g × (length res ≡ 190) × Filled (finalAt g w c slack depth cheapest out near) 0 res k
+Inv-loop a b mark w c out depth cheapest m near slack res₀ k₀ res k =
+    (k ≤ m) × (m ≤ 190) × (length res ≡ 190) × Filled (finalAt a b mark w c slack depth cheapest out near) 0 res k
 
 abbrev μ-loop : tie.MeasureT-loop
-μ-loop near slack g w c depth res₀ cheapest out m k₀ res k = m - k
+μ-loop a b mark w c out depth cheapest m near slack res₀ k₀ res k = m - k
 
 loop-holds : tie.Need-loop-holds Inv-loop μ-loop
-loop-holds c = let valid = c .before .before .pre in (refl, omega arith, valid .few, valid, refl, filled-none _ 0 190)
+loop-holds c = (omega arith, c .pre .0, refl, filled-none _ 0 190)
 
 element-copy-out-wide : tie.Need-element-copy-out-wide Inv-loop μ-loop
 element-copy-out-wide c = search needs
@@ -34,30 +33,25 @@ wide-requires-2 c κs = search needs
 
 low-of-requires : tie.Need-low-of-requires Inv-loop μ-loop
 low-of-requires c κs =
-    let at-wide2 = c .before .before in
-    let at-wide = at-wide2 .before .before in
-    let at-loop = at-wide .before .before .before in
-    let turn = at-loop .loop in
-    let edge = turn .inv .3 .each (turn .k) (omega (arith, turn .inv .0)) in
-    let high = turn .inv .3 .high in (
-      omega (arith, at-wide .wide .ensures .0, edge .less, edge .to, high),
-      omega (arith, at-wide2 .wide2 .ensures .0, edge .to, high),
-    )
+    let at-wide = c .before .before in
+    let at-test = at-wide .before .before in
+    let ends = at-test .before .before .pre .1 (at-test .before .loop .k) (at-test .loop-test .taken) in
+    (omega (arith, at-wide .wide .ensures .0, ends .0), omega (arith, c .wide2 .ensures .0, ends .1))
 
 element-copy-out-ruling-of : tie.Need-element-copy-out-ruling-of Inv-loop μ-loop
 element-copy-out-ruling-of c = search needs
 
-array-read-ruling-of : tie.Need-array-read-ruling-of Inv-loop μ-loop
-array-read-ruling-of c = search needs
+element-copy-out-ruling-of-2 : tie.Need-element-copy-out-ruling-of-2 Inv-loop μ-loop
+element-copy-out-ruling-of-2 c = search needs
 
 mul-ruling-of : tie.Need-mul-ruling-of Inv-loop μ-loop
 mul-ruling-of c = search needs
 
-array-read-ruling-of-2 : tie.Need-array-read-ruling-of-2 Inv-loop μ-loop
-array-read-ruling-of-2 c = search needs
+element-copy-out-ruling-of-3 : tie.Need-element-copy-out-ruling-of-3 Inv-loop μ-loop
+element-copy-out-ruling-of-3 c = search needs
 
-array-read-ruling-of-3 : tie.Need-array-read-ruling-of-3 Inv-loop μ-loop
-array-read-ruling-of-3 c = search needs
+element-copy-out-ruling-of-4 : tie.Need-element-copy-out-ruling-of-4 Inv-loop μ-loop
+element-copy-out-ruling-of-4 c = search needs
 
 ruling-of-requires : tie.Need-ruling-of-requires Inv-loop μ-loop
 ruling-of-requires c κs = search needs
@@ -73,28 +67,25 @@ loop-less c = search needs
 
 loop-again : tie.Need-loop-again Inv-loop μ-loop
 loop-again c =
-    let at-low-of = c .before .before in
-    let at-wide2 = at-low-of .before .before .before in
+    let at-low-of = c .before .before .before .before .before in
+    let at-wide2 = at-low-of .before in
     let at-wide = at-wide2 .before .before in
     let at-loop = at-wide .before .before .before in
     let turn = at-loop .loop in
     let low = rw (at-wide .wide .ensures .0, at-wide2 .wide2 .ensures .0) at (at-low-of .low-of .ensures) in (
-      refl,
       omega arith,
-      turn .inv .2,
-      turn .inv .3,
-      length-set (turn .res) (turn .k) _ ∙ turn .inv .4,
-      filled-more _ 0 (turn .res) (turn .k) _ (omega (arith, turn .inv .4)) (turn .inv .5) (rw low at (c .ruling-of .ensures)),
+      turn .inv .1,
+      length-set (turn .res) (turn .k) _ ∙ turn .inv .2,
+      filled-more _ 0 (turn .res) (turn .k) _ (omega (arith, turn .inv .2)) (turn .inv .3) (rw low at (c .ruling-of .ensures)),
     )
 
 returns : tie.Need-returns Inv-loop μ-loop
 returns c =
-    let start = c .before .before .before .before in
     let turn = c .before .loop in
-    let a = start .args in
-    let e : turn .k ≡ a .t1 .m = omega (arith, turn .inv .0) in
-    subst (λ (k : ℕ). Filled (finalAt (a .t1) (a .t2) (a .t3) (a .slack) (a .t5) (a .o .cheapest) (a .o .out) (a .near)) 0
-    (turn .res) k) e (turn .inv .5)
+    let a = c .before .before .args in
+    let e : turn .k ≡ a .m = omega (arith, turn .inv .0) in
+    subst (λ (k : ℕ). Filled (finalAt (a .a .now) (a .b .now) (a .mark .now) (a .w .now) (a .c .now) (a .slack) (a .depth .now)
+    (a .cheapest .now) (a .out .now) (a .near)) 0 (turn .res) k) e (turn .inv .3)
 
 pub finish-spec : {M : Type 1} → statement M
 finish-spec =
@@ -109,10 +100,10 @@ finish-spec =
     wide-requires-2
     low-of-requires
     element-copy-out-ruling-of
-    array-read-ruling-of
+    element-copy-out-ruling-of-2
     mul-ruling-of
-    array-read-ruling-of-2
-    array-read-ruling-of-3
+    element-copy-out-ruling-of-3
+    element-copy-out-ruling-of-4
     ruling-of-requires
     array-write-res
     add-k

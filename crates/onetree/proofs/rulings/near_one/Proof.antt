@@ -2,7 +2,7 @@
 use native.Mathlib.Omega.{arith}
 use borrow.Author.Needs.{needs}
 use Prim.Native.Nat.{ℕ, _≤_, _-_, _+_}
-use mathlib.Core.Path.{_≡_, refl, sym, _∙_, subst}
+use mathlib.Core.Path.{_≡_, sym, _∙_, subst}
 use mathlib.Core.Bool.{true≢false}
 use mathlib.Core.Logic.{⊎-elim}
 use borrow.Author.Tests.{eqb-true, eq-eqb}
@@ -12,44 +12,44 @@ use Rattle.onetree.proofs.rulings.near_one.Statement.{statement}
 use Rattle.onetree.proofs.rulings.near_one.Tie as tie
 
 abbrev Inv-loop : tie.InvT-loop
-Inv-loop g w c dearest₀ cheapest₀ m k₀ dearest cheapest k = (m ≡ g .m) × (k ≤ m) × (m ≤ 190) × NearIs g w c dearest cheapest k
+Inv-loop a mark w c m dearest₀ cheapest₀ k₀ dearest cheapest k = (k ≤ m) × (m ≤ 190) × NearIs a mark w c dearest cheapest k
 
 abbrev μ-loop : tie.MeasureT-loop
-μ-loop g w c dearest₀ cheapest₀ m k₀ dearest cheapest k = m - k
+μ-loop a mark w c m dearest₀ cheapest₀ k₀ dearest cheapest k = m - k
 
 -- one turn
 next : (c : tie.Joined1 Inv-loop μ-loop)
     → let at-loop = c .before .before .before .before .before in
     let start = at-loop .before in
     let a = start .args in
-    NearIs (a .t1) (a .t2) (a .t3) (c .if1 .dearest) (c .if1 .cheapest) (at-loop .loop .k + 1)
+    NearIs (a .a .now) (a .mark .now) (a .w .now) (a .c .now) (c .if1 .dearest) (c .if1 .cheapest) (at-loop .loop .k + 1)
 next c =
     let at-loop = c .before .before .before .before .before in
     let start = at-loop .before in
     let turn = at-loop .loop in
     let a = start .args in
     let said = c .before .free-at-one .ensures in
-    let goal = NearIs (a .t1) (a .t2) (a .t3) (c .if1 .dearest) (c .if1 .cheapest) (turn .k + 1) in
+    let goal = NearIs (a .a .now) (a .mark .now) (a .w .now) (a .c .now) (c .if1 .dearest) (c .if1 .cheapest) (turn .k + 1) in
     ⊎-elim {C = goal}
     (λ u.
     let f = and-both _ _ (sym said ∙ u .0 .taken) in
-    let x = u .2 .ensures in
-    rw (u .3, u .4) (near-in (a .t1) (a .t2) (a .t3) (turn .dearest) (turn .cheapest) (turn .k) (turn .inv .3) (eqb-true _ 1 (f .0))
+    let x = u .4 .ensures in
+    rw (u .5, u .6) (near-in (a .a .now) (a .mark .now) (a .w .now) (a .c .now) (turn .dearest) (turn .cheapest) (turn .k) (turn .inv .2) (eqb-true _ 1 (f .0))
     (eqb-true _ 0 (f .1))
-    (u .2 .result) (u .1 .taken) (x .0) (x .1) (x .2)))
+    (u .4 .result) (u .2 .taken) (x .0) (x .1) (x .2)))
     (⊎-elim {C = goal}
     (λ u.
     let f = and-both _ _ (sym said ∙ u .0 .taken) in
-    let x = u .2 .ensures in
-    rw (u .3, u .4) (near-out (a .t1) (a .t2) (a .t3) (turn .dearest) (turn .cheapest) (turn .k) (turn .inv .3)
+    let x = u .4 .ensures in
+    rw (u .5, u .6) (near-out (a .a .now) (a .mark .now) (a .w .now) (a .c .now) (turn .dearest) (turn .cheapest) (turn .k) (turn .inv .2)
     (eqb-true _ 1 (f .0)) (eqb-true _ 0 (f .1))
-    (u .2 .result) (u .1 .left) (x .0) (x .1) (x .2)))
-    (λ u. rw (u .1, u .2) (near-skip (a .t1) (a .t2) (a .t3) (turn .dearest) (turn .cheapest) (turn .k) (turn .inv .3)
+    (u .4 .result) (u .2 .left) (x .0) (x .1) (x .2)))
+    (λ u. rw (u .1, u .2) (near-skip (a .a .now) (a .mark .now) (a .w .now) (a .c .now) (turn .dearest) (turn .cheapest) (turn .k) (turn .inv .2)
     (λ p q. true≢false (sym (rw (eq-eqb _ 1 p, eq-eqb _ 0 q) at said) ∙ u .0 .left)))))
     (c .if1 .came)
 
 loop-holds : tie.Need-loop-holds Inv-loop μ-loop
-loop-holds c = (refl, omega arith, c .pre, near-none _ _ _)
+loop-holds c = (omega arith, c .pre, near-none _ _ _ _)
 
 element-copy-out-free-at-one : tie.Need-element-copy-out-free-at-one Inv-loop μ-loop
 element-copy-out-free-at-one c = search needs
@@ -60,14 +60,14 @@ element-copy-out-free-at-one-2 c = search needs
 free-at-one-requires : tie.Need-free-at-one-requires Inv-loop μ-loop
 free-at-one-requires c κs = search needs
 
-array-read-if2 : tie.Need-array-read-if2 Inv-loop μ-loop
-array-read-if2 c = search needs
+element-copy-out-if2 : tie.Need-element-copy-out-if2 Inv-loop μ-loop
+element-copy-out-if2 c = search needs
 
 mul-greater : tie.Need-mul-greater Inv-loop μ-loop
 mul-greater c = search needs
 
-array-read-greater : tie.Need-array-read-greater Inv-loop μ-loop
-array-read-greater c = search needs
+element-copy-out-greater : tie.Need-element-copy-out-greater Inv-loop μ-loop
+element-copy-out-greater c = search needs
 
 greater-requires : tie.Need-greater-requires Inv-loop μ-loop
 greater-requires c κs = search needs
@@ -75,8 +75,8 @@ greater-requires c κs = search needs
 mul-lesser : tie.Need-mul-lesser Inv-loop μ-loop
 mul-lesser c = search needs
 
-array-read-lesser : tie.Need-array-read-lesser Inv-loop μ-loop
-array-read-lesser c = search needs
+element-copy-out-lesser : tie.Need-element-copy-out-lesser Inv-loop μ-loop
+element-copy-out-lesser c = search needs
 
 lesser-requires : tie.Need-lesser-requires Inv-loop μ-loop
 lesser-requires c κs = search needs
@@ -90,14 +90,14 @@ loop-less c = search needs
 loop-again : tie.Need-loop-again Inv-loop μ-loop
 loop-again c =
     let at-loop = c .before .before .before .before .before in
-    let turn = at-loop .loop in (refl, omega arith, turn .inv .2, next c)
+    let turn = at-loop .loop in (omega arith, turn .inv .1, next c)
 
 returns : tie.Need-returns Inv-loop μ-loop
 returns c =
     let turn = c .before .loop in
     let a = c .before .before .args in
-    let e : turn .k ≡ a .t1 .m = omega (arith, turn .inv .0) in
-    subst (λ (k : ℕ). NearIs (a .t1) (a .t2) (a .t3) (turn .dearest) (turn .cheapest) k) e (turn .inv .3)
+    let e : turn .k ≡ a .m = omega (arith, turn .inv .0) in
+    subst (λ (k : ℕ). NearIs (a .a .now) (a .mark .now) (a .w .now) (a .c .now) (turn .dearest) (turn .cheapest) k) e (turn .inv .2)
 
 pub near-one-spec : {M : Type 1} → statement M
 near-one-spec =
@@ -109,12 +109,12 @@ near-one-spec =
     element-copy-out-free-at-one
     element-copy-out-free-at-one-2
     free-at-one-requires
-    array-read-if2
+    element-copy-out-if2
     mul-greater
-    array-read-greater
+    element-copy-out-greater
     greater-requires
     mul-lesser
-    array-read-lesser
+    element-copy-out-lesser
     lesser-requires
     add-k
     loop-less

@@ -1,6 +1,6 @@
 -- The record's check, as its loops go: what one place more tells, and what a word that is zero says of its number. Assumes nothing.
 use mathlib.Core.Path.{_≡_, refl, sym, ap, _∙_, subst}
-use mathlib.Core.Bool.{Bool, true, false, cond, true≢false}
+use mathlib.Core.Bool.{Bool, true, false, true≢false}
 use mathlib.Core.List.{List}
 use Prim.Native.Nat.{ℕ, zero, suc, _+_, _*_, _≤_, _<_}
 use native.Mathlib.Omega.{arith}
@@ -12,18 +12,15 @@ use lib.IntN.{ℤ, pos}
 use lib.Signed.{mag}
 use mir.Val.{toZ, ofZ}
 use mir.Syntax.{w32, w64}
-use borrow.Author.Count.{below-more}
 use borrow.Author.Tests.{leb-true, le-leb, eqb-true, eq-eqb}
 use Rattle.lists.specs.Bools.{Says, bit}
 use Rattle.lists.specs.Rows.{row}
 use Rattle.lists.specs.Fill.{fill, fit, fill-is}
 use Rattle.integers.specs.Words.{back32, back64}
-use Rattle.graph.specs.declared.Graph.{Graph}
-use Rattle.graph.specs.Limits.{maxVertices, maxEdges}
 use Rattle.graph.specs.Network.{Mark, free, markOf}
 use Rattle.machine.specs.Machine.{isFree, frees}
 use Rattle.search.specs.Record.{node}
-use Rattle.search.specs.Canonical.{Zeros, GraphTidy, StackTidy, Tidy, Stands, Canonical}
+use Rattle.search.specs.Canonical.{Tidy, Stands, Canonical}
 use Rattle.search.specs.Check.{check, check-yes, check-no}
 use Rattle.search.specs.declared.Search.{Search}
 
@@ -37,7 +34,7 @@ zero64 z h e = sym (back64 z h) ∙ ap (toZ w64) e
 
 -- ---- what a test says
 
-says-both : (b : Bool) {P Q : Type 0} → (P → Q) → (Q → P) → Says b P → Says b Q
+pub says-both : (b : Bool) {P Q : Type 0} → (P → Q) → (Q → P) → Says b P → Says b Q
 says-both true f g h = f h
 says-both false f g h = λ q. h (g q)
 
@@ -61,49 +58,7 @@ says-eq x y P f g = go (eqb x y) refl
     go true e = f (eqb-true x y e)
     go false e = λ p. true≢false (sym (eq-eqb x y (g p)) ∙ e)
 
--- ---- the places of a graph's arrays past its edges, one place more
-
-pub record TidyTo (g : Graph) (k : ℕ) : Type 0 where
-  pub a : Zeros 0 k (g .m) (g .a)
-  pub b : Zeros 0 k (g .m) (g .b)
-  pub cost : Zeros (pos 0) k (g .m) (g .cost)
-  pub mark : Zeros 0 k (g .m) (g .mark)
-
-module _ (g : Graph) where
-  pub tidy-none : TidyTo g (g .m)
-  tidy-none = record {
-    a = λ i h b. absurd (omega arith);
-    b = λ i h b. absurd (omega arith);
-    cost = λ i h b. absurd (omega arith);
-    mark = λ i h b. absurd (omega arith);
-  }
-
-  pub tidy-more : (k : ℕ) → TidyTo g k → getD (g .a) k 0 ≡ 0 → getD (g .b) k 0 ≡ 0 → getD (g .cost) k (pos 0) ≡ pos 0
-      → getD (g .mark) k 0 ≡ 0 → TidyTo g (k + 1)
-  tidy-more k t a b c d = record {
-    a = below-more (λ i. g .m ≤ i → getD (g .a) i 0 ≡ 0) k (t .a) (λ h. a);
-    b = below-more (λ i. g .m ≤ i → getD (g .b) i 0 ≡ 0) k (t .b) (λ h. b);
-    cost = below-more (λ i. g .m ≤ i → getD (g .cost) i (pos 0) ≡ pos 0) k (t .cost) (λ h. c);
-    mark = below-more (λ i. g .m ≤ i → getD (g .mark) i 0 ≡ 0) k (t .mark) (λ h. d);
-  }
-
-  pub tidy-all : (k : ℕ) → maxEdges ≤ k → TidyTo g k → GraphTidy g
-  tidy-all k h t = record {
-    a = λ i b. t .a i (omega arith);
-    b = λ i b. t .b i (omega arith);
-    cost = λ i b. t .cost i (omega arith);
-    mark = λ i b. t .mark i (omega arith);
-  }
-
--- ---- the last test of the record's zeros, and of its fields
-
-pub says-tidy : (s : Search) (b : Bool) (k : ℕ) → GraphTidy (s .graph) → Zeros (pos 0) maxVertices (s .graph .n) (s .multipliers)
-    → StackTidy (s .graph .m) (s .depth) (s .stack) → cond (s .«has_best») (s .graph .m) 0 ≡ k → Says b (Zeros 0 maxEdges k (s .best))
-    → Says b (Tidy s)
-says-tidy s b k g d l e =
-    says-both b {Q = Tidy s}
-    (λ z. record { graph = g; multipliers = d; stack = l; best = subst (λ (j : ℕ). Zeros 0 maxEdges j (s .best)) (sym e) z })
-    (λ t. subst (λ (j : ℕ). Zeros 0 maxEdges j (s .best)) e (t .best))
+-- ---- the last test of the record
 
 pub says-stands : (s : Search) (b o : Bool) → s .«open» ≡ o → Tidy s → Says b (Stands o s) → b ≡ check s
 says-stands s b o e t h =

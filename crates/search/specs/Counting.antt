@@ -2,8 +2,8 @@
 use mathlib.Core.Path.{_≡_, refl, sym, ap, _∙_, subst}
 use mathlib.Core.Logic.{_≢_}
 use mathlib.Core.Bool.{Bool, true, false, _&&_, _||_}
-use mathlib.Core.List.{List}
-use Prim.Native.Nat.{ℕ, zero, suc, _+_, _≤_, _<_}
+use mathlib.Core.List.{List, []}
+use Prim.Native.Nat.{ℕ, suc, _+_, _≤_, _<_}
 use native.Mathlib.Omega.{arith}
 use native.Mathlib.Numerals.{add-one}
 use native.Mathlib.Decide.{ℕ-discrete}
@@ -70,68 +70,72 @@ degrees-none g w = record {
   most = λ v. omega (arith, replicate-at {A = ℕ} 21 0 v);
 }
 
--- x more at two places, at a first and then at b
-abbrev pub raised : List ℕ → ℕ → ℕ → ℕ → List ℕ
-raised r a b x = set (set r a (getD r a 0 + x)) b (getD (set r a (getD r a 0 + x)) b 0 + x)
+-- one more at two places, at a first and then at b
+abbrev pub raised : List ℕ → ℕ → ℕ → List ℕ
+raised r a b = set (set r a (getD r a 0 + 1)) b (getD (set r a (getD r a 0 + 1)) b 0 + 1)
 
-module _ (r : List ℕ) (a b x : ℕ) (high : b < length r) (less : a < b) where
-  size-one : length (set r a (getD r a 0 + x)) ≡ length r
-  size-one = length-set r a (getD r a 0 + x)
+module _ (r : List ℕ) (a b : ℕ) (high : b < length r) (less : a < b) where
+  size-one : length (set r a (getD r a 0 + 1)) ≡ length r
+  size-one = length-set r a (getD r a 0 + 1)
 
-  raised-size : length (raised r a b x) ≡ length r
-  raised-size = length-set (set r a (getD r a 0 + x)) b (getD (set r a (getD r a 0 + x)) b 0 + x) ∙ size-one
+  raised-size : length (raised r a b) ≡ length r
+  raised-size = length-set (set r a (getD r a 0 + 1)) b (getD (set r a (getD r a 0 + 1)) b 0 + 1) ∙ size-one
 
-  raised-b : getD (raised r a b x) b 0 ≡ getD r b 0 + x
+  raised-b : getD (raised r a b) b 0 ≡ getD r b 0 + 1
   raised-b =
-      getD-set-same (set r a (getD r a 0 + x)) b (getD (set r a (getD r a 0 + x)) b 0 + x) 0 (omega (arith, size-one))
-      ∙ ap (λ (y : ℕ). y + x) (getD-set-other r a b (getD r a 0 + x) 0 (omega arith))
+      getD-set-same (set r a (getD r a 0 + 1)) b (getD (set r a (getD r a 0 + 1)) b 0 + 1) 0 (omega (arith, size-one))
+      ∙ ap (λ (y : ℕ). y + 1) (getD-set-other r a b (getD r a 0 + 1) 0 (omega arith))
 
-  raised-a : getD (raised r a b x) a 0 ≡ getD r a 0 + x
+  raised-a : getD (raised r a b) a 0 ≡ getD r a 0 + 1
   raised-a =
-      getD-set-other (set r a (getD r a 0 + x)) b a (getD (set r a (getD r a 0 + x)) b 0 + x) 0 (omega arith)
-      ∙ getD-set-same r a (getD r a 0 + x) 0 (omega arith)
+      getD-set-other (set r a (getD r a 0 + 1)) b a (getD (set r a (getD r a 0 + 1)) b 0 + 1) 0 (omega arith)
+      ∙ getD-set-same r a (getD r a 0 + 1) 0 (omega arith)
 
-  raised-other : (v : ℕ) → v ≢ a → v ≢ b → getD (raised r a b x) v 0 ≡ getD r v 0
+  raised-other : (v : ℕ) → v ≢ a → v ≢ b → getD (raised r a b) v 0 ≡ getD r v 0
   raised-other v na nb =
-      getD-set-other (set r a (getD r a 0 + x)) b v (getD (set r a (getD r a 0 + x)) b 0 + x) 0 nb
-      ∙ getD-set-other r a v (getD r a 0 + x) 0 na
+      getD-set-other (set r a (getD r a 0 + 1)) b v (getD (set r a (getD r a 0 + 1)) b 0 + 1) 0 nb
+      ∙ getD-set-other r a v (getD r a 0 + 1) 0 na
 
--- a byte that is 0 or 1, as a count
-one-bit : (x : ℕ) → x ≤ 1 → bit (eqb x 1 && true) ≡ x
-one-bit zero h = refl
-one-bit (suc zero) h = refl
-one-bit (suc (suc x)) h = absurd (omega arith)
+-- both ends of the edge at place k have a place, and differ
+pub record Ends (g : Graph) (k : ℕ) : Type 0 where
+  pub less : getD (g .a) k 0 < getD (g .b) k 0
+  pub high : getD (g .b) k 0 < 21
 
-no-bit : (b : Bool) → bit (b && false) ≡ 0
-no-bit true = refl
-no-bit false = refl
+pub ends-of : (g : Graph) → Valid g → (k : ℕ) → k < g .m → Ends g k
+ends-of g v k h = record { less = v .each k h .less; high = omega (arith, v .each k h .to, v .high) }
 
-module _ (k : ℕ) (g : Graph) (w r : List ℕ) (valid : Valid g) (h : k < g .m) (small : getD w k 0 ≤ 1) (c : DegreesTo k g w r) where
+module _ (k : ℕ) (g : Graph) (w r : List ℕ) (h : k < g .m) (c : DegreesTo k g w r) where
+  -- an edge that is out counts for nothing
+  pub degrees-skip : getD w k 0 ≢ 1 → DegreesTo (k + 1) g w r
+  degrees-skip out = record {
+    size = c .size;
+    at = λ v i. c .at v i ∙ sym (degree-more g w k h v ∙ rw (ne-eqb (getD w k 0) 1 out) (omega arith));
+    most = λ v. omega (arith, c .most v);
+  }
+
   a : ℕ
   a = getD (g .a) k 0
 
   b : ℕ
   b = getD (g .b) k 0
 
-  x : ℕ
-  x = getD w k 0
-
-  pub degrees-more : DegreesTo (k + 1) g w (raised r (getD (g .a) k 0) (getD (g .b) k 0) (getD w k 0))
-  unfolding a b x
-  degrees-more = record {
-    size = raised-size r a b x high less ∙ c .size;
+  -- any other at both its ends
+  pub degrees-more : Ends g k → getD w k 0 ≡ 1 → DegreesTo (k + 1) g w (raised r (getD (g .a) k 0) (getD (g .b) k 0))
+  unfolding a b
+  degrees-more ends one = record {
+    size = raised-size r a b high less ∙ c .size;
     at = λ v i. at v i (ℕ-discrete v a) (ℕ-discrete v b);
     most = λ v. most v (ℕ-discrete v a) (ℕ-discrete v b);
   }
     where
       less : a < b
-      less = valid .each k h .less
+      less = ends .less
 
       high : b < length r
-      high = omega (arith, valid .each k h .to, valid .high, c .size)
+      high = omega (arith, ends .high, c .size)
 
-      more : (v : ℕ) → v < 21 → (t : Bool) → touch g k v ≡ t → degreeTo (k + 1) g w v ≡ getD r v 0 + bit (eqb x 1 && t)
-      more v i t e = degree-more g w k h v ∙ rw (e, ← c .at v i)
+      more : (v : ℕ) → v < 21 → (t : Bool) → touch g k v ≡ t → degreeTo (k + 1) g w v ≡ getD r v 0 + bit t
+      more v i t e = degree-more g w k h v ∙ rw (eq-eqb (getD w k 0) 1 one, e, ← c .at v i)
 
       touches-a : touch g k a ≡ true
       touches-a = unfold touch in rw (eq-eqb a a refl)
@@ -142,26 +146,28 @@ module _ (k : ℕ) (g : Graph) (w r : List ℕ) (valid : Valid g) (h : k < g .m)
       touches-not : (v : ℕ) → v ≢ a → v ≢ b → touch g k v ≡ false
       touches-not v na nb = unfold touch in rw (ne-eqb a v (λ e. na (sym e)), ne-eqb b v (λ e. nb (sym e)))
 
-      at : (v : ℕ) → v < 21 → Dec (v ≡ a) → Dec (v ≡ b) → getD (raised r a b x) v 0 ≡ degreeTo (k + 1) g w v
-      at v i (yes e) q =
-          rw e
-          (raised-a r a b x high less
-          ∙ sym (more a (omega arith) true touches-a ∙ ap (λ (y : ℕ). getD r a 0 + y) (one-bit x small)))
-      at v i (no p) (yes e) =
-          rw e
-          (raised-b r a b x high less
-          ∙ sym (more b (omega arith) true touches-b ∙ ap (λ (y : ℕ). getD r b 0 + y) (one-bit x small)))
+      at : (v : ℕ) → v < 21 → Dec (v ≡ a) → Dec (v ≡ b) → getD (raised r a b) v 0 ≡ degreeTo (k + 1) g w v
+      at v i (yes e) q = rw e (raised-a r a b high less ∙ sym (more a (omega arith) true touches-a))
+      at v i (no p) (yes e) = rw e (raised-b r a b high less ∙ sym (more b (omega arith) true touches-b))
       at v i (no p) (no q) =
-          raised-other r a b x high less v p q
-          ∙ sym (more v i false (touches-not v p q) ∙ omega (arith, no-bit (eqb x 1)))
+          raised-other r a b high less v p q
+          ∙ sym (more v i false (touches-not v p q) ∙ omega arith)
 
-      most : (v : ℕ) → Dec (v ≡ a) → Dec (v ≡ b) → getD (raised r a b x) v 0 ≤ k + 1
-      most v (yes e) q = rw e (omega (arith, raised-a r a b x high less, c .most a, small))
-      most v (no p) (yes e) = rw e (omega (arith, raised-b r a b x high less, c .most b, small))
-      most v (no p) (no q) = omega (arith, raised-other r a b x high less v p q, c .most v)
+      most : (v : ℕ) → Dec (v ≡ a) → Dec (v ≡ b) → getD (raised r a b) v 0 ≤ k + 1
+      most v (yes e) q = rw e (omega (arith, raised-a r a b high less, c .most a))
+      most v (no p) (yes e) = rw e (omega (arith, raised-b r a b high less, c .most b))
+      most v (no p) (no q) = omega (arith, raised-other r a b high less v p q, c .most v)
 
 pub degrees-to : (k m : ℕ) (g : Graph) (w r : List ℕ) → k ≡ m → DegreesTo k g w r → DegreesTo m g w r
 degrees-to k m g w r e h = subst (λ (i : ℕ). DegreesTo i g w r) e h
+
+-- the degrees depend on the edges' ends alone: a graph that has these
+abbrev pub edged : ℕ → List ℕ → List ℕ → Graph
+edged m a b = record { n = 0; m = m; a = a; b = b; cost = []; mark = [] }
+
+pub degrees-edged : (g : Graph) (w r : List ℕ) → DegreesTo (g .m) (edged (g .m) (g .a) (g .b)) w r → DegreesTo (g .m) g w r
+unfolding degreeTo network
+degrees-edged g w r c = record { size = c .size; at = c .at; most = c .most }
 
 -- ---- the test of the degrees
 

@@ -83,13 +83,6 @@ module _ (m : ℕ) (t : Edges) where
   unfolding treeBytes bestBytes
   tree-at k h b = fill-at maxEdges (λ i. bit (getD (row m t) i false)) k 0 b ∙ ap bit (row-at m t k false h)
 
-  pub tree-small : (k : ℕ) → k < m → k < maxEdges → getD (treeBytes m t) k 0 ≤ 1
-  tree-small k h b = rw (tree-at k h b) (small (t (suc k)))
-    where
-      small : (x : Bool) → bit x ≤ 1
-      small true = omega arith
-      small false = omega arith
-
   -- read as a set it is the tree
   pub tree-agrees : m ≤ maxEdges → Agree m (bytes (treeBytes m t)) t
   tree-agrees few zero i = absurd (let z : 1 ≤ 0 = in-upTo m zero i .0 in omega arith)

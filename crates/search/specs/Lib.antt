@@ -6,6 +6,7 @@ pub mod Accepted
 pub mod Incumbents
 pub mod Faults
 pub mod CheckLoops
+pub mod CheckParts
 pub mod Trimming
 pub mod Inverse
 pub mod Filling
@@ -18,6 +19,9 @@ pub mod Judging
 pub mod Passing
 pub mod Opening
 pub mod Turns
+pub mod Compacting
+pub mod Expanding
+pub mod CompactGraph
 pub mod Replies
 pub mod Demand3
 pub mod Theorem

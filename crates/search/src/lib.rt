@@ -5,6 +5,7 @@ ghost use Rattle.machine.specs.Calls as Calls;
 ghost use Rattle.search.specs.Record.{fresh, openingOf};
 ghost use Rattle.search.specs.Replies.{refuses, reply, lent, Gives, GivesList};
 
+mod compact;
 mod cost;
 mod node;
 mod opening;

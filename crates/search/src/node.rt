@@ -17,34 +17,33 @@ ghost use Rattle.search.specs.Pushing.{bytesOf};
 ghost use Rattle.search.specs.Judging.{JudgedIs};
 ghost use Rattle.search.specs.Passing.{isBound};
 ghost use Rattle.search.specs.Opening.{openedAs, foundAs};
-ghost use Rattle.search.specs.Turns.{withBytes};
 ghost use Rattle.search.specs.Filling.{Filling};
-ghost use Rattle.search.specs.Counting.{DegreesTo, allTwo};
+ghost use Rattle.search.specs.Counting.{Ends, edged, DegreesTo, allTwo};
 ghost use Rattle.search.specs.Gains.{gainOf, maxGain, GainsTo};
 ghost use Rattle.search.specs.Marking.{markByte, FirstFree};
 use graph::Graph;
 use onetree::RuleAnswer;
 
-fn wide(x: u8) -> usize
+pub(crate) fn wide(x: u8) -> usize
     ensures { λ r. ⌜ r ≡ x ⌝ }
 {
     x as usize
 }
 
-// The degree of each vertex in the edges that are in, vertex v's at place v: one loop over the edges.
-fn degrees(g: Graph, w: [u8; 190]) -> [u8; 21]
-    requires { ⌜ Valid g × ((k : ℕ) → k < g .m → getD w k 0 ≤ 1) ⌝ }
-    ensures { λ r. ⌜ DegreesTo (g .m) g w r ⌝ }
+// The degree of each vertex in the edges that are in, vertex v's at place v: one loop over the edges, whose ends are lent.
+fn degrees<'a>(from: &'a [u8; 190], to: &'a [u8; 190], m: usize, w: &[u8; 190]) -> [u8; 21]
+    requires { ⌜ (m ≤ maxEdges) × ((k : ℕ) → k < m → Ends (edged m (now from) (now to)) k) ⌝ }
+    ensures { λ r. ⌜ DegreesTo m (edged m (now (from .entry)) (now (to .entry))) (now (w .entry)) r ⌝ }
 {
-    let m = g.m;
     let mut r = [0u8; 21];
     let mut k = 0;
     while k < m {
-        let a = wide(g.a[k]);
-        let b = wide(g.b[k]);
-        let x = w[k];
-        r[a] = r[a] + x;
-        r[b] = r[b] + x;
+        if w[k] == 1 {
+            let a = wide(from[k]);
+            let b = wide(to[k]);
+            r[a] = r[a] + 1;
+            r[b] = r[b] + 1;
+        }
         k = k + 1;
     }
     r
@@ -194,11 +193,14 @@ pub(crate) enum Verdict {
     Ruled,
 }
 
-// The verdict; the tour or the marks after the rulings; the degrees of the tree.
+// The verdict; the tour or the marks after the rulings; the degrees of the tree; and in the first `live` bytes of `order` a hint for the
+// next pass.
 pub(crate) struct Judged {
     pub verdict: Verdict,
     pub row: [u8; 190],
     pub degrees: [u8; 21],
+    pub order: [u8; 190],
+    pub live: usize,
 }
 
 // Is there a tree within the ceiling?
@@ -212,29 +214,35 @@ fn is_bound(answer: RuleAnswer) -> bool
     }
 }
 
-// One pass, by one call of the tree part.
-fn judge(g: Graph, d: [i32; 20], upper: i64) -> Judged
+// One pass, by one call of the tree part. The hint is for it alone.
+fn judge(g: Graph, d: [i32; 20], upper: i64, hint: &[u8]) -> Judged
     requires { ⌜ Valid g × (multipliersFit (fit (g .n) (pos 0) d) ≡ true) × (ceilingFits upper ≡ true) ⌝ }
-    ensures { λ r. ⌜ JudgedIs g (fit (g .n) (pos 0) d) upper (r .verdict) (r .row) (r .degrees) ⌝ }
+    ensures { λ r. ⌜ JudgedIs g (fit (g .n) (pos 0) d) upper (r .verdict) (r .row) (r .degrees) × (r .live ≤ maxEdges) ⌝ }
 {
     let n = g.n;
     let m = g.m;
-    let p = onetree::pass(g, &d[..n], upper);
+    let p = onetree::pass(g, &d[..n], upper, hint);
     let answer = p.answer;
     let tree = p.tree;
+    let order = p.order;
+    let live = p.live;
     if !is_bound(answer) {
         return Judged {
             verdict: Verdict::Shut,
             row: tree,
             degrees: [0; 21],
+            order: order,
+            live: live,
         };
     }
-    let degrees = degrees(g, tree);
+    let degrees = degrees(&g.a, &g.b, m, &tree);
     if two_each(degrees, n) {
         return Judged {
             verdict: Verdict::Found,
             row: tree,
             degrees: degrees,
+            order: order,
+            live: live,
         };
     }
     let rulings = p.rulings;
@@ -243,6 +251,8 @@ fn judge(g: Graph, d: [i32; 20], upper: i64) -> Judged
         verdict: Verdict::Ruled,
         row: marks,
         degrees: degrees,
+        order: order,
+        live: live,
     }
 }
 
@@ -257,63 +267,54 @@ fn found(tour: [u8; 190]) -> Opened
     }
 }
 
-// The graph with a node's marks.
-fn with_marks(g: Graph, marks: [u8; 190]) -> Graph
-    ensures { λ r. ⌜ r ≡ withBytes g marks ⌝ }
-{
-    let mut h = g;
-    h.mark = marks;
-    h
-}
-
-// What a pass starts from: the graph with the node's marks, and the multipliers.
+// What a pass starts from besides the graph with the node's marks: the multipliers, and the last pass's hint.
 struct Turn {
-    pub graph: Graph,
     pub multipliers: [i32; 20],
+    pub order: [u8; 190],
+    pub live: usize,
 }
 
-// After a pass that is not the last: the marks after the rulings, and the multipliers with their gains.
-fn advanced(t: Turn, j: Judged, step: u32) -> Turn
-    requires { ⌜ Valid (t .graph) × (multipliersFit (fit (t .graph .n) (pos 0) (t .multipliers)) ≡ true) × (step ≤ maxStep) ⌝ }
-    ensures { λ r. ⌜ (r .graph ≡ withBytes (t .graph) (j .row))
-        × GainsTo (t .graph .n) step (j .degrees) (t .multipliers) (r .multipliers) ⌝ }
+// After a pass that is not the last: the multipliers with their gains, and its hint.
+fn advanced(t: Turn, j: Judged, n: usize, step: u32) -> Turn
+    requires { ⌜ (1 ≤ n) × (n ≤ maxVertices) × (multipliersFit (fit n (pos 0) (t .multipliers)) ≡ true) × (step ≤ maxStep) ⌝ }
+    ensures { λ r. ⌜ GainsTo n step (j .degrees) (t .multipliers) (r .multipliers) × (r .live ≡ j .live) ⌝ }
 {
-    let g = t.graph;
-    let row = j.row;
-    let h = with_marks(g, row);
     let degrees = j.degrees;
     let d = t.multipliers;
-    let next = gains(degrees, d, g.n, step);
+    let next = gains(degrees, d, n, step);
+    let order = j.order;
     Turn {
-        graph: h,
         multipliers: next,
+        order: order,
+        live: j.live,
     }
 }
 
-// A node is opened: multipliers set to the opening ones, then passes 0 to `sweeps`.
+// A node with the graph's marks is opened: multipliers set to the opening ones, then passes 0 to `sweeps`.
 pub(crate) fn open_node(
     g: Graph,
     multipliers: [i32; 20],
     upper: i64,
     sweeps: u32,
     step: u32,
-    marks: [u8; 190],
 ) -> Opened
     requires { ⌜ Valid g × (multipliersFit (fit (g .n) (pos 0) multipliers) ≡ true) × (ceilingFits upper ≡ true) × (step ≤ maxStep)
-        × (marks ≡ bytesOf (marksIn (g .m) marks)) ⌝ }
-    ensures { λ r. ⌜ r ≡ openedAs (passes (network g) step upper sweeps (fit (g .n) (pos 0) multipliers) (marksIn (g .m) marks)) ⌝ }
+        × (g .mark ≡ bytesOf (marksIn (g .m) (g .mark))) ⌝ }
+    ensures { λ r. ⌜ r ≡ openedAs (passes (network g) step upper sweeps (fit (g .n) (pos 0) multipliers) (marksIn (g .m) (g .mark))) ⌝ }
 {
     let m = g.m;
-    let start = with_marks(g, marks);
+    let mut h = g;
     let mut t = Turn {
-        graph: start,
         multipliers: multipliers,
+        order: [0; 190],
+        live: 0,
     };
     let mut left = sweeps;
     loop {
-        let h = t.graph;
         let d = t.multipliers;
-        let j = judge(h, d, upper);
+        let order = t.order;
+        let live = t.live;
+        let j = judge(h, d, upper, &order[..live]);
         let verdict = j.verdict;
         let row = j.row;
         match verdict {
@@ -328,7 +329,8 @@ pub(crate) fn open_node(
         if left == 0 {
             return branched(row, m);
         }
-        t = advanced(t, j, step);
+        t = advanced(t, j, h.n, step);
+        h.mark = row;
         left = left - 1;
     }
 }

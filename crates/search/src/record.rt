@@ -6,8 +6,9 @@ ghost use lib.IntN.{pos};
 ghost use Rattle.lists.specs.Bools.{Says};
 ghost use Rattle.graph.specs.Limits.{maxVertices, maxEdges};
 ghost use Rattle.machine.specs.Calls.{fault};
-ghost use Rattle.search.specs.Record.{maxNodes, openingIn};
-ghost use Rattle.search.specs.Canonical.{Zeros, GraphTidy, NodeZeros, usedIn, StackTidy, Tidy, Idle, NodeFits, StackFits, Bits, Fits};
+ghost use Rattle.search.specs.Record.{maxNodes, stackSize, openingIn};
+ghost use Rattle.search.specs.Canonical.{Zeros, GraphTidy, NodeZeros, StackTidy, Idle, NodeFits, StackFits, Bits};
+ghost use Rattle.search.specs.CheckParts.{InUse, FieldsTidy, FieldsFit};
 ghost use Rattle.search.specs.Check.{check};
 use crate::MAX_COUNT;
 use crate::Search;
@@ -17,9 +18,27 @@ use graph::FREE;
 use graph::Graph;
 use graph::MAX_VERTICES;
 
+// Each loop over bytes keeps the greatest byte met and looks at it once, at the end: a loop with no way out in the middle takes many bytes
+// at a time.
+
 // Is every place from `from` on zero?
 fn zeros(a: [u8; 190], from: usize) -> bool
     ensures { λ r. ⌜ Says r (Zeros 0 maxEdges from a) ⌝ }
+{
+    let mut most = 0;
+    let mut i = from;
+    while i < 190 {
+        let x = a[i];
+        if x > most {
+            most = x;
+        }
+        i = i + 1;
+    }
+    most == 0
+}
+
+fn costs_tidy(a: [i32; 190], from: usize) -> bool
+    ensures { λ r. ⌜ Says r (Zeros (pos 0) maxEdges from a) ⌝ }
 {
     let mut i = from;
     while i < 190 {
@@ -47,23 +66,21 @@ fn multipliers_tidy(d: [i32; 20], n: usize) -> bool
 fn graph_tidy(g: Graph) -> bool
     ensures { λ r. ⌜ Says r (GraphTidy g) ⌝ }
 {
-    let mut i = g.m;
-    while i < 190 {
-        if g.a[i] != 0 {
-            return false;
-        }
-        if g.b[i] != 0 {
-            return false;
-        }
-        if g.cost[i] != 0 {
-            return false;
-        }
-        if g.mark[i] != 0 {
-            return false;
-        }
-        i = i + 1;
+    let m = g.m;
+    let a = g.a;
+    if !zeros(a, m) {
+        return false;
     }
-    true
+    let b = g.b;
+    if !zeros(b, m) {
+        return false;
+    }
+    let cost = g.cost;
+    if !costs_tidy(cost, m) {
+        return false;
+    }
+    let mark = g.mark;
+    zeros(mark, m)
 }
 
 // Is every place of node p from `from` on zero?
@@ -71,32 +88,54 @@ fn node_zeros(stack: &[u8; 36290], p: usize, from: usize) -> bool
     requires { ⌜ p < maxNodes ⌝ }
     ensures { λ r. ⌜ Says r (NodeZeros (now (stack .entry)) p from) ⌝ }
 {
+    let mut most = 0;
     let mut j = from;
     while j < 190 {
-        if stack[190 * p + j] != 0 {
-            return false;
+        let x = stack[190 * p + j];
+        if x > most {
+            most = x;
         }
         j = j + 1;
     }
-    true
+    most == 0
 }
 
-// How many places of node p are in use?
-fn used_in(m: usize, depth: usize, p: usize) -> usize
-    ensures { λ r. ⌜ r ≡ usedIn m depth p ⌝ }
+// Is every byte of the stack from `from` on zero?
+fn stack_zeros(stack: &[u8; 36290], from: usize) -> bool
+    ensures { λ r. ⌜ Says r (Zeros 0 stackSize from (now (stack .entry))) ⌝ }
 {
-    if p < depth {
-        return m;
+    let mut most = 0;
+    let mut i = from;
+    while i < 36290 {
+        let x = stack[i];
+        if x > most {
+            most = x;
+        }
+        i = i + 1;
     }
-    0
+    most == 0
+}
+
+// How many nodes are in use?
+fn nodes_in_use(depth: usize) -> usize
+    ensures { λ r. ⌜ InUse depth r ⌝ }
+{
+    if depth < 191 {
+        return depth;
+    }
+    191
 }
 
 fn stack_tidy(stack: &[u8; 36290], m: usize, depth: usize) -> bool
     ensures { λ r. ⌜ Says r (StackTidy m depth (now (stack .entry))) ⌝ }
 {
+    let used = nodes_in_use(depth);
+    if !stack_zeros(stack, 190 * used) {
+        return false;
+    }
     let mut p = 0;
-    while p < 191 {
-        if !node_zeros(stack, p, used_in(m, depth, p)) {
+    while p < used {
+        if !node_zeros(stack, p, m) {
             return false;
         }
         p = p + 1;
@@ -107,14 +146,16 @@ fn stack_tidy(stack: &[u8; 36290], m: usize, depth: usize) -> bool
 fn bits(a: [u8; 190]) -> bool
     ensures { λ r. ⌜ Says r (Bits a) ⌝ }
 {
+    let mut most = 0;
     let mut i = 0;
     while i < 190 {
-        if a[i] > 1 {
-            return false;
+        let x = a[i];
+        if x > most {
+            most = x;
         }
         i = i + 1;
     }
-    true
+    most <= 1
 }
 
 // Has node p marks only, and at most m - p free edges?
@@ -122,19 +163,23 @@ fn node_fits(stack: &[u8; 36290], m: usize, p: usize) -> bool
     requires { ⌜ (m ≤ maxEdges) × (p < maxNodes) ⌝ }
     ensures { λ r. ⌜ Says r (NodeFits m (now (stack .entry)) p) ⌝ }
 {
-    let mut frees = 0;
+    let mut most = 0;
+    let mut frees: u8 = 0;
     let mut j = 0;
     while j < m {
         let x = stack[190 * p + j];
-        if x > EXCLUDED {
-            return false;
+        if x > most {
+            most = x;
         }
         if x == FREE {
             frees = frees + 1;
         }
         j = j + 1;
     }
-    frees + p <= m
+    if most > EXCLUDED {
+        return false;
+    }
+    frees as usize + p <= m
 }
 
 fn stack_fits(stack: &[u8; 36290], m: usize, depth: usize) -> bool
@@ -151,9 +196,10 @@ fn stack_fits(stack: &[u8; 36290], m: usize, depth: usize) -> bool
     true
 }
 
-// Zero past the edges, the vertices and the depth; and the incumbent, where there is none.
-fn tidy(s: Search) -> bool
-    ensures { λ r. ⌜ Says r (Tidy s) ⌝ }
+// Zero past the edges and the vertices; and the incumbent, where there is none. (The stack is lent to its own tests: a record that is handed
+// on by value and lends its stack there is copied.)
+fn fields_tidy(s: Search) -> bool
+    ensures { λ r. ⌜ Says r (FieldsTidy s) ⌝ }
 {
     let g = s.graph;
     if !graph_tidy(g) {
@@ -161,10 +207,6 @@ fn tidy(s: Search) -> bool
     }
     let d = s.multipliers;
     if !multipliers_tidy(d, g.n) {
-        return false;
-    }
-    let stack = s.stack;
-    if !stack_tidy(&stack, g.m, s.depth) {
         return false;
     }
     let best = s.best;
@@ -187,8 +229,8 @@ fn opening_fits(s: Search) -> bool
     opening::fault(g, &d[..n], s.ceiling, s.sweeps, s.step) == 0
 }
 
-fn fits(s: Search) -> bool
-    ensures { λ r. ⌜ Says r (Fits s) ⌝ }
+fn fields_fit(s: Search) -> bool
+    ensures { λ r. ⌜ Says r (FieldsFit s) ⌝ }
 {
     if !opening_fits(s) {
         return false;
@@ -196,13 +238,7 @@ fn fits(s: Search) -> bool
     if !onetree::ceiling_fits(s.upper) {
         return false;
     }
-    let m = s.graph.m;
-    let depth = s.depth;
-    if depth > m + 1 {
-        return false;
-    }
-    let stack = s.stack;
-    if !stack_fits(&stack, m, depth) {
+    if s.depth > s.graph.m + 1 {
         return false;
     }
     let best = s.best;
@@ -247,11 +283,19 @@ fn idle(s: Search) -> bool
 pub(crate) fn check_record(s: Search) -> bool
     ensures { λ r. ⌜ r ≡ check s ⌝ }
 {
-    if !tidy(s) {
+    if !fields_tidy(s) {
         return false;
     }
-    if s.open {
-        return fits(s);
+    let m = s.graph.m;
+    let depth = s.depth;
+    if !stack_tidy(&s.stack, m, depth) {
+        return false;
     }
-    idle(s)
+    if !s.open {
+        return idle(s);
+    }
+    if !fields_fit(s) {
+        return false;
+    }
+    stack_fits(&s.stack, m, depth)
 }

@@ -2,9 +2,7 @@
 // value beside the stack's bytes, which are lent: nothing copies the record for a node.
 ghost use mathlib.Core.Path.{_≡_};
 ghost use mathlib.Core.Bool.{true};
-ghost use Prim.Native.Nat.{_<_};
 ghost use lib.IntN.{pos, _-ℤ_};
-ghost use Rattle.graph.specs.Limits.{maxCount};
 ghost use Rattle.graph.specs.Network.{network};
 ghost use Rattle.graph.specs.Valid.{Valid};
 ghost use Rattle.onetree.specs.Arrays.{bytes};
@@ -18,10 +16,10 @@ ghost use Rattle.search.specs.Running.{Runs};
 use crate::Answer;
 use crate::Outcome;
 use crate::Search;
+use crate::compact::open_compact;
 use crate::cost::tour_cost;
 use crate::node::Fate;
 use crate::node::Opened;
-use crate::node::open_node;
 use crate::stack::node;
 use crate::stack::put;
 use graph::Graph;
@@ -90,26 +88,7 @@ fn settle(g: Graph, f: Frame, o: Opened, stack: &mut [u8; 36290]) -> Frame
     }
 }
 
-// The top node is opened.
-fn open_top(
-    g: Graph,
-    multipliers: [i32; 20],
-    sweeps: u32,
-    step: u32,
-    f: Frame,
-    stack: &mut [u8; 36290],
-) -> Frame
-    requires { ⌜ ((s : Progress) × Runs g multipliers sweeps step f (now stack) s) × (0 < f .depth) × (f .count < maxCount) ⌝ }
-    ensures { λ r. ⌜ ((s : Progress) → Runs g multipliers sweeps step f (now (stack .entry)) s
-        → Runs g multipliers sweeps step r (now (stack .exit)) (openTop s (s .stack))) ⌝ }
-{
-    let p = f.depth - 1;
-    let x = node(stack, p);
-    let o = open_node(g, multipliers, f.upper, sweeps, step, x);
-    settle(g, f, o, stack)
-}
-
-// The run.
+// The run: the top node is opened, again and again.
 fn run_frame(
     g: Graph,
     multipliers: [i32; 20],
@@ -132,7 +111,21 @@ fn run_frame(
         if t.count >= crate::MAX_COUNT {
             return t;
         }
-        t = open_top(g, multipliers, sweeps, step, t, stack);
+        let p = t.depth - 1;
+        let x = node(stack, p);
+        let o = open_compact(
+            g.n,
+            g.m,
+            &g.a,
+            &g.b,
+            &g.cost,
+            multipliers,
+            t.upper,
+            sweeps,
+            step,
+            x,
+        );
+        t = settle(g, t, o, stack);
         left = left - 1;
     }
     t

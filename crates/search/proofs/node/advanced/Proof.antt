@@ -18,16 +18,13 @@ use Rattle.search.proofs.node.advanced.Tie as tie
 ranged : (n : ℕ) (d : List ℤ) → multipliersFit (fit n (pos 0) d) ≡ true → (i : ℕ) → i < n → InRange maxMultiplier (getD d i (pos 0))
 ranged n d h i b = rw (← fit-at n (pos 0) d i b) (fit-ranged (fit n (pos 0) d) h i (omega (arith, fit-size n (pos 0) d)))
 
-with-marks-requires : tie.Need-with-marks-requires
-with-marks-requires c κs = search needs
-
 gains-requires : tie.Need-gains-requires
 gains-requires c κs =
-    let s = c .before .before .before .before .before in
-    (omega (arith, s .pre .0 .low), s .pre .0 .high, s .pre .2, ranged (s .args .t .graph .n) (s .args .t .multipliers) (s .pre .1))
+    let s = c .before .before in
+    (s .pre .0, s .pre .1, s .pre .3, ranged (s .args .n) (s .args .t .multipliers) (s .pre .2))
 
 returns : tie.Need-returns
 returns c = search needs
 
 pub advanced-spec : {M : Type 1} → statement M
-advanced-spec = tie.close (tie.spec with-marks-requires gains-requires returns)
+advanced-spec = tie.close (tie.spec gains-requires returns)

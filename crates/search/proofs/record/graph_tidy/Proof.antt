@@ -1,91 +1,54 @@
--- The loop keeps: the places of the four arrays from m up to i are zero.
-use Prim.Native.Nat.{_≤_, _-_}
-use mathlib.Core.Path.{refl}
-use native.Mathlib.Omega.{arith}
+-- Each array in turn.
 use borrow.Author.Needs.{needs}
-use Rattle.machine.specs.Calls.{close}
-use Rattle.search.specs.CheckLoops.{TidyTo, tidy-none, tidy-more, tidy-all, zero32}
+use borrow.Author.Tests.{not-true, not-false}
+use Rattle.lists.specs.Bools.{says-yes, says-no}
+use Rattle.search.specs.CheckLoops.{says-both}
+use Rattle.search.specs.Canonical.{GraphTidy}
 use Rattle.search.proofs.record.graph_tidy.Statement.{statement}
 use Rattle.search.proofs.record.graph_tidy.Tie as tie
 
-abbrev Inv-loop : tie.InvT-loop
-Inv-loop g i₀ i = (g .m ≤ i) × TidyTo g i
+zeros-requires : tie.Need-zeros-requires
+zeros-requires c κs = search needs
 
-abbrev μ-loop : tie.MeasureT-loop
-μ-loop g i₀ i = 190 - i
+returns : tie.Need-returns
+returns c = λ t. says-no (c .before .zeros .result) (c .before .zeros .ensures) (not-true _ (c .if1 .taken)) (t .a)
 
-loop-holds : tie.Need-loop-holds Inv-loop μ-loop
-loop-holds c = (omega arith, tidy-none (c .args .t1))
+zeros-requires-2 : tie.Need-zeros-requires-2
+zeros-requires-2 c κs = search needs
 
-element-copy-out-if1 : tie.Need-element-copy-out-if1 Inv-loop μ-loop
-element-copy-out-if1 c = search needs
+returns-2 : tie.Need-returns-2
+returns-2 c = λ t. says-no (c .before .zeros2 .result) (c .before .zeros2 .ensures) (not-true _ (c .if2 .taken)) (t .b)
 
-returns : tie.Need-returns Inv-loop μ-loop
-returns c = λ e. let l = c .before .before .before .loop in c .if1 .taken (e .a (l .i) (omega arith) (l .inv .0))
+costs-tidy-requires : tie.Need-costs-tidy-requires
+costs-tidy-requires c κs = search needs
 
-element-copy-out-if2 : tie.Need-element-copy-out-if2 Inv-loop μ-loop
-element-copy-out-if2 c = search needs
+returns-3 : tie.Need-returns-3
+returns-3 c = λ t. says-no (c .before .costs-tidy .result) (c .before .costs-tidy .ensures) (not-true _ (c .if3 .taken)) (t .cost)
 
-returns-2 : tie.Need-returns-2 Inv-loop μ-loop
-returns-2 c = λ e. let l = c .before .before .before .before .before .loop in c .if2 .taken (e .b (l .i) (omega arith) (l .inv .0))
+zeros-requires-3 : tie.Need-zeros-requires-3
+zeros-requires-3 c κs = search needs
 
-mul-if3 : tie.Need-mul-if3 Inv-loop μ-loop
-mul-if3 c = search needs
-
-element-copy-out-if3 : tie.Need-element-copy-out-if3 Inv-loop μ-loop
-element-copy-out-if3 c = search needs
-
-returns-3 : tie.Need-returns-3 Inv-loop μ-loop
-returns-3 c =
-    λ e. let at = c .before .before .before .before in
-    let l = at .before .before .before .loop in
-    c .if3 .taken (rw (e .cost (l .i) (omega arith) (l .inv .0)) refl)
-
-element-copy-out-if4 : tie.Need-element-copy-out-if4 Inv-loop μ-loop
-element-copy-out-if4 c = search needs
-
-returns-4 : tie.Need-returns-4 Inv-loop μ-loop
+returns-4 : tie.Need-returns-4
 returns-4 c =
-    λ e. let at = c .before .before .before .before in
-    let l = at .before .before .before .before .before .loop in
-    c .if4 .taken (e .mark (l .i) (omega arith) (l .inv .0))
-
-add-i : tie.Need-add-i Inv-loop μ-loop
-add-i c = search needs
-
-loop-less : tie.Need-loop-less Inv-loop μ-loop
-loop-less c = search needs
-
-loop-again : tie.Need-loop-again Inv-loop μ-loop
-loop-again c =
     let c3 = c .before .before in
-    let c2 = c3 .before .before in
-    let c1 = c2 .before .before in
-    let l = c1 .before .before .before .loop in (
-      omega arith,
-      tidy-more _ (l .i) (l .inv .1) (c1 .if1 .left) (c2 .if2 .left) (zero32 _ (c3 .before .if32 .given) (c3 .if3 .left)) (c .if4 .left),
-    )
-
-returns-5 : tie.Need-returns-5 Inv-loop μ-loop
-returns-5 c = let l = c .before .loop in tidy-all _ (l .i) (omega arith) (l .inv .1)
+    let c2 = c3 .before .before .before in
+    let c1 = c2 .before .before .before in
+    says-both (c .zeros3 .result) {Q = GraphTidy (c1 .before .before .before .args .g)} (λ mark. record {
+      a = says-yes (c1 .before .zeros .result) (c1 .before .zeros .ensures) (not-false _ (c1 .if1 .left));
+      b = says-yes (c2 .before .zeros2 .result) (c2 .before .zeros2 .ensures) (not-false _ (c2 .if2 .left));
+      cost = says-yes (c3 .before .costs-tidy .result) (c3 .before .costs-tidy .ensures) (not-false _ (c3 .if3 .left));
+      mark = mark;
+    }) (λ t. t .mark) (c .zeros3 .ensures)
 
 pub graph-tidy-spec : {M : Type 1} → statement M
 graph-tidy-spec =
     tie.close
     (tie.spec
-    Inv-loop
-    μ-loop
-    loop-holds
-    element-copy-out-if1
+    zeros-requires
     returns
-    element-copy-out-if2
+    zeros-requires-2
     returns-2
-    mul-if3
-    element-copy-out-if3
+    costs-tidy-requires
     returns-3
-    element-copy-out-if4
-    returns-4
-    add-i
-    loop-less
-    loop-again
-    returns-5)
+    zeros-requires-3
+    returns-4)

@@ -1,34 +1,30 @@
--- The loop keeps: the places of node p from `from` up to j are zero.
-use Prim.Native.Nat.{ℕ, _+_, _*_, _≤_, _<_, _-_}
-use mathlib.Core.Path.{_≡_}
+-- The loop keeps the greatest of the places of node p from `from` up to j.
+use Prim.Native.Nat.{_+_, _*_, _≤_, _-_}
+use mathlib.Core.Logic.{⊎-elim}
 use native.Mathlib.Omega.{arith}
 use borrow.Author.Needs.{needs}
-use borrow.Author.Count.{below-more}
 use lib.ListN.{getD}
-use Rattle.machine.specs.Calls.{close}
+use Rattle.search.specs.CheckParts.{Greatest, greatest-none, greatest-raised, greatest-kept, says-zero}
 use Rattle.search.proofs.record.node_zeros.Statement.{statement}
 use Rattle.search.proofs.record.node_zeros.Tie as tie
 
 abbrev Inv-loop : tie.InvT-loop
-Inv-loop stack p from j₀ j = (from ≤ j) × ((k : ℕ) → k < j → from ≤ k → getD stack (190 * p + k) 0 ≡ 0)
+Inv-loop stack p from most₀ j₀ most j = (from ≤ j) × Greatest (λ k. getD stack (190 * p + k) 0) from 190 j most
 
 abbrev μ-loop : tie.MeasureT-loop
-μ-loop stack p from j₀ j = 190 - j
+μ-loop stack p from most₀ j₀ most j = 190 - j
 
 loop-holds : tie.Need-loop-holds Inv-loop μ-loop
-loop-holds c = (omega arith, λ k h l. absurd (omega arith))
+loop-holds c = (omega arith, greatest-none _ _ _)
 
-mul-if1 : tie.Need-mul-if1 Inv-loop μ-loop
-mul-if1 c = search needs
+mul-x : tie.Need-mul-x Inv-loop μ-loop
+mul-x c = search needs
 
-add-if1 : tie.Need-add-if1 Inv-loop μ-loop
-add-if1 c = search needs
+add-x : tie.Need-add-x Inv-loop μ-loop
+add-x c = search needs
 
-element-copy-out-if1 : tie.Need-element-copy-out-if1 Inv-loop μ-loop
-element-copy-out-if1 c = search needs
-
-returns : tie.Need-returns Inv-loop μ-loop
-returns c = λ e. let l = c .before .before .before .loop in c .if1 .taken (e (l .j) (omega arith) (l .inv .0))
+element-copy-out-x : tie.Need-element-copy-out-x Inv-loop μ-loop
+element-copy-out-x c = search needs
 
 add-j : tie.Need-add-j Inv-loop μ-loop
 add-j c = search needs
@@ -38,11 +34,14 @@ loop-less c = search needs
 
 loop-again : tie.Need-loop-again Inv-loop μ-loop
 loop-again c =
-    let l = c .before .before .before .loop in
-    (omega arith, below-more _ _ (l .inv .1) (λ e. c .if1 .left))
+    let l = c .before .before .before .loop in (
+      omega arith,
+      ⊎-elim (λ w. greatest-raised _ _ _ (l .j) (l .most) _ (l .inv .1) (l .inv .0) (omega arith) (w .0 .taken) (w .1))
+          (λ w. greatest-kept _ _ _ (l .j) (l .most) _ (l .inv .1) (w .0 .left) (w .1)) (c .if1 .came),
+    )
 
-returns-2 : tie.Need-returns-2 Inv-loop μ-loop
-returns-2 c = λ k h l. c .before .loop .inv .1 k (omega arith) l
+returns : tie.Need-returns Inv-loop μ-loop
+returns c = let l = c .before .loop in says-zero _ _ 190 (l .j) (l .most) (l .inv .1) (omega arith)
 
 pub node-zeros-spec : {M : Type 1} → statement M
 node-zeros-spec =
@@ -51,11 +50,10 @@ node-zeros-spec =
     Inv-loop
     μ-loop
     loop-holds
-    mul-if1
-    add-if1
-    element-copy-out-if1
-    returns
+    mul-x
+    add-x
+    element-copy-out-x
     add-j
     loop-less
     loop-again
-    returns-2)
+    returns)

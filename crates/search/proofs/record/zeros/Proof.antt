@@ -1,28 +1,24 @@
--- The loop keeps: the places from `from` up to i are zero.
-use Prim.Native.Nat.{ℕ, _≤_, _<_, _-_}
-use mathlib.Core.Path.{_≡_}
+-- The loop keeps the greatest of the places from `from` up to i.
+use Prim.Native.Nat.{_≤_, _-_}
+use mathlib.Core.Logic.{⊎-elim}
 use native.Mathlib.Omega.{arith}
 use borrow.Author.Needs.{needs}
-use borrow.Author.Count.{below-more}
 use lib.ListN.{getD}
-use Rattle.machine.specs.Calls.{close}
+use Rattle.search.specs.CheckParts.{Greatest, greatest-none, greatest-raised, greatest-kept, says-zero}
 use Rattle.search.proofs.record.zeros.Statement.{statement}
 use Rattle.search.proofs.record.zeros.Tie as tie
 
 abbrev Inv-loop : tie.InvT-loop
-Inv-loop from a i₀ i = (from ≤ i) × ((k : ℕ) → k < i → from ≤ k → getD a k 0 ≡ 0)
+Inv-loop from a most₀ i₀ most i = (from ≤ i) × Greatest (λ k. getD a k 0) from 190 i most
 
 abbrev μ-loop : tie.MeasureT-loop
-μ-loop from a i₀ i = 190 - i
+μ-loop from a most₀ i₀ most i = 190 - i
 
 loop-holds : tie.Need-loop-holds Inv-loop μ-loop
-loop-holds c = (omega arith, λ k h l. absurd (omega arith))
+loop-holds c = (omega arith, greatest-none _ _ _)
 
-array-read-if1 : tie.Need-array-read-if1 Inv-loop μ-loop
-array-read-if1 c = search needs
-
-returns : tie.Need-returns Inv-loop μ-loop
-returns c = λ e. let l = c .before .before .loop in c .if1 .taken (e (l .i) (omega arith) (l .inv .0))
+array-read-x : tie.Need-array-read-x Inv-loop μ-loop
+array-read-x c = search needs
 
 add-i : tie.Need-add-i Inv-loop μ-loop
 add-i c = search needs
@@ -32,11 +28,14 @@ loop-less c = search needs
 
 loop-again : tie.Need-loop-again Inv-loop μ-loop
 loop-again c =
-    let l = c .before .before .loop in
-    (omega arith, below-more _ _ (l .inv .1) (λ e. c .if1 .left))
+    let l = c .before .before .loop in (
+      omega arith,
+      ⊎-elim (λ w. greatest-raised _ _ _ (l .i) (l .most) _ (l .inv .1) (l .inv .0) (omega arith) (w .0 .taken) (w .1))
+          (λ w. greatest-kept _ _ _ (l .i) (l .most) _ (l .inv .1) (w .0 .left) (w .1)) (c .if1 .came),
+    )
 
-returns-2 : tie.Need-returns-2 Inv-loop μ-loop
-returns-2 c = λ k h l. c .before .loop .inv .1 k (omega arith) l
+returns : tie.Need-returns Inv-loop μ-loop
+returns c = let l = c .before .loop in says-zero _ _ 190 (l .i) (l .most) (l .inv .1) (omega arith)
 
 pub zeros-spec : {M : Type 1} → statement M
 zeros-spec =
@@ -45,9 +44,8 @@ zeros-spec =
     Inv-loop
     μ-loop
     loop-holds
-    array-read-if1
-    returns
+    array-read-x
     add-i
     loop-less
     loop-again
-    returns-2)
+    returns)

@@ -11,11 +11,11 @@ use Rattle.graph.specs.Limits.{maxCount}
 use Rattle.onetree.specs.Inputs.{ceilingFits}
 use Rattle.machine.specs.Calls.{fault}
 use Rattle.search.specs.Record.{openingIn}
-use Rattle.search.specs.Canonical.{Fits}
+use Rattle.search.specs.CheckParts.{FieldsFit}
 use Rattle.search.specs.CheckLoops.{says-le}
 use Rattle.search.specs.Begun.{begun-valid}
-use Rattle.search.proofs.record.fits.Statement.{statement}
-use Rattle.search.proofs.record.fits.Tie as tie
+use Rattle.search.proofs.record.fields_fit.Statement.{statement}
+use Rattle.search.proofs.record.fields_fit.Tie as tie
 
 no-fault : (c : tie.Else1) → fault (openingIn (c .before .before .args .s)) ≡ 0
 no-fault c = eqb-true _ 0 (sym (c .before .opening-fits .ensures) ∙ not-false _ (c .if1 .left))
@@ -40,45 +40,35 @@ returns-2 c =
     true≢false (sym (c .before .ceiling-fits .ensures ∙ ap ceilingFits word ∙ t .upper) ∙ not-true _ (c .if2 .taken))
 
 add-if3 : tie.Need-add-if3
-add-if3 c = omega (arith, few (c .before .before .before))
+add-if3 c = omega (arith, few (c .before .before .before .before))
 
 returns-3 : tie.Need-returns-3
 returns-3 c = search needs
 
-stack-fits-requires : tie.Need-stack-fits-requires
-stack-fits-requires c κs =
-    let c1 = c .before .before .before .before .before .before in
-    (few c1, omega (arith, few c1, c .before .before .if3 .left))
-
-returns-4 : tie.Need-returns-4
-returns-4 c = λ t. says-no (c .before .stack-fits .result) (c .before .stack-fits .ensures) (not-true _ (c .if4 .taken)) (t .stack)
-
 bits-requires : tie.Need-bits-requires
 bits-requires c κs = search needs
 
-returns-5 : tie.Need-returns-5
-returns-5 c = λ t. says-no (c .before .bits .result) (c .before .bits .ensures) (not-true _ (c .if5 .taken)) (t .best)
+returns-4 : tie.Need-returns-4
+returns-4 c = λ t. says-no (c .before .bits .result) (c .before .bits .ensures) (not-true _ (c .if4 .taken)) (t .best)
 
-returns-6 : tie.Need-returns-6
-returns-6 c =
-    let c5 = c .before in
-    let c4 = c5 .before .before .before in
-    let c3 = c4 .before .before .before .before in
-    let c2 = c3 .before in
+returns-5 : tie.Need-returns-5
+returns-5 c =
+    let c4 = c .before in
+    let c3 = c4 .before .before .before in
+    let c2 = c3 .before .before .before in
     let c1 = c2 .before .before .before in
     let s = c1 .before .before .args .s in
     let word = back64 (s .upper) (c2 .before .before .struct-told .given .1 .1 .1 .1 .1 .1 .0 .1) in
-    says-le (s .count) maxCount (Fits s) (λ count. record {
+    says-le (s .count) maxCount (FieldsFit s) (λ count. record {
       opening = no-fault c1;
       upper = ap ceilingFits (sym word) ∙ sym (c2 .before .ceiling-fits .ensures) ∙ not-false _ (c2 .if2 .left);
       depth = c3 .if3 .left;
-      stack = says-yes (c4 .before .stack-fits .result) (c4 .before .stack-fits .ensures) (not-false _ (c4 .if4 .left));
-      best = says-yes (c5 .before .bits .result) (c5 .before .bits .ensures) (not-false _ (c5 .if5 .left));
+      best = says-yes (c4 .before .bits .result) (c4 .before .bits .ensures) (not-false _ (c4 .if4 .left));
       count = count;
     }) (λ t. t .count)
 
-pub fits-spec : {M : Type 1} → statement M
-fits-spec =
+pub fields-fit-spec : {M : Type 1} → statement M
+fields-fit-spec =
     tie.close
     (tie.spec
     opening-fits-requires
@@ -87,8 +77,6 @@ fits-spec =
     returns-2
     add-if3
     returns-3
-    stack-fits-requires
-    returns-4
     bits-requires
-    returns-5
-    returns-6)
+    returns-4
+    returns-5)

@@ -1,0 +1,129 @@
+-- The record's check in the parts that the code makes of it: the greatest byte of a stretch; the stack past the depth as one stretch; the
+-- fields apart from the stack. Assumes nothing.
+use mathlib.Core.Path.{_≡_, refl, sym, subst}
+use mathlib.Core.Bool.{Bool, true, cond}
+use mathlib.Core.Logic.{_⊎_, inl, inr}
+use mathlib.Core.List.{List}
+use Prim.Native.Nat.{ℕ, _+_, _*_, _≤_, _<_}
+use native.Mathlib.Omega.{arith}
+use native.Mathlib.Decide.{decLe}
+use lib.Dec.{leb, eqb}
+use lib.ListN.{getD}
+use lib.IntN.{pos}
+use borrow.Author.Count.{below-more}
+use borrow.Author.Tests.{lt-ltb, le-ltb}
+use Rattle.lists.specs.Bools.{Says}
+use Rattle.graph.specs.Limits.{maxVertices, maxEdges, maxCount}
+use Rattle.onetree.specs.Inputs.{ceilingFits}
+use Rattle.machine.specs.Calls.{fault}
+use Rattle.search.specs.Record.{maxNodes, stackSize, openingIn}
+use Rattle.search.specs.Cells.{each-place}
+use Rattle.search.specs.Canonical.{Zeros, GraphTidy, NodeZeros, usedIn, StackTidy, Tidy, StackFits, Bits, Fits}
+use Rattle.search.specs.CheckLoops.{says-both, says-le, says-eq}
+use Rattle.search.specs.declared.Search.{Search}
+
+-- ---- the greatest of the bytes f from place `from` up to i, in a stretch that ends at n
+
+pub record Greatest (f : ℕ → ℕ) (from n i most : ℕ) : Type 0 where
+  pub above : (k : ℕ) → k < i → from ≤ k → f k ≤ most
+  pub least : (b : ℕ) → ((k : ℕ) → k < n → from ≤ k → f k ≤ b) → most ≤ b
+
+module _ (f : ℕ → ℕ) (from n : ℕ) where
+  pub greatest-none : Greatest f from n from 0
+  greatest-none = record { above = λ k h l. absurd (omega arith); least = λ b h. omega arith }
+
+  -- a place more, above the greatest so far or not
+  pub greatest-raised : (i most next : ℕ) → Greatest f from n i most → from ≤ i → i < n → most < f i → next ≡ f i
+      → Greatest f from n (i + 1) next
+  greatest-raised i most next g l h up e = record {
+    above = below-more (λ k. from ≤ k → f k ≤ next) i (λ k b w. omega (arith, g .above k b w)) (λ w. omega arith);
+    least = λ b w. omega (arith, w i h l);
+  }
+
+  pub greatest-kept : (i most next : ℕ) → Greatest f from n i most → f i ≤ most → next ≡ most → Greatest f from n (i + 1) next
+  greatest-kept i most next g down e = record {
+    above = below-more (λ k. from ≤ k → f k ≤ next) i (λ k b w. omega (arith, g .above k b w)) (λ w. omega arith);
+    least = λ b w. omega (arith, g .least b w);
+  }
+
+  -- what one look at it says of the whole stretch
+  pub says-most : (i most b : ℕ) → Greatest f from n i most → n ≤ i → Says (leb most b) ((k : ℕ) → k < n → from ≤ k → f k ≤ b)
+  says-most i most b g h =
+      says-le most b ((k : ℕ) → k < n → from ≤ k → f k ≤ b) (λ e k l w. omega (arith, g .above k (omega arith) w)) (g .least b)
+
+  pub says-zero : (i most : ℕ) → Greatest f from n i most → n ≤ i → Says (eqb most 0) ((k : ℕ) → k < n → from ≤ k → f k ≡ 0)
+  says-zero i most g h =
+      says-eq most 0 ((k : ℕ) → k < n → from ≤ k → f k ≡ 0) (λ e k l w. omega (arith, g .above k (omega arith) w))
+      (λ e. omega (arith, g .least 0 (λ k l w. omega (arith, e k l w))))
+
+-- ---- the stack: the nodes in use past m, and all that is past them
+
+-- how many nodes are in use
+pub record InUse (depth used : ℕ) : Type 0 where
+  pub few : used ≤ maxNodes
+  pub deep : used ≤ depth
+  pub all : (used ≡ depth) ⊎ (used ≡ maxNodes)
+
+module _ (m depth used : ℕ) (l : List ℕ) (u : InUse depth used) where
+  pub tidy-nodes : StackTidy m depth l → (p : ℕ) → p < used → NodeZeros l p m
+  tidy-nodes t p h =
+      subst (λ (k : ℕ). NodeZeros l p k) (rw (lt-ltb p depth (omega (arith, u .deep))) refl) (t p (omega (arith, u .few)))
+
+  past : (p : ℕ) → p < maxNodes → used ≤ p → usedIn m depth p ≡ 0
+  past p h b = rw (le-ltb p depth (deep (u .all))) refl
+    where
+      deep : (used ≡ depth) ⊎ (used ≡ maxNodes) → depth ≤ p
+      deep (inl e) = omega arith
+      deep (inr e) = absurd (omega arith)
+
+  pub tidy-past : StackTidy m depth l → Zeros 0 stackSize (maxEdges * used) l
+  tidy-past t =
+      each-place (λ i. maxEdges * used ≤ i → getD l i 0 ≡ 0)
+      (λ p h j b w. let here : used ≤ p = omega arith in t p h j b (omega (arith, past p h here)))
+
+  pub tidy-stack : Zeros 0 stackSize (maxEdges * used) l → ((p : ℕ) → p < used → NodeZeros l p m) → StackTidy m depth l
+  tidy-stack z f p h = go (decLe used p)
+    where
+      go : Dec (used ≤ p) → NodeZeros l p (usedIn m depth p)
+      go (yes b) = λ j i w. z (maxEdges * p + j) (omega arith) (omega arith)
+      go (no b) = subst (λ (k : ℕ). NodeZeros l p k) (sym (rw (lt-ltb p depth (omega (arith, u .deep))) refl)) (f p (omega arith))
+
+-- ---- all but the stack
+
+-- of `Tidy`
+pub record FieldsTidy (s : Search) : Type 0 where
+  pub graph : GraphTidy (s .graph)
+  pub multipliers : Zeros (pos 0) maxVertices (s .graph .n) (s .multipliers)
+  pub best : Zeros 0 maxEdges (cond (s .«has_best») (s .graph .m) 0) (s .best)
+
+-- of `Fits`
+pub record FieldsFit (s : Search) : Type 0 where
+  pub opening : fault (openingIn s) ≡ 0
+  pub upper : ceilingFits (s .upper) ≡ true
+  pub depth : s .depth ≤ s .graph .m + 1
+  pub best : Bits (s .best)
+  pub count : s .count ≤ maxCount
+
+module _ (s : Search) where
+  pub tidy-fields : Tidy s → FieldsTidy s
+  tidy-fields t = record { graph = t .graph; multipliers = t .multipliers; best = t .best }
+
+  pub tidy-whole : FieldsTidy s → StackTidy (s .graph .m) (s .depth) (s .stack) → Tidy s
+  tidy-whole t l = record { graph = t .graph; multipliers = t .multipliers; stack = l; best = t .best }
+
+  pub fits-fields : Fits s → FieldsFit s
+  fits-fields t = record { opening = t .opening; upper = t .upper; depth = t .depth; best = t .best; count = t .count }
+
+  -- the last test of the zeros, and of an open record
+  pub says-fields-tidy : (b : Bool) (k : ℕ) → GraphTidy (s .graph) → Zeros (pos 0) maxVertices (s .graph .n) (s .multipliers)
+      → cond (s .«has_best») (s .graph .m) 0 ≡ k → Says b (Zeros 0 maxEdges k (s .best)) → Says b (FieldsTidy s)
+  says-fields-tidy b k g d e =
+      says-both b {Q = FieldsTidy s}
+      (λ z. record { graph = g; multipliers = d; best = subst (λ (j : ℕ). Zeros 0 maxEdges j (s .best)) (sym e) z })
+      (λ t. subst (λ (j : ℕ). Zeros 0 maxEdges j (s .best)) e (t .best))
+
+  pub says-fits : (b : Bool) → FieldsFit s → Says b (StackFits (s .graph .m) (s .depth) (s .stack)) → Says b (Fits s)
+  says-fits b t =
+      says-both b {Q = Fits s}
+      (λ l. record { opening = t .opening; upper = t .upper; depth = t .depth; stack = l; best = t .best; count = t .count })
+      (λ f. f .stack)

@@ -82,10 +82,10 @@ fn wrong_count(random: &mut Random, bytes: &mut Vec<u8>) {
         bytes[4..6].copy_from_slice(&(count as u16).to_le_bytes());
     };
     match random.below(6) {
-        0 => bytes.truncate(8 + random.below(12 * count)),
+        0 if count > 0 => bytes.truncate(8 + random.below(12 * count)),
         1 => bytes.extend(vec![0; 1 + random.below(30)]),
         2 => set(bytes, count + 1 + random.below(5)),
-        3 => set(bytes, random.below(count)),
+        3 if count > 0 => set(bytes, random.below(count)),
         4 => set(bytes, 65_535 - random.below(64_000)),
         _ => {
             let over = 1001 + random.below(60);
@@ -248,22 +248,71 @@ fn anything(random: &mut Random, visit: &mut Visit) -> Outcome {
         let length = random.below(200);
         visit("any bytes", &random.bytes(length), Known::Nothing)?;
     }
-    // A fit header before any bytes, and then before small ones, which make longer chains.
     for round in 0..3000 {
-        let count = random.below(30);
-        let mut bytes = random.bytes(8 + 12 * count);
-        if round % 2 == 0 {
-            bytes.iter_mut().for_each(|byte| *byte %= 4);
-            bytes[8..].chunks_mut(12).for_each(|record| {
-                record[1] += record[0];
-                record[3] /= 3;
-                record[9..].fill(0);
-            });
-        }
-        let head = random.below(count + 2) as u8;
-        let header = [3 + random.below(18) as u8, 0, head, 0, count as u8, 0, 0, 0];
-        bytes[..8].copy_from_slice(&header);
+        let bytes = any_records(random, round % 2 == 0);
         visit("any records", &bytes, Known::Nothing)?;
     }
     Ok(())
+}
+
+/// A fit header before any bytes, or before small ones, which make longer chains.
+fn any_records(random: &mut Random, small: bool) -> Vec<u8> {
+    let count = random.below(30);
+    let mut bytes = random.bytes(8 + 12 * count);
+    if small {
+        bytes.iter_mut().for_each(|byte| *byte %= 4);
+        bytes[8..].chunks_mut(12).for_each(|record| {
+            record[1] += record[0];
+            record[3] /= 3;
+            record[9..].fill(0);
+        });
+    }
+    let head = random.below(count + 2) as u8;
+    let header = [3 + random.below(18) as u8, 0, head, 0, count as u8, 0, 0, 0];
+    bytes[..8].copy_from_slice(&header);
+    bytes
+}
+
+/// One file of any of these kinds, mostly faulty; for the soak, which draws as many as it is told to.
+pub fn hostile(random: &mut Random) -> Vec<u8> {
+    let graph = generate::graph(random);
+    let mut file = chained(random);
+    let p = random.below(file.chain.len());
+    let small = random.one_in(2);
+    let (more, kind) = (random.below(2), 1 + random.below(4) as u32);
+    let mut bytes = match random.below(8) {
+        0 => return filled(random),
+        1 => any_records(random, small),
+        2 => any_form(random, &graph).bytes(),
+        3 => scattered(random, &graph, 1000 + more).bytes(),
+        // A ring in the chain.
+        4 => {
+            fault(random, &mut file, 6, p);
+            file.bytes()
+        }
+        first => {
+            fault(random, &mut file, first as u32 + kind - 1, p);
+            file.bytes()
+        }
+    };
+    match random.below(6) {
+        0 => bytes.truncate(bytes.len() - 1),
+        1 => bytes.push(random.byte()),
+        2 => header_fault(random, &mut bytes, kind),
+        3 => damage(random, &mut bytes),
+        _ => {}
+    }
+    bytes
+}
+
+/// Zeros, ones or any bytes; of a length that a file can have, one less, one more, or any.
+fn filled(random: &mut Random) -> Vec<u8> {
+    let fit = 8 + 12 * random.below(1002);
+    let any = random.below(200);
+    let length = random.pick(&[fit, fit - 1, fit + 1, any]);
+    match random.below(3) {
+        0 => vec![0; length],
+        1 => vec![0xff; length],
+        _ => random.bytes(length),
+    }
 }

@@ -209,6 +209,11 @@ pub fn length(random: &mut Random, right: usize, wrong: bool) -> usize {
 /// A list of calls on one record: most are in an order that makes sense.
 pub fn calls(random: &mut Random, max_vertices: usize, most: usize) -> Vec<Call> {
     let count = 3 + random.below(14);
+    calls_of(random, count, max_vertices, most)
+}
+
+/// A list of this many calls.
+pub fn calls_of(random: &mut Random, count: usize, max_vertices: usize, most: usize) -> Vec<Call> {
     let mut list = Vec::new();
     let mut m = 0;
     if !random.one_in(8) {

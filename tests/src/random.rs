@@ -40,6 +40,10 @@ impl Random {
         (0..count).map(|_| self.byte()).collect()
     }
 
+    pub fn fill(&mut self, bytes: &mut [u8]) {
+        bytes.iter_mut().for_each(|byte| *byte = self.byte());
+    }
+
     pub fn pick<T: Copy>(&mut self, items: &[T]) -> T {
         items[self.below(items.len())]
     }

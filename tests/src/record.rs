@@ -2,9 +2,9 @@
 
 use crate::document::graph::{self, Graph, EXCLUDED, FREE, PLACES};
 use crate::document::law::Law;
-use crate::document::machine::Search;
+use crate::document::machine::{Call, Machine, Search};
 use crate::document::rulings::ceiling_fits;
-use crate::document::tree;
+use crate::document::tree::{self, Method};
 use std::fmt;
 
 /// Nodes that the stack has room for.
@@ -71,6 +71,79 @@ impl Record {
         }
         record.count = search.count;
         record
+    }
+
+    /// The parts one after the other, little-endian.
+    pub fn bytes(&self) -> Vec<u8> {
+        let graph = &self.graph;
+        let mut bytes = vec![self.open];
+        bytes.extend(graph.n.to_le_bytes());
+        bytes.extend(graph.m.to_le_bytes());
+        bytes.extend([graph.a, graph.b].concat());
+        bytes.extend(graph.cost.iter().flat_map(|x| x.to_le_bytes()));
+        bytes.extend(graph.mark);
+        bytes.extend(self.multipliers.iter().flat_map(|x| x.to_le_bytes()));
+        bytes.extend(self.ceiling.to_le_bytes());
+        bytes.extend([self.sweeps, self.step].map(u32::to_le_bytes).concat());
+        bytes.extend(self.upper.to_le_bytes());
+        bytes.extend(self.depth.to_le_bytes());
+        bytes.push(self.has_best);
+        bytes.extend(self.best);
+        bytes.extend(self.count.to_le_bytes());
+        bytes.extend(&self.stack);
+        bytes
+    }
+
+    /// The record with these parts, as `bytes` gives them.
+    pub fn of_bytes(bytes: &[u8]) -> Record {
+        let mut rest = bytes;
+        let mut record = Record::fresh();
+        let graph = &mut record.graph;
+        record.open = next::<1>(&mut rest)[0];
+        graph.n = usize::from_le_bytes(next(&mut rest));
+        graph.m = usize::from_le_bytes(next(&mut rest));
+        graph.a = next(&mut rest);
+        graph.b = next(&mut rest);
+        graph.cost = std::array::from_fn(|_| i32::from_le_bytes(next(&mut rest)));
+        graph.mark = next(&mut rest);
+        record.multipliers = std::array::from_fn(|_| i32::from_le_bytes(next(&mut rest)));
+        record.ceiling = i64::from_le_bytes(next(&mut rest));
+        record.sweeps = u32::from_le_bytes(next(&mut rest));
+        record.step = u32::from_le_bytes(next(&mut rest));
+        record.upper = i64::from_le_bytes(next(&mut rest));
+        record.depth = usize::from_le_bytes(next(&mut rest));
+        record.has_best = next::<1>(&mut rest)[0];
+        record.best = next(&mut rest);
+        record.count = u64::from_le_bytes(next(&mut rest));
+        record.stack = rest.to_vec();
+        record
+    }
+
+    /// The machine in the one state that a record stands for; none where it fails its check.
+    pub fn machine(&self, law: &Law) -> Option<Machine> {
+        let mut machine = Machine::new(law, Method::Kruskal);
+        if !self.passes(law) {
+            return None;
+        }
+        if self.open == 0 {
+            return Some(machine);
+        }
+        let (n, m) = (self.graph.n, self.graph.m);
+        machine.call(&Call::Open {
+            graph: Box::new(self.graph.clone()),
+            multipliers: self.multipliers[..n].to_vec(),
+            ceiling: self.ceiling,
+            sweeps: self.sweeps,
+            step: self.step,
+        });
+        let search = machine.search.as_mut()?;
+        search.upper = self.upper;
+        search.stack = (0..self.depth)
+            .map(|p| self.node(p)[..m].to_vec())
+            .collect();
+        search.incumbent = (self.has_best == 1).then(|| self.best[..m].to_vec());
+        search.count = self.count;
+        Some(machine)
     }
 
     /// Whether the record passes its own check; refusal 24 where it does not.
@@ -142,6 +215,13 @@ impl Record {
             && self.best.iter().all(|x| *x <= 1)
             && self.count < 1 << 63
     }
+}
+
+/// Takes the next bytes of a record.
+fn next<const N: usize>(rest: &mut &[u8]) -> [u8; N] {
+    let (taken, left) = rest.split_at(N);
+    *rest = left;
+    std::array::from_fn(|i| taken[i])
 }
 
 impl fmt::Debug for Record {

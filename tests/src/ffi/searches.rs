@@ -1,119 +1,106 @@
 //! The calls on a search. The record is its parts, each lent.
 
-use super::{byte_pattern, changed, Lent, BOUND_PATTERN, WORD_PATTERN};
+use super::lent::{untouched_graph, Lent, LentGraph, Pattern};
+use crate::calls::{
+    planner_close, planner_fresh, planner_open, planner_run, planner_show, planner_tell,
+};
+use crate::document::graph::Graph;
 use crate::document::machine::Call;
 use crate::record::{Record, STACK};
+use crate::stack;
 
-/// Declares a call on the record's parts, with the call's own arguments behind them.
-macro_rules! calls {
-    ($($name:ident($($argument:ident: $kind:ty),*);)*) => {
-        extern "C" {
-            $(fn $name(
-                open: *mut u8,
-                n: *mut usize,
-                m: *mut usize,
-                a: *mut u8,
-                b: *mut u8,
-                cost: *mut i32,
-                mark: *mut u8,
-                multipliers: *mut i32,
-                ceiling: *mut i64,
-                sweeps: *mut u32,
-                step: *mut u32,
-                upper: *mut i64,
-                depth: *mut usize,
-                stack: *mut u8,
-                has_best: *mut u8,
-                best: *mut u8,
-                count: *mut u64,
-                $($argument: $kind,)*
-                place: *mut u64,
-                value: *mut i64,
-                nodes: *mut u64,
-            ) -> u32;)*
+/// The record's parts.
+struct LentRecord {
+    open: Lent<u8>,
+    graph: LentGraph,
+    multipliers: Lent<i32>,
+    ceiling: Lent<i64>,
+    sweeps: Lent<u32>,
+    step: Lent<u32>,
+    upper: Lent<i64>,
+    depth: Lent<usize>,
+    stack: Lent<u8>,
+    has_best: Lent<u8>,
+    best: Lent<u8>,
+    count: Lent<u64>,
+}
+
+impl LentRecord {
+    fn holding(record: &Record) -> LentRecord {
+        LentRecord {
+            open: Lent::holding(&[record.open]),
+            graph: LentGraph::holding(&record.graph),
+            multipliers: Lent::holding(&record.multipliers),
+            ceiling: Lent::holding(&[record.ceiling]),
+            sweeps: Lent::holding(&[record.sweeps]),
+            step: Lent::holding(&[record.step]),
+            upper: Lent::holding(&[record.upper]),
+            depth: Lent::holding(&[record.depth]),
+            stack: Lent::holding(&record.stack),
+            has_best: Lent::holding(&[record.has_best]),
+            best: Lent::holding(&record.best),
+            count: Lent::holding(&[record.count]),
         }
-    };
+    }
+
+    /// Puts the parts back.
+    fn store(&self, record: &mut Record) {
+        record.open = self.open.first();
+        record.graph = self.graph.graph();
+        record.multipliers.copy_from_slice(self.multipliers.body());
+        record.ceiling = self.ceiling.first();
+        record.sweeps = self.sweeps.first();
+        record.step = self.step.first();
+        record.upper = self.upper.first();
+        record.depth = self.depth.first();
+        record.stack.copy_from_slice(self.stack.body());
+        record.has_best = self.has_best.first();
+        record.best.copy_from_slice(self.best.body());
+        record.count = self.count.first();
+    }
+
+    fn margins_kept(&self) -> bool {
+        let bytes = [&self.open, &self.stack, &self.has_best, &self.best];
+        self.graph.margins_kept()
+            && bytes.iter().all(|list| list.margins_kept())
+            && self.multipliers.margins_kept()
+            && self.ceiling.margins_kept()
+            && self.sweeps.margins_kept()
+            && self.step.margins_kept()
+            && self.upper.margins_kept()
+            && self.depth.margins_kept()
+            && self.count.margins_kept()
+    }
 }
 
-extern "C" {
-    fn planner_fresh(
-        open: *mut u8,
-        n: *mut usize,
-        m: *mut usize,
-        a: *mut u8,
-        b: *mut u8,
-        cost: *mut i32,
-        mark: *mut u8,
-        multipliers: *mut i32,
-        ceiling: *mut i64,
-        sweeps: *mut u32,
-        step: *mut u32,
-        upper: *mut i64,
-        depth: *mut usize,
-        stack: *mut u8,
-        has_best: *mut u8,
-        best: *mut u8,
-        count: *mut u64,
-    );
-}
-
-calls! {
-    planner_open(
-        given_n: usize,
-        given_m: usize,
-        given_a: *const u8,
-        given_b: *const u8,
-        given_cost: *const i32,
-        given_mark: *const u8,
-        given_multipliers: *const i32,
-        given_length: usize,
-        given_ceiling: i64,
-        given_sweeps: u32,
-        given_step: u32
-    );
-    planner_run(budget: u64);
-    planner_tell();
-    planner_show(out: *mut u8, length: usize);
-    planner_close();
-}
-
-/// Calls with the parts of a record in front and the lent answers behind.
+/// Calls with the parts of a record in front.
 macro_rules! on {
-    ($record:expr, $said:expr, $name:ident($($argument:expr),*)) => {
-        unsafe {
+    ($record:expr, $name:ident($($argument:expr),*)) => {
+        // SAFETY: the record's lists have their declared places, and each list among the arguments goes with its own length.
+        stack::calling(stringify!($name), || unsafe {
             $name(
-                &mut $record.open,
-                &mut $record.graph.n,
-                &mut $record.graph.m,
-                $record.graph.a.as_mut_ptr(),
-                $record.graph.b.as_mut_ptr(),
-                $record.graph.cost.as_mut_ptr(),
-                $record.graph.mark.as_mut_ptr(),
-                $record.multipliers.as_mut_ptr(),
-                &mut $record.ceiling,
-                &mut $record.sweeps,
-                &mut $record.step,
-                &mut $record.upper,
-                &mut $record.depth,
-                $record.stack.as_mut_ptr(),
-                &mut $record.has_best,
-                $record.best.as_mut_ptr(),
-                &mut $record.count,
-                $($argument,)*
-                &mut $said.place,
-                &mut $said.value,
-                &mut $said.nodes,
+                $record.open.pointer(),
+                $record.graph.n.pointer(),
+                $record.graph.m.pointer(),
+                $record.graph.a.pointer(),
+                $record.graph.b.pointer(),
+                $record.graph.cost.pointer(),
+                $record.graph.mark.pointer(),
+                $record.multipliers.pointer(),
+                $record.ceiling.pointer(),
+                $record.sweeps.pointer(),
+                $record.step.pointer(),
+                $record.upper.pointer(),
+                $record.depth.pointer(),
+                $record.stack.pointer(),
+                $record.has_best.pointer(),
+                $record.best.pointer(),
+                $record.count.pointer(),
+                $($argument),*
             )
-        }
+        })
     };
 }
-
-/// The codes of an accepted call; a refusal answers with its own number.
-pub const ACCEPTED: u32 = 0;
-pub const GOING_ON: u32 = 1001;
-pub const FINISHED: u32 = 1002;
-pub const NO_TOUR: u32 = 1003;
-pub const BEST: u32 = 1004;
 
 #[derive(PartialEq, Eq, Debug)]
 pub struct Reply {
@@ -129,99 +116,138 @@ pub struct Reply {
 
 /// The lent answers.
 struct Said {
-    place: u64,
-    value: i64,
-    nodes: u64,
+    place: Lent<u64>,
+    value: Lent<i64>,
+    nodes: Lent<u64>,
+    out: Lent<u8>,
+}
+
+impl Said {
+    fn margins_kept(&self) -> bool {
+        self.place.margins_kept()
+            && self.value.margins_kept()
+            && self.nodes.margins_kept()
+            && self.out.margins_kept()
+    }
+}
+
+/// What an opening is given, lent for reading.
+struct Given {
+    graph: LentGraph,
+    multipliers: Lent<i32>,
 }
 
 impl Record {
     /// The fresh call on parts with a pattern in them.
     pub fn made_fresh() -> Record {
         let mut record = Record::fresh();
-        record.stack = (0..STACK).map(byte_pattern).collect();
-        record.best = std::array::from_fn(byte_pattern);
-        record.graph = super::untouched_graph();
-        record.multipliers = std::array::from_fn(super::cost_pattern);
+        record.stack = (0..STACK).map(u8::at).collect();
+        record.best = std::array::from_fn(u8::at);
+        record.graph = untouched_graph();
+        record.multipliers = std::array::from_fn(i32::at);
         (record.open, record.has_best) = (7, 1);
-        (record.ceiling, record.upper) = (BOUND_PATTERN, BOUND_PATTERN);
+        (record.ceiling, record.upper) = (i64::at(0), i64::at(0));
         (record.sweeps, record.step) = (9, 9);
-        (record.depth, record.count) = (WORD_PATTERN as usize, WORD_PATTERN);
-        unsafe {
-            planner_fresh(
-                &mut record.open,
-                &mut record.graph.n,
-                &mut record.graph.m,
-                record.graph.a.as_mut_ptr(),
-                record.graph.b.as_mut_ptr(),
-                record.graph.cost.as_mut_ptr(),
-                record.graph.mark.as_mut_ptr(),
-                record.multipliers.as_mut_ptr(),
-                &mut record.ceiling,
-                &mut record.sweeps,
-                &mut record.step,
-                &mut record.upper,
-                &mut record.depth,
-                record.stack.as_mut_ptr(),
-                &mut record.has_best,
-                record.best.as_mut_ptr(),
-                &mut record.count,
-            );
-        }
+        (record.depth, record.count) = (usize::at(0), u64::at(0));
+        let mut lent = LentRecord::holding(&record);
+        on!(lent, planner_fresh());
+        assert!(lent.margins_kept(), "the fresh call wrote beside a part");
+        lent.store(&mut record);
         record
     }
 
     /// Makes the call on this record.
     pub fn call(&mut self, call: &Call) -> Reply {
-        let mut said = Said {
-            place: WORD_PATTERN,
-            value: BOUND_PATTERN,
-            nodes: WORD_PATTERN,
-        };
         let length = match call {
             Call::Show { length } => *length,
             _ => 0,
         };
-        let mut out = Lent::new(length, byte_pattern);
-        let number = self.answer(call, &mut said, &mut out);
+        let mut said = Said {
+            place: Lent::new(1),
+            value: Lent::new(1),
+            nodes: Lent::new(1),
+            out: Lent::new(length),
+        };
+        let mut lent = LentRecord::holding(self);
+        let (number, kept) = answer(&mut lent, call, &mut said);
+        lent.store(self);
         Reply {
             number,
-            place: said.place,
-            value: (said.value != BOUND_PATTERN).then_some(said.value),
-            nodes: (said.nodes != WORD_PATTERN).then_some(said.nodes),
-            out: changed(&out),
-            margins_kept: out.margins_kept(),
+            place: said.place.first(),
+            value: said.value.changed().map(|value| value[0]),
+            nodes: said.nodes.changed().map(|nodes| nodes[0]),
+            out: said.out.changed(),
+            margins_kept: kept && lent.margins_kept() && said.margins_kept(),
         }
     }
+}
 
-    fn answer(&mut self, call: &Call, said: &mut Said, out: &mut Lent<u8>) -> u32 {
-        match call {
-            Call::Open {
-                graph,
-                multipliers,
-                ceiling,
-                sweeps,
-                step,
-            } => on!(
-                self,
-                said,
-                planner_open(
-                    graph.n,
-                    graph.m,
-                    graph.a.as_ptr(),
-                    graph.b.as_ptr(),
-                    graph.cost.as_ptr(),
-                    graph.mark.as_ptr(),
-                    multipliers.as_ptr(),
-                    multipliers.len(),
-                    *ceiling,
-                    *sweeps,
-                    *step
-                )
-            ),
-            Call::Run { budget } => on!(self, said, planner_run(*budget)),
-            Call::Tell => on!(self, said, planner_tell()),
-            Call::Show { .. } => on!(self, said, planner_show(out.pointer(), out.length())),
-            Call::Close => on!(self, said, planner_close()),
+/// The number that a call answers, and whether all that it may only read is as it was.
+fn answer(record: &mut LentRecord, call: &Call, said: &mut Said) -> (u32, bool) {
+    let (place, value, nodes) = (
+        said.place.pointer(),
+        said.value.pointer(),
+        said.nodes.pointer(),
+    );
+    let out = &mut said.out;
+    let number = match call {
+        Call::Open {
+            graph, multipliers, ..
+        } => {
+            let mut given = Given {
+                graph: LentGraph::holding(graph),
+                multipliers: Lent::holding(multipliers),
+            };
+            let number = opened(record, call, graph, &mut given, said);
+            let kept = given.graph.kept(graph) && given.multipliers.kept(multipliers);
+            return (number, kept);
         }
-    }
+        Call::Run { budget } => on!(record, planner_run(*budget, place, value, nodes)),
+        Call::Tell => on!(record, planner_tell(place, value, nodes)),
+        Call::Show { .. } => {
+            on!(
+                record,
+                planner_show(out.pointer(), out.length(), place, value, nodes)
+            )
+        }
+        Call::Close => on!(record, planner_close(place, value, nodes)),
+    };
+    (number, true)
+}
+
+fn opened(
+    record: &mut LentRecord,
+    call: &Call,
+    graph: &Graph,
+    given: &mut Given,
+    said: &mut Said,
+) -> u32 {
+    let Call::Open {
+        ceiling,
+        sweeps,
+        step,
+        ..
+    } = call
+    else {
+        unreachable!("only an opening comes here");
+    };
+    on!(
+        record,
+        planner_open(
+            graph.n,
+            graph.m,
+            given.graph.a.pointer(),
+            given.graph.b.pointer(),
+            given.graph.cost.pointer(),
+            given.graph.mark.pointer(),
+            given.multipliers.pointer(),
+            given.multipliers.length(),
+            *ceiling,
+            *sweeps,
+            *step,
+            said.place.pointer(),
+            said.value.pointer(),
+            said.nodes.pointer()
+        )
+    )
 }

@@ -1,41 +1,10 @@
 //! The tree call and the rule call.
 
-use super::{byte_pattern, changed, Lent, BOUND_PATTERN};
+use super::lent::{Lent, LentGraph};
+use super::of_graph;
+use crate::calls::{planner_rule, planner_tree};
 use crate::document::graph::Graph;
-
-extern "C" {
-    fn planner_tree(
-        n: usize,
-        m: usize,
-        a: *const u8,
-        b: *const u8,
-        cost: *const i32,
-        mark: *const u8,
-        multipliers: *const i32,
-        multipliers_length: usize,
-        out: *mut u8,
-        out_length: usize,
-        bound: *mut i64,
-    ) -> u32;
-
-    fn planner_rule(
-        n: usize,
-        m: usize,
-        a: *const u8,
-        b: *const u8,
-        cost: *const i32,
-        mark: *const u8,
-        multipliers: *const i32,
-        multipliers_length: usize,
-        ceiling: i64,
-        out: *mut u8,
-        out_length: usize,
-        bound: *mut i64,
-    ) -> u32;
-}
-
-/// The number of 'no tree' and of 'dead'; 0 where there is a bound, otherwise the refusal's.
-pub const NONE: u32 = 1000;
+use crate::stack;
 
 #[derive(PartialEq, Eq, Debug)]
 pub struct BoundReply {
@@ -47,52 +16,59 @@ pub struct BoundReply {
     pub margins_kept: bool,
 }
 
-/// Lends a list and a bound to a call, and says what came of it.
-fn lending(length: usize, call: impl FnOnce(*mut u8, usize, *mut i64) -> u32) -> BoundReply {
-    let mut out = Lent::new(length, byte_pattern);
-    let mut bound = BOUND_PATTERN;
-    let number = call(out.pointer(), out.length(), &mut bound);
-    BoundReply {
-        number,
-        bound: (bound != BOUND_PATTERN).then_some(bound),
-        out: changed(&out),
-        margins_kept: out.margins_kept(),
+/// What is lent beside the graph.
+struct Lists {
+    multipliers: Lent<i32>,
+    out: Lent<u8>,
+    bound: Lent<i64>,
+}
+
+impl Lists {
+    fn new(multipliers: &[i32], length: usize) -> Lists {
+        Lists {
+            multipliers: Lent::holding(multipliers),
+            out: Lent::new(length),
+            bound: Lent::new(1),
+        }
+    }
+
+    /// What came of the call; `kept` is whether the graph is as it was.
+    fn reply(&self, number: u32, kept: bool, multipliers: &[i32]) -> BoundReply {
+        let margins = self.out.margins_kept() && self.bound.margins_kept();
+        BoundReply {
+            number,
+            bound: self.bound.changed().map(|bound| bound[0]),
+            out: self.out.changed(),
+            margins_kept: kept && margins && self.multipliers.kept(multipliers),
+        }
     }
 }
 
 pub fn tree(graph: &Graph, multipliers: &[i32], length: usize) -> BoundReply {
-    lending(length, |out, length, bound| unsafe {
-        planner_tree(
-            graph.n,
-            graph.m,
-            graph.a.as_ptr(),
-            graph.b.as_ptr(),
-            graph.cost.as_ptr(),
-            graph.mark.as_ptr(),
-            multipliers.as_ptr(),
-            multipliers.len(),
-            out,
-            length,
-            bound,
-        )
-    })
+    let mut lists = Lists::new(multipliers, length);
+    let (number, kept) = of_graph!(
+        planner_tree,
+        graph,
+        lists.multipliers.pointer(),
+        lists.multipliers.length(),
+        lists.out.pointer(),
+        lists.out.length(),
+        lists.bound.pointer()
+    );
+    lists.reply(number, kept, multipliers)
 }
 
 pub fn rule(graph: &Graph, multipliers: &[i32], ceiling: i64, length: usize) -> BoundReply {
-    lending(length, |out, length, bound| unsafe {
-        planner_rule(
-            graph.n,
-            graph.m,
-            graph.a.as_ptr(),
-            graph.b.as_ptr(),
-            graph.cost.as_ptr(),
-            graph.mark.as_ptr(),
-            multipliers.as_ptr(),
-            multipliers.len(),
-            ceiling,
-            out,
-            length,
-            bound,
-        )
-    })
+    let mut lists = Lists::new(multipliers, length);
+    let (number, kept) = of_graph!(
+        planner_rule,
+        graph,
+        lists.multipliers.pointer(),
+        lists.multipliers.length(),
+        ceiling,
+        lists.out.pointer(),
+        lists.out.length(),
+        lists.bound.pointer()
+    );
+    lists.reply(number, kept, multipliers)
 }

@@ -3,7 +3,7 @@
 use crate::bends;
 use crate::document::graph::{fits, Edge, Graph, PLACES};
 use crate::document::law::Law;
-use crate::ffi::check;
+use crate::ffi::{check, CheckReply};
 use crate::generate;
 use crate::random::Random;
 use crate::report::{Outcome, Suite, Tally};
@@ -32,8 +32,16 @@ fn run(law: &Law, tally: &mut Tally) -> Outcome {
     each_field(law, tally, random)
 }
 
+/// What the call must answer.
+pub fn expected(law: &Law, graph: &Graph) -> CheckReply {
+    CheckReply {
+        number: if fits(law, graph) { 0 } else { 15 },
+        margins_kept: true,
+    }
+}
+
 fn judge(law: &Law, tally: &mut Tally, case: &str, graph: &Graph) -> Outcome {
-    let expected = if fits(law, graph) { 0 } else { 15 };
+    let expected = expected(law, graph);
     tally.compare(case, || format!("{graph:?}"), &expected, &check(graph))
 }
 

@@ -23,7 +23,7 @@ pub const SUITE: Suite = Suite {
 };
 
 /// A record that some list of calls leaves.
-fn sound(random: &mut Random) -> Record {
+pub fn sound(random: &mut Random) -> Record {
     let mut machine = Machine::new(&Law::AS_WRITTEN, Method::Kruskal);
     for call in generate::calls(random, 5, 10) {
         machine.call(&call);
@@ -35,7 +35,7 @@ fn sound(random: &mut Random) -> Record {
 }
 
 /// Changes one part; the record may still pass.
-fn harm(random: &mut Random, record: &mut Record) {
+pub fn harm(random: &mut Random, record: &mut Record) {
     let m = record.graph.m.clamp(1, 190);
     let k = if random.one_in(2) {
         random.below(m)
@@ -99,23 +99,44 @@ fn run(law: &Law, tally: &mut Tally) -> Outcome {
             },
             _ => Call::Close,
         };
-        let input = || format!("{call:?} on {harmed:?}");
-        let mut after = harmed.clone();
-        let reply = after.call(&call);
-        let passes = harmed.passes(law);
-        tally.compare("24", input, &!passes, &(reply.number == 24))?;
-        if !passes {
-            tally.compare("as it was", input, &harmed, &after)?;
-            let untouched = (0, None, None, None, true);
-            let lent = (
-                reply.place,
-                reply.value,
-                reply.nodes,
-                reply.out,
-                reply.margins_kept,
-            );
-            tally.compare("lent", input, &untouched, &lent)?;
-        }
+        judge(law, tally, &harmed, &call)?;
+    }
+    each_bit(law, tally, random)
+}
+
+/// Whether the call is refused 24 exactly where the check fails; then nothing may change.
+fn judge(law: &Law, tally: &mut Tally, harmed: &Record, call: &Call) -> Outcome {
+    let input = || format!("{call:?} on {harmed:?}");
+    let mut after = harmed.clone();
+    let reply = after.call(call);
+    let passes = harmed.passes(law);
+    tally.compare("24", input, &!passes, &(reply.number == 24))?;
+    if passes {
+        return Ok(());
+    }
+    tally.compare("as it was", input, harmed, &after)?;
+    let untouched = (0, None, None, None, true);
+    let lent = (
+        reply.place,
+        reply.value,
+        reply.nodes,
+        reply.out,
+        reply.margins_kept,
+    );
+    tally.compare("lent", input, &untouched, &lent)
+}
+
+/// Each single bit of the record of a search that is going on.
+fn each_bit(law: &Law, tally: &mut Tally, random: &mut Random) -> Outcome {
+    let mut record = sound(random);
+    while record.depth < 3 || record.has_best == 0 {
+        record = sound(random);
+    }
+    let mut bytes = record.bytes();
+    for bit in 0..8 * bytes.len() {
+        bytes[bit / 8] ^= 1 << (bit % 8);
+        judge(law, tally, &Record::of_bytes(&bytes), &Call::Tell)?;
+        bytes[bit / 8] ^= 1 << (bit % 8);
     }
     Ok(())
 }

@@ -3,12 +3,12 @@
 
 use super::searches::opening;
 use crate::bends;
+use crate::calls::{BEST, FINISHED, NO_TOUR};
 use crate::document::graph::{Graph, FREE};
 use crate::document::law::Law;
 use crate::document::machine::{Call, Machine, Verdict};
 use crate::document::tours;
 use crate::document::tree::Method;
-use crate::ffi::searches::{BEST, FINISHED, NO_TOUR};
 use crate::generate;
 use crate::random::Random;
 use crate::record::Record;

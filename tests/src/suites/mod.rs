@@ -28,6 +28,8 @@ pub mod rule;
 #[cfg(feature = "library")]
 pub mod tree;
 #[cfg(feature = "library")]
+pub mod wrapper;
+#[cfg(feature = "library")]
 pub mod write;
 
 pub fn all() -> Vec<Suite> {
@@ -56,6 +58,8 @@ pub fn all() -> Vec<Suite> {
         damage::SUITE,
         #[cfg(feature = "library")]
         library_searches::SUITE,
+        #[cfg(feature = "library")]
+        wrapper::SUITE,
         #[cfg(feature = "rulings")]
         programs::RULINGS,
         #[cfg(feature = "hunt")]

@@ -13,7 +13,7 @@ use crate::report::{hex, Outcome, Suite, Tally};
 use std::env;
 use std::io::{self, Write};
 use std::path::PathBuf;
-use std::process::{Command, Stdio};
+use std::process::{Command, Output, Stdio};
 
 /// Program 'rulings'.
 pub const RULINGS: Suite = Suite {
@@ -34,26 +34,34 @@ pub const HUNT: Suite = Suite {
     bends: &[bends::HIGHER_CEILING, bends::EXCLUDED_ON_TOP],
 };
 
-/// What a program prints when it is given these bytes.
-fn printed(name: &str, input: &[u8]) -> io::Result<String> {
+/// Where a program is.
+pub fn path(name: &str) -> PathBuf {
     let folder = match env::var_os("PLANNER_BIN_DIR") {
         Some(folder) => PathBuf::from(folder),
         None => PathBuf::from(env!("CARGO_MANIFEST_DIR")).join("../target/bin"),
     };
-    let mut child = Command::new(folder.join(name))
-        .stdin(Stdio::piped())
-        .stdout(Stdio::piped())
-        .spawn()?;
+    folder.join(name)
+}
+
+/// What a child prints and how it ends when it is given these bytes.
+pub fn output(command: &mut Command, input: &[u8]) -> io::Result<Output> {
+    let piped = command.stdin(Stdio::piped()).stdout(Stdio::piped());
+    let mut child = piped.stderr(Stdio::piped()).spawn()?;
     if let Some(mut pipe) = child.stdin.take() {
         // A program may answer before it has read everything.
         let _ = pipe.write_all(input);
     }
-    let output = child.wait_with_output()?;
+    child.wait_with_output()
+}
+
+/// What a program prints when it is given these bytes.
+fn printed(name: &str, input: &[u8]) -> io::Result<String> {
+    let output = output(&mut Command::new(path(name)), input)?;
     Ok(String::from_utf8_lossy(&output.stdout).into_owned())
 }
 
 /// A ceiling and a chart; now and then damaged, cut short or with a ceiling out of range.
-fn input(random: &mut Random, graph: &Graph) -> Vec<u8> {
+pub fn input(random: &mut Random, graph: &Graph) -> Vec<u8> {
     let zeros = vec![0; graph.n];
     let ceiling = match random.below(12) {
         0 => random.pick(&[50_000_001, -50_000_001, i32::MIN, i32::MAX]),

@@ -2,10 +2,11 @@
 //! every byte of the record.
 
 use crate::bends;
+use crate::calls::{ACCEPTED, BEST, FINISHED, GOING_ON, NO_TOUR};
 use crate::document::law::Law;
 use crate::document::machine::{Answer, Call, Machine, Verdict};
 use crate::document::tree::Method;
-use crate::ffi::searches::{Reply, ACCEPTED, BEST, FINISHED, GOING_ON, NO_TOUR};
+use crate::ffi::searches::Reply;
 use crate::generate;
 use crate::random::Random;
 use crate::record::Record;
@@ -61,7 +62,7 @@ pub fn reply(answer: &Answer) -> Reply {
 }
 
 /// Budgets 0, 1 and the greatest come up too; a list is no longer than memory has room for.
-fn vary(random: &mut Random, list: &mut [Call]) {
+pub fn vary(random: &mut Random, list: &mut [Call]) {
     for call in list {
         match call {
             Call::Run { budget } if random.one_in(4) => {

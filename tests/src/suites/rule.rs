@@ -4,11 +4,12 @@
 use super::own_rulings::turning_ceiling;
 use super::own_trees::graph_for;
 use crate::bends;
+use crate::calls::NONE;
 use crate::document::graph::Graph;
 use crate::document::law::Law;
 use crate::document::rulings::{self, Ruled};
 use crate::document::tree::Method;
-use crate::ffi::trees::{rule, BoundReply, NONE};
+use crate::ffi::trees::{rule, BoundReply};
 use crate::generate::{self, MAX};
 use crate::random::Random;
 use crate::report::{Outcome, Suite, Tally};
@@ -26,14 +27,14 @@ pub const SUITE: Suite = Suite {
     ],
 };
 
-struct Arguments {
-    graph: Graph,
-    multipliers: Vec<i32>,
-    ceiling: i64,
-    length: usize,
+pub struct Arguments {
+    pub graph: Graph,
+    pub multipliers: Vec<i32>,
+    pub ceiling: i64,
+    pub length: usize,
 }
 
-fn expected(law: &Law, method: Method, given: &Arguments) -> BoundReply {
+pub fn expected(law: &Law, method: Method, given: &Arguments) -> BoundReply {
     let Arguments {
         graph,
         multipliers,
@@ -54,7 +55,7 @@ fn expected(law: &Law, method: Method, given: &Arguments) -> BoundReply {
     }
 }
 
-fn arguments(random: &mut Random, small: bool, wrong: bool) -> Arguments {
+pub fn arguments(random: &mut Random, small: bool, wrong: bool) -> Arguments {
     let mut graph = graph_for(random, small);
     let mut multipliers = generate::multipliers(random, graph.n);
     let mut ceiling = turning_ceiling(random, &graph, &multipliers);

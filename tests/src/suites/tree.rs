@@ -2,10 +2,11 @@
 
 use super::own_trees::graph_for;
 use crate::bends;
+use crate::calls::NONE;
 use crate::document::graph::Graph;
 use crate::document::law::Law;
 use crate::document::tree::{self, Method};
-use crate::ffi::trees::{tree, BoundReply, NONE};
+use crate::ffi::trees::{tree, BoundReply};
 use crate::generate;
 use crate::random::Random;
 use crate::report::{Outcome, Suite, Tally};
@@ -23,7 +24,7 @@ pub const SUITE: Suite = Suite {
     ],
 };
 
-fn expected(
+pub fn expected(
     law: &Law,
     method: Method,
     graph: &Graph,

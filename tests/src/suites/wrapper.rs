@@ -1,0 +1,283 @@
+//! The safe wrapper for Rust against the reference: reading, writing, trees, rulings, and lists of calls on a search.
+
+use super::rule::{arguments, Arguments};
+use crate::bends;
+use crate::chart_cases::every_file;
+use crate::document::graph::{self, Graph, FREE, PLACES, REQUIRED};
+use crate::document::law::Law;
+use crate::document::machine::{self, Answer, Call, Machine};
+use crate::document::rulings::{self, BAR, FORCE, KEEP};
+use crate::document::tree::{self, Method};
+use crate::document::{chart, Refusal};
+use crate::generate;
+use crate::planner::{self, Edge, Mark, Progress, Ruled, Ruling, Search, Told, Tree, Verdict};
+use crate::random::Random;
+use crate::record::Record;
+use crate::report::{hex, Outcome, Suite, Tally};
+
+pub const SUITE: Suite = Suite {
+    name: "wrapper",
+    run,
+    bends: &[
+        bends::HIGHER_COST,
+        bends::NEXT_JUDGED_FIRST,
+        bends::LAST_NEXT_NOT_ZERO,
+        bends::HIGHER_NUMBERED_FIRST,
+        bends::CEILING_NOT_WITHIN,
+        bends::HIGHER_MULTIPLIER,
+        bends::UPPER_AT_COST,
+        bends::MORE_SWEEPS,
+    ],
+};
+
+fn run(law: &Law, tally: &mut Tally) -> Outcome {
+    let random = &mut Random::new(0x77_7261_7070_6572);
+    files(law, tally)?;
+    for round in 0..4_000 {
+        trees(law, tally, random, round % 3 == 2)?;
+    }
+    for _ in 0..2_000 {
+        searches(law, tally, random)?;
+    }
+    too_many_edges(tally)
+}
+
+fn mark(byte: u8) -> Mark {
+    match byte {
+        FREE => Mark::Free,
+        REQUIRED => Mark::Required,
+        _ => Mark::Excluded,
+    }
+}
+
+/// The graph as the wrapper has it; none where it has no way to say it.
+fn wrapped(graph: &Graph) -> Option<planner::Graph> {
+    if graph.m > PLACES || graph.marks().iter().any(|mark| *mark > 2) {
+        return None;
+    }
+    let edges: Vec<Edge> = graph
+        .edges()
+        .iter()
+        .map(|edge| Edge {
+            a: edge.a,
+            b: edge.b,
+            cost: edge.cost,
+            mark: mark(edge.mark),
+        })
+        .collect();
+    Some(planner::Graph::from_edges(graph.n, &edges))
+}
+
+fn refusal(refusal: Refusal) -> planner::Refusal {
+    planner::Refusal {
+        number: refusal.number,
+        place: refusal.place,
+    }
+}
+
+fn files(law: &Law, tally: &mut Tally) -> Outcome {
+    every_file(&mut |case, bytes, _| {
+        let read = chart::read(law, bytes);
+        let expected = match &read {
+            Ok(graph) => Ok(wrapped(graph)),
+            Err(refused) => Err(refusal(*refused)),
+        };
+        let got = planner::Graph::read(bytes);
+        let input = || hex(bytes);
+        tally.compare(case, input, &expected, &got.clone().map(Some))?;
+        if let (Ok(graph), Ok(got)) = (read, got) {
+            let expected = chart::write(law, &graph, 8 + 12 * graph.m).map_err(refusal);
+            tally.compare("written", input, &expected, &got.write())?;
+        }
+        Ok(())
+    })
+}
+
+fn bits(bytes: &[u8]) -> Vec<bool> {
+    bytes.iter().map(|byte| *byte == 1).collect()
+}
+
+fn ruling(byte: u8) -> Ruling {
+    match byte {
+        KEEP => Ruling::Keep,
+        FORCE => Ruling::Force,
+        BAR => Ruling::Bar,
+        rulings::ALREADY_REQUIRED => Ruling::Required,
+        _ => Ruling::Excluded,
+    }
+}
+
+/// What the tree call must answer; its list has the right length.
+fn expected_tree(law: &Law, given: &Arguments) -> Result<Tree, planner::Refusal> {
+    let (graph, multipliers) = (&given.graph, &given.multipliers);
+    let tree = tree::call(law, Method::Kruskal, graph, multipliers, graph.m);
+    Ok(match tree.map_err(refusal)? {
+        Some(tree) => Tree::Found {
+            bound: tree.bound,
+            edges: bits(&tree.edges),
+        },
+        None => Tree::None,
+    })
+}
+
+/// What the rule call must answer; its list has the right length.
+fn expected_rulings(law: &Law, given: &Arguments) -> Result<Ruled, planner::Refusal> {
+    let (graph, multipliers) = (&given.graph, &given.multipliers);
+    let method = Method::Kruskal;
+    let ruled = rulings::call(law, method, graph, multipliers, given.ceiling, graph.m);
+    Ok(match ruled.map_err(refusal)? {
+        rulings::Ruled::Bound { bound, rulings } => Ruled::Within {
+            bound,
+            rulings: rulings.iter().map(|byte| ruling(*byte)).collect(),
+        },
+        rulings::Ruled::Infeasible => Ruled::Infeasible,
+    })
+}
+
+/// The check, the tree and the rulings of one graph; where `wrong`, with one fault or more.
+fn trees(law: &Law, tally: &mut Tally, random: &mut Random, wrong: bool) -> Outcome {
+    let small = random.one_in(2);
+    let given = arguments(random, small, wrong);
+    let Some(graph) = wrapped(&given.graph) else {
+        return Ok(());
+    };
+    let (multipliers, ceiling) = (&given.multipliers, given.ceiling);
+    let input = || {
+        let graph = &given.graph;
+        format!("{graph:?}, multipliers {multipliers:?}, ceiling {ceiling}")
+    };
+    let fits = graph::fits(law, &given.graph);
+    tally.compare("check", input, &fits, &graph.check().is_ok())?;
+    let got = planner::tree(&graph, multipliers);
+    tally.compare("tree", input, &expected_tree(law, &given), &got)?;
+    let got = planner::rule(&graph, multipliers, ceiling);
+    tally.compare("rule", input, &expected_rulings(law, &given), &got)
+}
+
+/// What the wrapper's call on a search must answer, in one type for all five.
+#[derive(PartialEq, Eq, Debug)]
+enum Said {
+    Accepted,
+    Ran(Progress),
+    Told(Told),
+    Shown(Vec<bool>),
+}
+
+fn said(answer: Answer) -> Result<Said, planner::Refusal> {
+    Ok(match answer {
+        Answer::Refused(refused) => return Err(refusal(refused)),
+        Answer::Accepted => Said::Accepted,
+        Answer::Ran { finished, count } => Said::Ran(match finished {
+            true => Progress::Finished { nodes: count },
+            false => Progress::GoingOn { nodes: count },
+        }),
+        Answer::Told { verdict, count } => Said::Told(Told {
+            verdict: match verdict {
+                machine::Verdict::GoingOn => Verdict::GoingOn,
+                machine::Verdict::None => Verdict::NoTour,
+                machine::Verdict::Cost(cost) => Verdict::Best(cost),
+            },
+            nodes: count,
+        }),
+        Answer::Shown(edges) => Said::Shown(bits(&edges)),
+    })
+}
+
+fn answer(search: &mut Search, call: &Call) -> Option<Result<Said, planner::Refusal>> {
+    Some(match call {
+        Call::Open {
+            graph,
+            multipliers,
+            ceiling,
+            sweeps,
+            step,
+        } => {
+            let graph = wrapped(graph)?;
+            let opened = search.open(&graph, multipliers, *ceiling, *sweeps, *step);
+            opened.map(|()| Said::Accepted)
+        }
+        Call::Run { budget } => search.run(*budget).map(Said::Ran),
+        Call::Tell => search.tell().map(Said::Told),
+        Call::Show { .. } => search.show().map(Said::Shown),
+        Call::Close => search.close().map(|()| Said::Accepted),
+    })
+}
+
+/// The wrapper's record as the tests have it.
+fn parts(record: &planner::Record) -> Record {
+    let edge = |edge: &Edge| graph::Edge {
+        a: edge.a,
+        b: edge.b,
+        cost: edge.cost,
+        mark: edge.mark as u8,
+    };
+    let edges: Vec<graph::Edge> = record.graph.edges().iter().map(edge).collect();
+    Record {
+        open: record.open,
+        graph: Graph::from_edges(record.graph.vertices(), &edges),
+        multipliers: record.multipliers,
+        ceiling: record.ceiling,
+        sweeps: record.sweeps,
+        step: record.step,
+        upper: record.upper,
+        depth: record.depth,
+        stack: record.stack.to_vec(),
+        has_best: record.has_best,
+        best: record.best,
+        count: record.count,
+    }
+}
+
+/// One list of calls; and at its end a record that fails its check.
+fn searches(law: &Law, tally: &mut Tally, random: &mut Random) -> Outcome {
+    let list = generate::calls(random, 5, 10);
+    let mut machine = Machine::new(law, Method::Kruskal);
+    let mut search = Search::fresh();
+    let fresh = || "a fresh record".to_string();
+    let made = Record::made_fresh();
+    tally.compare("fresh", fresh, &made, &parts(search.record()))?;
+    for (i, call) in list.iter().enumerate() {
+        let Some(got) = answer(&mut search, call) else {
+            continue;
+        };
+        let m = machine.search.as_ref().map_or(0, |search| search.graph.m);
+        let expected = said(match call {
+            Call::Show { .. } => machine.call(&Call::Show { length: m }),
+            _ => machine.call(call),
+        });
+        let input = || format!("the first {} of {list:?}", i + 1);
+        tally.compare("answer", input, &expected, &got)?;
+        let record = parts(search.record());
+        tally.compare("record", input, &Record::of(&machine.search), &record)?;
+    }
+    let mut record = Box::new(search.record().clone());
+    record.open = 2;
+    let refused = Search::from_record(record).tell();
+    let unfit = planner::Refusal {
+        number: 24,
+        place: 0,
+    };
+    let input = || "a record with the flag 2".to_string();
+    tally.compare("24", input, &Err(unfit), &refused)
+}
+
+/// More edges than a graph has places for are refused by every call, 191 or 100,000 of them.
+fn too_many_edges(tally: &mut Tally) -> Outcome {
+    let unfit = planner::Refusal {
+        number: 15,
+        place: 0,
+    };
+    for m in [PLACES + 1, 1_000, 100_000] {
+        let graph = planner::Graph::from_edges(20, &vec![Edge::free(1, 2, 0); m]);
+        let got = [
+            graph.check().err(),
+            graph.write().err(),
+            planner::tree(&graph, &[0; 20]).err(),
+            planner::rule(&graph, &[0; 20], 0).err(),
+            Search::fresh().open(&graph, &[0; 20], 0, 0, 0).err(),
+        ];
+        let input = || format!("{m} edges");
+        tally.compare("15", input, &[Some(unfit); 5], &got)?;
+    }
+    Ok(())
+}

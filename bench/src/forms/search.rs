@@ -1,0 +1,256 @@
+//! The search: the core by value. It relies on the tree part's promise alone.
+
+use super::check::{ceiling_fits, graph_fits, multipliers_fit, record_fits, sweeps_fit};
+use super::record::{Answer, Record, Step};
+use super::tree::{self, Tree, Work};
+use super::{Marks, Multipliers};
+use crate::inputs::{Graph, EXCLUDED, FREE, PLACES, REQUIRED};
+
+/// Run opens no node beyond.
+const MOST: u64 = (1 << 63) - 1;
+
+/// The refusal of opening's arguments, 0 where there is none.
+fn fault(graph: &Graph, d: &[i32], ceiling: i64, sweeps: u32, step: u32) -> u32 {
+    match () {
+        _ if !graph_fits(graph) => 15,
+        _ if d.len() != graph.n => 11,
+        _ if !multipliers_fit(d) => 12,
+        _ if !ceiling_fits(ceiling) => 13,
+        _ if !sweeps_fit(sweeps, step) => 14,
+        _ => 0,
+    }
+}
+
+#[inline(always)]
+pub fn open(
+    mut step: Step,
+    graph: &Graph,
+    d: &[i32],
+    ceiling: i64,
+    sweeps: u32,
+    gain: u32,
+) -> Step {
+    let record = &mut step.record;
+    let refusal = match () {
+        _ if !record_fits(record) => 24,
+        _ if record.open => 21,
+        _ => fault(graph, d, ceiling, sweeps, gain),
+    };
+    if refusal != 0 {
+        step.answer = Answer::Refused(refusal);
+        return step;
+    }
+    let m = graph.m;
+    record.open = true;
+    (record.graph.n, record.graph.m) = (graph.n, m);
+    record.graph.a[..m].copy_from_slice(&graph.a[..m]);
+    record.graph.b[..m].copy_from_slice(&graph.b[..m]);
+    record.graph.cost[..m].copy_from_slice(&graph.cost[..m]);
+    record.graph.mark[..m].copy_from_slice(&graph.mark[..m]);
+    record.multipliers[..d.len()].copy_from_slice(d);
+    (record.ceiling, record.upper) = (ceiling, ceiling);
+    (record.sweeps, record.step) = (sweeps, gain);
+    record.stack[0] = record.graph.mark;
+    record.depth = 1;
+    step.answer = Answer::Accepted;
+    step
+}
+
+/// The refusal of a call that wants an open search, 0 where there is none.
+fn unopened(record: &Record) -> u32 {
+    match () {
+        _ if !record_fits(record) => 24,
+        _ if !record.open => 20,
+        _ => 0,
+    }
+}
+
+pub fn tell(record: &Record) -> Answer {
+    match unopened(record) {
+        0 if record.depth > 0 => Answer::GoingOn(record.count),
+        0 if !record.has_best => Answer::None(record.count),
+        0 => Answer::Best(cost(&record.graph, &record.best), record.count),
+        refusal => Answer::Refused(refusal),
+    }
+}
+
+fn cost(graph: &Graph, tour: &Marks) -> i64 {
+    let both = graph.cost.iter().zip(tour);
+    both.map(|(cost, byte)| cost * *byte as i32).sum::<i32>() as i64
+}
+
+pub fn show(record: &Record, out: &mut [u8]) -> Answer {
+    let refusal = match unopened(record) {
+        0 if record.depth > 0 => 22,
+        0 if !record.has_best => 23,
+        0 if out.len() != record.graph.m => 11,
+        refusal => refusal,
+    };
+    if refusal != 0 {
+        return Answer::Refused(refusal);
+    }
+    out.copy_from_slice(&record.best[..record.graph.m]);
+    Answer::Accepted
+}
+
+#[inline(always)]
+pub fn close(mut step: Step) -> Step {
+    step.answer = match unopened(&step.record) {
+        0 => {
+            step.record = Record::fresh();
+            Answer::Accepted
+        }
+        refusal => Answer::Refused(refusal),
+    };
+    step
+}
+
+#[inline(always)]
+pub fn run(mut step: Step, budget: u64) -> Step {
+    let record = &mut step.record;
+    step.answer = match unopened(record) {
+        0 => {
+            let left = budget.min(MOST - record.count);
+            if left > 0 && record.depth > 0 {
+                open_nodes(record, left);
+            }
+            match record.depth {
+                0 => Answer::Finished(record.count),
+                _ => Answer::GoingOn(record.count),
+            }
+        }
+        refusal => Answer::Refused(refusal),
+    };
+    step
+}
+
+/// Opens nodes. The one that a split puts on top stays in hand, its marks are not copied.
+fn open_nodes(record: &mut Record, mut left: u64) {
+    let mut node = Node {
+        graph: record.graph.clone(),
+        work: Work::blank(),
+        rulings: [0; PLACES],
+    };
+    node.work.begin(&record.graph, &record.multipliers);
+    let (mut highest, mut in_hand) = (record.depth, false);
+    while left > 0 && (in_hand || record.depth > 0) {
+        left -= 1;
+        record.count += 1;
+        if !in_hand {
+            record.depth -= 1;
+            node.graph.mark = record.stack[record.depth];
+        }
+        // A node in hand has the free edges of the last pass; without sweeps, in the same order.
+        if !in_hand || record.sweeps > 0 {
+            node.work.order.restart();
+        }
+        in_hand = node.passes(record) && split(record, &mut node.graph);
+        highest = highest.max(record.depth);
+    }
+    if in_hand {
+        record.stack[record.depth] = node.graph.mark;
+        record.depth += 1;
+    }
+    if highest > record.depth {
+        record.stack[record.depth..highest].fill([0; PLACES]);
+    }
+}
+
+/// The node that is open: its marks are those of the graph.
+struct Node {
+    graph: Graph,
+    work: Work,
+    rulings: Marks,
+}
+
+impl Node {
+    /// All passes; whether the node is still open.
+    fn passes(&mut self, record: &mut Record) -> bool {
+        let mut d = record.multipliers;
+        for sweep in 0..=record.sweeps {
+            let (graph, work) = (&self.graph, &mut self.work);
+            match tree::pass(graph, &d, record.upper, work, &mut self.rulings) {
+                tree::Answer::Infeasible => return false,
+                tree::Answer::Within(tree) => {
+                    if is_tour(&tree, graph.n) {
+                        improve(record, &tree);
+                        return false;
+                    }
+                    self.apply();
+                    if sweep < record.sweeps {
+                        adjust(&mut d, &tree, self.graph.n, record.step as i32);
+                    }
+                }
+            }
+        }
+        true
+    }
+
+    /// Applies all rulings together, sixteen at a time; the last ones may come twice.
+    fn apply(&mut self) {
+        for start in (0..self.graph.m).step_by(16) {
+            let start = start.min(PLACES - 16);
+            let marks: &mut [u8; 16] = self.graph.mark[start..].first_chunk_mut().expect("sixteen");
+            let rulings: &[u8; 16] = self.rulings[start..].first_chunk().expect("sixteen");
+            for (mark, ruling) in marks.iter_mut().zip(rulings) {
+                let changed = ((*ruling < 3) as u8).wrapping_neg();
+                *mark = (*ruling & changed) | (*mark & !changed);
+            }
+        }
+    }
+}
+
+/// Connected, so a tour as soon as every degree is two.
+fn is_tour(tree: &Tree, n: usize) -> bool {
+    let degrees = tree.degree[1..=n].iter();
+    degrees.fold(true, |all, degree| all & (*degree == 2))
+}
+
+/// The tour is the best, and others must cost less.
+fn improve(record: &mut Record, tree: &Tree) {
+    record.best = [0; PLACES];
+    for k in &tree.edges[..record.graph.n] {
+        record.best[*k as usize] = 1;
+    }
+    record.has_best = true;
+    // A tour's multipliers cancel out: its bound is its cost.
+    record.upper = tree.bound - 1;
+}
+
+/// "each d(i), i ≥ 2, gains step × (g − 2) [..] and is held to its range"
+fn adjust(d: &mut Multipliers, tree: &Tree, n: usize, step: i32) {
+    for (d, degree) in d.iter_mut().zip(&tree.degree[1..]).take(n).skip(1) {
+        *d = (*d + step * (*degree as i32 - 2)).clamp(-1_000_000, 1_000_000);
+    }
+}
+
+/// Piles the node with its lowest-numbered free edge excluded and makes that edge required; false
+/// where none is free.
+fn split(record: &mut Record, graph: &mut Graph) -> bool {
+    let k = lowest_free(&graph.mark);
+    if k >= graph.m {
+        return false;
+    }
+    let excluded = &mut record.stack[record.depth];
+    *excluded = graph.mark;
+    excluded[k] = EXCLUDED;
+    record.depth += 1;
+    graph.mark[k] = REQUIRED;
+    true
+}
+
+/// The first place with a free mark, eight places at a time, or one past all edges.
+fn lowest_free(marks: &Marks) -> usize {
+    const ONES: u64 = 0x0101_0101_0101_0101;
+    let (blocks, rest) = marks.as_chunks::<8>();
+    for (i, block) in blocks.iter().enumerate() {
+        let word = u64::from_le_bytes(*block);
+        let free = !(word | word >> 1) & ONES;
+        if free != 0 {
+            return 8 * i + free.trailing_zeros() as usize / 8;
+        }
+    }
+    let start = PLACES - rest.len();
+    let place = rest.iter().position(|mark| *mark == FREE);
+    start + place.unwrap_or(rest.len())
+}

@@ -1,0 +1,226 @@
+//! Agreement with the free reference on many random graphs, and the record's check beside a plain
+//! one.
+
+use super::check::record_fits;
+use super::{Answer, Forms, Record};
+use crate::inputs::{Graph, Random, EXCLUDED, FREE, PLACES, REQUIRED, VERTICES};
+use crate::planner::{Job, Planner, Reference};
+
+fn random_graph(random: &mut Random) -> Graph {
+    let mut graph = Graph::empty(random.between(3, VERTICES as i32) as usize);
+    let n = graph.n as u8;
+    let (present, highest) = (
+        random.between(30, 100),
+        [1, 4, 60, 1_000_000][random.below(4)],
+    );
+    let (required, excluded) = ([0, 2, 8, 25][random.below(4)], random.between(0, 40));
+    let mut pairs: Vec<(u8, u8)> = Vec::new();
+    for a in 1..n {
+        for b in a + 1..=n {
+            if random.between(1, 100) <= present {
+                pairs.insert(random.below(pairs.len() + 1), (a, b));
+            }
+        }
+    }
+    for (a, b) in pairs {
+        let mark = match random.between(0, 99) {
+            x if x < required => REQUIRED,
+            x if x < required + excluded => EXCLUDED,
+            _ => FREE,
+        };
+        graph.add(a, b, random.between(-highest, highest), mark);
+    }
+    graph
+}
+
+fn random_job(random: &mut Random) -> Job {
+    let graph = random_graph(random);
+    let highest = [0, 3, 50, 1_000_000][random.below(4)];
+    let mut d: Vec<i32> = (0..graph.n)
+        .map(|_| random.between(-highest, highest))
+        .collect();
+    d[0] = 0;
+    let mut list = [0; PLACES];
+    let bound = Reference::new().tree(&graph, &d, &mut list[..graph.m]);
+    let above = [0, 1, 7, 100, 3_000, 40_000_000][random.below(6)] - random.below(2) as i64;
+    Job {
+        ceiling: (bound.unwrap_or(0) + above).clamp(-50_000_000, 50_000_000),
+        sweeps: random.below(16) as u32,
+        step: [0, 1, 20, 300, 10_000][random.below(5)],
+        budget: 0,
+        multipliers: d,
+        graph,
+    }
+}
+
+/// Tree and rulings, then runs of several budgets, the state being compared after each.
+fn same(random: &mut Random, forms: &mut Forms) {
+    let job = random_job(random);
+    let (graph, d, m) = (&job.graph, &job.multipliers, job.graph.m);
+    let mut free = Reference::new();
+    let mut lists = [[7; PLACES]; 2];
+    let trees = (
+        forms.tree(graph, d, &mut lists[0][..m]),
+        free.tree(graph, d, &mut lists[1][..m]),
+    );
+    assert_eq!(trees.0, trees.1);
+    assert_eq!(lists[0], lists[1]);
+    let bound = forms.rule(graph, d, job.ceiling, &mut lists[0][..m]);
+    assert_eq!(bound, free.rule(graph, d, job.ceiling, &mut lists[1][..m]));
+    assert_eq!(lists[0], lists[1]);
+    forms.open(&job);
+    free.open(&job);
+    for _ in 0..random.below(4) {
+        let budget = random.below(50) as u64;
+        assert_eq!(forms.run(budget), free.run(budget));
+        assert_eq!(forms.state(), free.state());
+    }
+    assert_eq!(
+        forms.finish(&mut lists[0][..m]),
+        free.finish(&mut lists[1][..m])
+    );
+    assert_eq!(lists[0], lists[1]);
+}
+
+#[test]
+fn agrees_with_the_free_reference() {
+    let mut random = Random::new(20);
+    let mut forms = Forms::new();
+    for _ in 0..200_000 {
+        same(&mut random, &mut forms);
+    }
+}
+
+/// docs/RECORD.md, place by place.
+fn plain_check(r: &Record) -> bool {
+    let (n, m, depth) = (r.graph.n, r.graph.m, r.depth);
+    if n > VERTICES || m > PLACES || depth > m + 1 {
+        return false;
+    }
+    let g = &r.graph;
+    let unused = (m..PLACES)
+        .all(|k| g.a[k] == 0 && g.b[k] == 0 && g.cost[k] == 0 && g.mark[k] == 0 && r.best[k] == 0)
+        && (n..VERTICES).all(|v| r.multipliers[v] == 0)
+        && (depth..r.stack.len()).all(|p| r.stack[p].iter().all(|mark| *mark == 0))
+        && (0..depth).all(|p| r.stack[p][m..].iter().all(|mark| *mark == 0))
+        && (r.has_best || r.best.iter().all(|byte| *byte == 0));
+    if !r.open {
+        let numbers = [r.ceiling, r.upper, r.sweeps as i64, r.step as i64];
+        let zero = numbers == [0; 4] && r.count == 0 && n == 0 && m == 0 && depth == 0;
+        return unused && zero && !r.has_best;
+    }
+    let within = |value: i32| (-1_000_000..=1_000_000).contains(&value);
+    let mut pairs: Vec<_> = (0..m).map(|k| (g.a[k], g.b[k])).collect();
+    pairs.sort();
+    pairs.dedup();
+    unused
+        && n >= 3
+        && pairs.len() == m
+        && pairs
+            .iter()
+            .all(|(a, b)| 1 <= *a && a < b && *b as usize <= n)
+        && (0..m).all(|k| within(g.cost[k]) && g.mark[k] <= 2)
+        && r.multipliers[0] == 0
+        && r.multipliers.iter().all(|d| within(*d))
+        && r.ceiling.abs() <= 50_000_000
+        && r.upper.abs() <= 50_000_000
+        && r.sweeps <= 15
+        && r.step <= 10_000
+        && (0..depth).all(|p| {
+            let free = r.stack[p][..m].iter().filter(|mark| **mark == 0).count();
+            r.stack[p].iter().all(|mark| *mark <= 2) && free + p <= m
+        })
+        && r.best.iter().all(|byte| *byte <= 1)
+        && r.count < 1 << 63
+}
+
+fn bend(r: &mut Record, random: &mut Random) {
+    let (k, p) = (random.below(PLACES), random.below(r.stack.len()));
+    let byte = [0, 1, 2, 3, 21, 255][random.below(6)];
+    let wide = [-1, 0, 1, 50_000_000, 50_000_001, -50_000_001][random.below(6)];
+    match random.below(18) {
+        0 => r.open = !r.open,
+        1 => r.graph.n = byte as usize,
+        2 => r.graph.m = r.graph.m.wrapping_add(1),
+        3 => r.graph.a[k] = byte,
+        4 => r.graph.b[k] = byte,
+        5 => r.graph.cost[k] = [0, 1_000_001, -1_000_001, i32::MIN][random.below(4)],
+        6 => r.graph.mark[k] = byte,
+        7 => r.multipliers[k % VERTICES] = [0, 1, 1_000_001, i32::MIN][random.below(4)],
+        8 => r.ceiling = wide,
+        9 => r.sweeps = [0, 15, 16][random.below(3)],
+        10 => r.step = [0, 10_000, 10_001][random.below(3)],
+        11 => r.upper = wide,
+        12 => r.depth = [0, r.depth + 1, r.depth.wrapping_sub(1), 191, 192][random.below(5)],
+        13 => r.stack[p][k] = byte,
+        14 => r.stack[random.below(r.depth + 1) % 191][k] = byte,
+        15 => r.has_best = !r.has_best,
+        16 => r.best[k] = byte,
+        _ => r.count = [0, (1 << 63) - 1, 1 << 63][random.below(3)],
+    }
+}
+
+#[test]
+fn checks_the_record_as_it_says() {
+    let mut random = Random::new(3);
+    let (mut fit, mut unfit) = (0, 0);
+    for _ in 0..1_500 {
+        let job = random_job(&mut random);
+        let mut record = Record::fresh();
+        if random.below(8) > 0 {
+            record.open(
+                &job.graph,
+                &job.multipliers,
+                job.ceiling,
+                job.sweeps,
+                job.step,
+            );
+            record.run(random.below(40) as u64);
+        }
+        assert!(record_fits(&record) && plain_check(&record));
+        for _ in 0..40 {
+            let mut bent = record.clone();
+            bend(&mut bent, &mut random);
+            let fits = plain_check(&bent);
+            assert_eq!(record_fits(&bent), fits);
+            let refused = bent.clone().tell() == Answer::Refused(24);
+            assert_eq!(refused, !fits);
+            (fit, unfit) = (fit + fits as u32, unfit + !fits as u32);
+        }
+    }
+    assert!(fit > 1_000 && unfit > 1_000, "{fit} {unfit}");
+}
+
+#[test]
+fn refuses_in_document_01s_order() {
+    let job = random_job(&mut Random::new(5));
+    let (g, d, m) = (&job.graph, &job.multipliers, job.graph.m);
+    let mut record = Record::fresh();
+    let mut list = vec![0; m];
+    assert_eq!(record.run(1), Answer::Refused(20));
+    assert_eq!(record.tell(), Answer::Refused(20));
+    assert_eq!(record.show(&mut list), Answer::Refused(20));
+    assert_eq!(record.close(), Answer::Refused(20));
+    let mut bad = g.clone();
+    bad.mark[0] = 3;
+    assert_eq!(
+        record.open(&bad, &d[1..], 60_000_000, 16, 0),
+        Answer::Refused(15)
+    );
+    assert_eq!(
+        record.open(g, &d[1..], 60_000_000, 16, 0),
+        Answer::Refused(11)
+    );
+    let high = vec![1_000_001; g.n];
+    assert_eq!(
+        record.open(g, &high, 60_000_000, 16, 0),
+        Answer::Refused(12)
+    );
+    assert_eq!(record.open(g, d, 60_000_000, 16, 0), Answer::Refused(13));
+    assert_eq!(record.open(g, d, 0, 0, 10_001), Answer::Refused(14));
+    assert_eq!(record.open(g, d, job.ceiling, 0, 0), Answer::Accepted);
+    assert_eq!(record.open(&bad, d, 0, 0, 0), Answer::Refused(21));
+    assert_eq!(record.show(&mut list), Answer::Refused(22));
+    assert_eq!(record.close(), Answer::Accepted);
+    assert!(record_fits(&record) && !record.open);
+}

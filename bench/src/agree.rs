@@ -11,7 +11,7 @@ const CASES: u64 = 3_000;
 
 /// A graph that lacks some edges, in an order of its own.
 fn sparse(random: &mut Random) -> Graph {
-    let n = random.between(3, VERTICES as i32) as usize;
+    let n = random.between(3, VERTICES as i64) as usize;
     let (lacking, highest) = (
         random.between(0, 60),
         [1, 3, 50, 1_000_000][random.below(4)],
@@ -32,14 +32,16 @@ fn sparse(random: &mut Random) -> Graph {
             x if x < required + excluded => EXCLUDED,
             _ => FREE,
         };
-        graph.add(a, b, random.between(-highest, highest), mark);
+        graph.add(a, b, random.between(-highest, highest) as i32, mark);
     }
     graph
 }
 
 fn any_multipliers(random: &mut Random, n: usize) -> Vec<i32> {
     let highest = [0, 2, 40, 1_000_000][random.below(4)];
-    let mut all: Vec<i32> = (0..n).map(|_| random.between(-highest, highest)).collect();
+    let mut all: Vec<i32> = (0..n)
+        .map(|_| random.between(-highest, highest) as i32)
+        .collect();
     all[0] = 0;
     all
 }

@@ -1,5 +1,7 @@
 //! Seeded graphs: every run measures the same ones.
 
+pub use planner_tests::random::Random;
+
 pub const PLACES: usize = 190;
 pub const VERTICES: usize = 20;
 
@@ -58,35 +60,6 @@ impl Kind {
     }
 }
 
-/// splitmix64.
-pub struct Random {
-    state: u64,
-}
-
-impl Random {
-    pub fn new(seed: u64) -> Random {
-        Random { state: seed }
-    }
-
-    fn word(&mut self) -> u64 {
-        self.state = self.state.wrapping_add(0x9e37_79b9_7f4a_7c15);
-        let mut z = self.state;
-        z = (z ^ (z >> 30)).wrapping_mul(0xbf58_476d_1ce4_e5b9);
-        z = (z ^ (z >> 27)).wrapping_mul(0x94d0_49bb_1331_11eb);
-        z ^ (z >> 31)
-    }
-
-    /// A number from 0 to `count` - 1.
-    pub fn below(&mut self, count: usize) -> usize {
-        (self.word() % count as u64) as usize
-    }
-
-    /// A number from `low` to `high`, both included.
-    pub fn between(&mut self, low: i32, high: i32) -> i32 {
-        low + (self.word() % (high - low + 1) as u64) as i32
-    }
-}
-
 /// The complete graph whose edge a-b (both counted from 1) costs `cost(a, b)`, numbered row by row.
 fn complete(n: usize, mut cost: impl FnMut(usize, usize) -> i32) -> Graph {
     let mut graph = Graph::empty(n);
@@ -102,7 +75,7 @@ fn complete(n: usize, mut cost: impl FnMut(usize, usize) -> i32) -> Graph {
 pub fn graph(kind: Kind, n: usize, number: u64) -> Graph {
     let mut random = Random::new(number * 1000 + n as u64 * 2 + (kind == Kind::Euclidean) as u64);
     match kind {
-        Kind::RandomCosts => complete(n, |_, _| random.between(1, 1000)),
+        Kind::RandomCosts => complete(n, |_, _| random.between(1, 1000) as i32),
         Kind::Euclidean => {
             let mut coordinate = || random.between(0, 1000) as f64;
             let points: Vec<(f64, f64)> = (0..n).map(|_| (coordinate(), coordinate())).collect();
@@ -119,7 +92,7 @@ pub fn multipliers(n: usize, number: u64) -> [i32; VERTICES] {
     let mut random = Random::new(number * 77 + n as u64);
     let mut all = [0; VERTICES];
     for d in &mut all[1..n] {
-        *d = 20 * random.between(-5, 5);
+        *d = 20 * random.between(-5, 5) as i32;
     }
     all
 }

@@ -1,8 +1,8 @@
 //! The library's calls, with nothing around them: no allocation, no copy.
 
 use crate::inputs::{Graph, PLACES, VERTICES};
-use planner_tests::calls;
 pub use planner_tests::calls::{BEST, FINISHED, GOING_ON, NONE, NO_TOUR};
+use planner_tests::{on_graph, on_record};
 
 /// 191 nodes of a mark for each edge.
 const STACK: usize = 191 * PLACES;
@@ -30,29 +30,16 @@ pub struct Record {
 /// Calls with the parts of a record in front and the lent answers behind.
 macro_rules! on {
     ($record:expr, $name:ident($($argument:expr),*)) => {
+        // Safety: every list of the record has its length, and each list among the arguments goes with its own.
         unsafe {
-            calls::$name(
-                &mut $record.open,
-                &mut $record.graph.n,
-                &mut $record.graph.m,
-                $record.graph.a.as_mut_ptr(),
-                $record.graph.b.as_mut_ptr(),
-                $record.graph.cost.as_mut_ptr(),
-                $record.graph.mark.as_mut_ptr(),
-                $record.multipliers.as_mut_ptr(),
-                &mut $record.ceiling,
-                &mut $record.sweeps,
-                &mut $record.step,
-                &mut $record.upper,
-                &mut $record.depth,
-                $record.stack.as_mut_ptr(),
-                &mut $record.has_best,
-                $record.best.as_mut_ptr(),
-                &mut $record.count,
-                $($argument,)*
-                &mut $record.place,
-                &mut $record.value,
-                &mut $record.nodes,
+            on_record!(
+                $record,
+                $name(
+                    $($argument,)*
+                    &mut $record.place,
+                    &mut $record.value,
+                    &mut $record.nodes
+                )
             )
         }
     };
@@ -105,18 +92,9 @@ impl Record {
 pub fn tree(g: &Graph, d: &[i32], out: &mut [u8]) -> Option<i64> {
     let mut bound = 0;
     let code = unsafe {
-        calls::planner_tree(
-            g.n,
-            g.m,
-            g.a.as_ptr(),
-            g.b.as_ptr(),
-            g.cost.as_ptr(),
-            g.mark.as_ptr(),
-            d.as_ptr(),
-            d.len(),
-            out.as_mut_ptr(),
-            out.len(),
-            &mut bound,
+        on_graph!(
+            g,
+            planner_tree(d.as_ptr(), d.len(), out.as_mut_ptr(), out.len(), &mut bound)
         )
     };
     assert!(code == 0 || code == NONE, "tree refused {code}");
@@ -127,19 +105,16 @@ pub fn tree(g: &Graph, d: &[i32], out: &mut [u8]) -> Option<i64> {
 pub fn rule(g: &Graph, d: &[i32], ceiling: i64, out: &mut [u8]) -> Option<i64> {
     let mut bound = 0;
     let code = unsafe {
-        calls::planner_rule(
-            g.n,
-            g.m,
-            g.a.as_ptr(),
-            g.b.as_ptr(),
-            g.cost.as_ptr(),
-            g.mark.as_ptr(),
-            d.as_ptr(),
-            d.len(),
-            ceiling,
-            out.as_mut_ptr(),
-            out.len(),
-            &mut bound,
+        on_graph!(
+            g,
+            planner_rule(
+                d.as_ptr(),
+                d.len(),
+                ceiling,
+                out.as_mut_ptr(),
+                out.len(),
+                &mut bound
+            )
         )
     };
     assert!(code == 0 || code == NONE, "rule refused {code}");

@@ -55,6 +55,49 @@ macro_rules! calls_on_a_record {
     };
 }
 
+/// Makes a call with a graph's parts in front; whoever uses it says why its pointers are sound.
+#[macro_export]
+macro_rules! on_graph {
+    ($graph:expr, $name:ident($($argument:expr),* $(,)?)) => {
+        $crate::calls::$name(
+            $graph.n,
+            $graph.m,
+            $graph.a.as_ptr(),
+            $graph.b.as_ptr(),
+            $graph.cost.as_ptr(),
+            $graph.mark.as_ptr(),
+            $($argument),*
+        )
+    };
+}
+
+/// Makes a call with a record's parts in front.
+#[macro_export]
+macro_rules! on_record {
+    ($record:expr, $name:ident($($argument:expr),* $(,)?)) => {
+        $crate::calls::$name(
+            &mut $record.open,
+            &mut $record.graph.n,
+            &mut $record.graph.m,
+            $record.graph.a.as_mut_ptr(),
+            $record.graph.b.as_mut_ptr(),
+            $record.graph.cost.as_mut_ptr(),
+            $record.graph.mark.as_mut_ptr(),
+            $record.multipliers.as_mut_ptr(),
+            &mut $record.ceiling,
+            &mut $record.sweeps,
+            &mut $record.step,
+            &mut $record.upper,
+            &mut $record.depth,
+            $record.stack.as_mut_ptr(),
+            &mut $record.has_best,
+            $record.best.as_mut_ptr(),
+            &mut $record.count,
+            $($argument),*
+        )
+    };
+}
+
 extern "C" {
     pub fn planner_read(
         bytes: *const u8,

@@ -2,7 +2,7 @@
 //! how). Every call takes any input, answers and ends; what is wrong is refused by document 01's numbers and changes nothing. Here is all
 //! the `unsafe` that a user needs.
 
-use crate::calls;
+use crate::{calls, on_graph, on_record};
 use std::fmt;
 
 /// The most edges that a graph can have: every pair of 20 vertices.
@@ -157,16 +157,7 @@ impl Graph {
     /// Whether the graph keeps to the rules: 15 where it does not.
     pub fn check(&self) -> Result<(), Refusal> {
         // SAFETY: the four lists have 190 places; the call only reads them.
-        let number = unsafe {
-            calls::planner_check(
-                self.n,
-                self.m,
-                self.a.as_ptr(),
-                self.b.as_ptr(),
-                self.cost.as_ptr(),
-                self.mark.as_ptr(),
-            )
-        };
+        let number = unsafe { on_graph!(self, planner_check()) };
         accepted(number, 0)
     }
 
@@ -198,19 +189,8 @@ impl Graph {
         let mut place = 0;
         // SAFETY: the four lists have 190 places and are only read; `out` has the length that is passed with it; `out` and `place` are
         // borrowed here alone.
-        let number = unsafe {
-            calls::planner_write(
-                self.n,
-                self.m,
-                self.a.as_ptr(),
-                self.b.as_ptr(),
-                self.cost.as_ptr(),
-                self.mark.as_ptr(),
-                out.as_mut_ptr(),
-                out.len(),
-                &mut place,
-            )
-        };
+        let number =
+            unsafe { on_graph!(self, planner_write(out.as_mut_ptr(), out.len(), &mut place)) };
         accepted(number, place).map(|()| out)
     }
 }
@@ -264,18 +244,15 @@ pub fn tree(graph: &Graph, multipliers: &[i32]) -> Result<Tree, Refusal> {
     // SAFETY: the four lists have 190 places, `multipliers` and `out` the lengths that are passed with them; only `out` and `bound` are
     // written, and they are borrowed here alone.
     let number = unsafe {
-        calls::planner_tree(
-            graph.n,
-            graph.m,
-            graph.a.as_ptr(),
-            graph.b.as_ptr(),
-            graph.cost.as_ptr(),
-            graph.mark.as_ptr(),
-            multipliers.as_ptr(),
-            multipliers.len(),
-            out.as_mut_ptr(),
-            out.len(),
-            &mut bound,
+        on_graph!(
+            graph,
+            planner_tree(
+                multipliers.as_ptr(),
+                multipliers.len(),
+                out.as_mut_ptr(),
+                out.len(),
+                &mut bound
+            )
         )
     };
     if number == calls::NONE {
@@ -291,19 +268,16 @@ pub fn rule(graph: &Graph, multipliers: &[i32], ceiling: i64) -> Result<Ruled, R
     let mut bound = 0;
     // SAFETY: as in `tree`.
     let number = unsafe {
-        calls::planner_rule(
-            graph.n,
-            graph.m,
-            graph.a.as_ptr(),
-            graph.b.as_ptr(),
-            graph.cost.as_ptr(),
-            graph.mark.as_ptr(),
-            multipliers.as_ptr(),
-            multipliers.len(),
-            ceiling,
-            out.as_mut_ptr(),
-            out.len(),
-            &mut bound,
+        on_graph!(
+            graph,
+            planner_rule(
+                multipliers.as_ptr(),
+                multipliers.len(),
+                ceiling,
+                out.as_mut_ptr(),
+                out.len(),
+                &mut bound
+            )
         )
     };
     if number == calls::NONE {
@@ -361,32 +335,6 @@ struct Said {
     place: u64,
     value: i64,
     nodes: u64,
-}
-
-/// A call with a record's parts in front.
-macro_rules! on_record {
-    ($record:expr, $name:ident($($argument:expr),*)) => {
-        calls::$name(
-            &mut $record.open,
-            &mut $record.graph.n,
-            &mut $record.graph.m,
-            $record.graph.a.as_mut_ptr(),
-            $record.graph.b.as_mut_ptr(),
-            $record.graph.cost.as_mut_ptr(),
-            $record.graph.mark.as_mut_ptr(),
-            $record.multipliers.as_mut_ptr(),
-            &mut $record.ceiling,
-            &mut $record.sweeps,
-            &mut $record.step,
-            &mut $record.upper,
-            &mut $record.depth,
-            $record.stack.as_mut_ptr(),
-            &mut $record.has_best,
-            $record.best.as_mut_ptr(),
-            &mut $record.count,
-            $($argument),*
-        )
-    };
 }
 
 /// A search for the cheapest tour. It owns its record, some 39 KB on the heap.

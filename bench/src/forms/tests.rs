@@ -7,7 +7,7 @@ use crate::inputs::{Graph, Random, EXCLUDED, FREE, PLACES, REQUIRED, VERTICES};
 use crate::planner::{Job, Planner, Reference};
 
 fn random_graph(random: &mut Random) -> Graph {
-    let mut graph = Graph::empty(random.between(3, VERTICES as i32) as usize);
+    let mut graph = Graph::empty(random.between(3, VERTICES as i64) as usize);
     let n = graph.n as u8;
     let (present, highest) = (
         random.between(30, 100),
@@ -28,7 +28,7 @@ fn random_graph(random: &mut Random) -> Graph {
             x if x < required + excluded => EXCLUDED,
             _ => FREE,
         };
-        graph.add(a, b, random.between(-highest, highest), mark);
+        graph.add(a, b, random.between(-highest, highest) as i32, mark);
     }
     graph
 }
@@ -37,7 +37,7 @@ fn random_job(random: &mut Random) -> Job {
     let graph = random_graph(random);
     let highest = [0, 3, 50, 1_000_000][random.below(4)];
     let mut d: Vec<i32> = (0..graph.n)
-        .map(|_| random.between(-highest, highest))
+        .map(|_| random.between(-highest, highest) as i32)
         .collect();
     d[0] = 0;
     let mut list = [0; PLACES];

@@ -1,2 +1,1 @@
 pub mod StarredFacts
-pub mod SmallGraphs

@@ -91,11 +91,6 @@ pub ceiling-9 : ruleCall four zeros₄ (pos 9) ≡ (tree.none, nines four)
 unfolding ruleCall four zeros₄ nines
 ceiling-9 = refl
 
--- "For this sea, ceiling 12, all it prints is: bound 10 .. keep keep keep force bar force"
-pub ceiling-12 : ruleCall four zeros₄ (pos 12) ≡ (bounded (pos 10), 0 ∷ 0 ∷ 0 ∷ 1 ∷ 2 ∷ 1 ∷ [])
-unfolding ruleCall four zeros₄
-ceiling-12 = refl
-
 -- "Hunt, zero dues, no sweeps, ceiling 12: cost 12, 5 nodes."
 pub search-12 : searchCalls four zeros₄ (pos 12) ≡ accepted ∷ runs true 5 ∷ tells (best (pos 12)) 5 ∷ []
 unfolding searchCalls four zeros₄

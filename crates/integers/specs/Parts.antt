@@ -1,12 +1,12 @@
 -- Integers as differences of two natural numbers, z = up z − dn z, of which one is 0. `omega` reads sums and orders of natural
 -- numbers only; by these laws it reads integers too. Assumes nothing.
-use mathlib.Core.Path.{_≡_, refl, sym, _∙_, ap, subst}
+use mathlib.Core.Path.{_≡_, refl, ap}
 use mathlib.Core.Bool.{Bool, true, false, not, cond, true≢false, false≢true}
 use mathlib.Core.Logic.{_↔_, _⊎_, inl, inr}
-use Prim.Native.Nat.{ℕ, zero, suc, _+_, _*_, _-_, _<_, _≤_}
+use Prim.Native.Nat.{ℕ, zero, suc, _+_, _-_, _<_, _≤_}
 use native.Mathlib.Omega.{arith}
-use lib.Dec.{T, ltb, leb, ltb→lt, nltb→le}
-use lib.IntN.{ℤ, pos, negsuc, _+ℤ_, _-ℤ_, subℕ, negℤ, natAbs}
+use lib.Dec.{T, ltb, ltb→lt, nltb→le}
+use lib.IntN.{ℤ, pos, negsuc, _+ℤ_, subℕ, negℤ, natAbs}
 use lib.Signed.{ltZ, leZ, mag, nonNeg, _≤ℤ_, _<ℤ_}
 use borrow.Author.Tests.{ltb-true, ltb-false, leb-true, leb-false}
 use Rattle.lists.specs.Bools.{by-cases, T-true, true-T}
@@ -73,10 +73,6 @@ eq-of-parts (negsuc a) (negsuc b) h = let e : a ≡ b = omega arith in ap negsuc
 pub mag-of-parts : (a : ℤ) (H : ℕ) → up a < H → dn a ≤ H → mag a < H
 mag-of-parts (pos a) H h k = h
 mag-of-parts (negsuc a) H h k = k
-
-pub parts-of-mag : (a : ℤ) (H : ℕ) → mag a < H → (up a < H) × (dn a ≤ H)
-parts-of-mag (pos a) H h = (h, omega arith)
-parts-of-mag (negsuc a) H h = (omega arith, h)
 
 -- the tests of order, each way
 pub ltZ-true : (a b : ℤ) → ltZ a b ≡ true → up a + dn b < up b + dn a
@@ -156,9 +152,6 @@ IsDiff z x y = (up z + y ≡ x + dn z)
 
 pub diff-self : (z : ℤ) → IsDiff z (up z) (dn z)
 diff-self z = refl
-
-pub diff-sub : (a b : ℕ) → IsDiff (subℕ a b) a b
-diff-sub a b = sub-parts a b
 
 pub diff-add : (z w : ℤ) (x y u v : ℕ) → IsDiff z x y → IsDiff w u v → IsDiff (z +ℤ w) (x + u) (y + v)
 diff-add z w x y u v h k = omega (arith, add-parts z w)

@@ -1,12 +1,12 @@
 -- A range −limit .. limit: the test, what it tells, and holding a number to the range. Assumes nothing.
-use mathlib.Core.Path.{_≡_, refl, sym, _∙_, ap}
-use mathlib.Core.Bool.{Bool, true, false, cond, _&&_}
-use Prim.Native.Nat.{ℕ, _+_, _<_, _≤_}
+use mathlib.Core.Path.{_≡_}
+use mathlib.Core.Bool.{Bool, true, cond, _&&_}
+use Prim.Native.Nat.{ℕ, _≤_}
 use native.Mathlib.Omega.{arith}
 use lib.IntN.{ℤ, pos, negℤ}
 use lib.Signed.{ltZ, leZ}
 use Rattle.lists.specs.Bools.{by-cases, and-both}
-use Rattle.integers.specs.Parts.{up, dn, neg-up, neg-dn, up-most, dn-most, ltZ-true, ltZ-false, leZ-true, le-leZ}
+use Rattle.integers.specs.Parts.{up, dn, neg-up, neg-dn, up-most, dn-most, ltZ-false, leZ-true, le-leZ}
 
 -- −limit ≤ z ≤ limit
 unfoldable pub within : ℕ → ℤ → Bool
@@ -49,13 +49,3 @@ clamp-range limit z =
       high = up-most z limit (omega (arith, ltZ-false (pos limit) z u));
       low = dn-most z limit (omega (arith, ltZ-false z (negℤ (pos limit)) t, neg-up (pos limit), neg-dn (pos limit)));
     }))))
-
--- a number in the range stays
-pub clamp-same : (limit : ℕ) (z : ℤ) → InRange limit z → clamp limit z ≡ z
-unfolding clamp
-clamp-same limit z r =
-    by-cases (ltZ z (negℤ (pos limit)))
-    (λ t. absurd (omega (arith, ltZ-true z (negℤ (pos limit)) t, r .low, neg-up (pos limit), neg-dn (pos limit))))
-    (λ t. rw t (by-cases (ltZ (pos limit) z)
-    (λ u. absurd (omega (arith, ltZ-true (pos limit) z u, r .high)))
-    (λ u. rw u)))

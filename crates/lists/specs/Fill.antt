@@ -1,5 +1,5 @@
 -- Lists of a given length by their places, which are counted from 0, and lists cut or filled up to a length. Assumes nothing.
-use mathlib.Core.Path.{_≡_, refl, sym, _∙_}
+use mathlib.Core.Path.{_≡_, sym, _∙_}
 use mathlib.Core.List.{List}
 use Prim.Native.Nat.{ℕ, zero, suc, _≤_, _<_}
 use native.Mathlib.Omega.{arith}
@@ -52,14 +52,6 @@ module _ {A : Type 0} where
   pub fit-at : (n : ℕ) (z : A) (l : List A) (i : ℕ) → i < n → getD (fit n z l) i z ≡ getD l i z
   unfolding fit
   fit-at n z l i h = fill-at n (λ j. getD l j z) i z h
-
-  pub fit-past : (n : ℕ) (z : A) (l : List A) (i : ℕ) → n ≤ i → getD (fit n z l) i z ≡ z
-  unfolding fit
-  fit-past n z l i h = fill-past n (λ j. getD l j z) i z h
-
-  pub fit-self : (n : ℕ) (z : A) (l : List A) → length l ≡ n → fit n z l ≡ l
-  unfolding fit
-  fit-self n z l e = fill-is n (λ i. getD l i z) l z e (λ i h. refl)
 
   -- a list that is zero past m, cut to m and filled up again
   pub fit-fill : (n m : ℕ) (z : A) (l : List A) → length l ≡ n → ((i : ℕ) → m ≤ i → getD l i z ≡ z) → fit n z (fit m z l) ≡ l

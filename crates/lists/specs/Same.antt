@@ -89,17 +89,10 @@ module _ {A : Type 0} where
       go (z ∷ zs) s =
           absurd (let w : suc (length xs) ≤ length xs = omega (arith, simp length-append at (shuffle-length s)) in omega arith)
 
-  pub covers : (xs ys : List A) → Distinct xs → ((k : A) → k ∈ xs → k ∈ ys) → length ys ≤ length xs → (k : A) → k ∈ ys → k ∈ xs
-  covers xs ys d h l = shuffle-in (shuffle-fills xs ys d h l)
-
   pub shuffle-same : (xs ys : List A) → Distinct xs → Distinct ys → ((k : A) → k ∈ xs → k ∈ ys) → ((k : A) → k ∈ ys → k ∈ xs)
       → Shuffle ys xs
   shuffle-same xs ys dx dy h k =
       shuffle-fills xs ys dx h (omega (arith, simp length-append at (shuffle-length (shuffle-more ys xs dy k .1))))
-
-  pub same-length : (xs ys : List A) → Distinct xs → Distinct ys → ((k : A) → k ∈ xs → k ∈ ys) → ((k : A) → k ∈ ys → k ∈ xs)
-      → length xs ≡ length ys
-  same-length xs ys dx dy h k = sym (shuffle-length (shuffle-same xs ys dx dy h k))
 
   pub same-weight : (w : A → ℕ) (xs ys : List A) → Distinct xs → Distinct ys
       → ((k : A) → k ∈ xs → k ∈ ys) → ((k : A) → k ∈ ys → k ∈ xs) → (weight w xs ≡ weight w ys) × (length xs ≡ length ys)

@@ -27,4 +27,4 @@ pub mod Claim
 -- what code needs to show that its passes are the machine's
 pub mod Degrees
 pub mod TwoEach
-pub mod PassLaws
+pub mod DegreeTest

@@ -34,7 +34,7 @@ use Rattle.machine.specs.Machine.{Marks, withMarks, marksOf, applied, Pa
 use Rattle.machine.specs.Machine.{firstFree}
 use Rattle.machine.specs.Machine.{branch, concluded, passes, Opening, trimmed, held, Progress, State, noSearch, searching, begin}
 use Rattle.machine.specs.Machine.{edgesOf, costOf, lowered, openNode, settled, openTop, finished, ran}
-use Rattle.machine.specs.Calls.{Call, opens, run, tell, show, close, fault, openedBy, runBy, shownBy, step, stateAfter, leaves}
+use Rattle.machine.specs.Calls.{Call, opens, run, tell, show, close, fault, openedBy, runBy, shownBy, step}
 use Rattle.machine.specs.Runs.{ran-keeps}
 use Rattle.machine.specs.Trimmed.{trimmed-trim, trimmed-valid}
 use Rattle.machine.specs.Branching.{frees-most}
@@ -244,13 +244,3 @@ step-kept (searching s) (run budget) h = ran-kept budget s h
 step-kept (searching s) tell h = h
 step-kept (searching s) (show l) h = rw (show-state s l (finished s) (s .incumbent)) h
 step-kept (searching s) close h = tt
-
-kept-after : (cs : List Call) (s : State) → KeptState s → KeptState (stateAfter s cs)
-unfolding stateAfter
-kept-after [] s h = h
-kept-after (c ∷ cs) s h = kept-after cs (step s c .state) (step-kept s c h)
-
--- so every list of calls leaves such a state
-pub leaves-kept : (cs : List Call) → KeptState (leaves cs)
-unfolding leaves
-leaves-kept cs = kept-after cs noSearch tt

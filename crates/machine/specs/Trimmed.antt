@@ -1,7 +1,6 @@
 -- A trimmed graph, arrays of 190 places and zero past m, has the same network and is as valid as the graph that was trimmed. So the state
 -- may hold it in place of the graph given at opening, and then holds nothing that counts for nothing. Assumes nothing.
 use mathlib.Core.Path.{_≡_, sym, _∙_, subst}
-use mathlib.Core.Bool.{true≢false}
 use mathlib.Core.Logic.{_↔_}
 use mathlib.Core.List.{List}
 use Prim.Native.Nat.{ℕ, zero, suc, _<_, _≤_}
@@ -10,15 +9,13 @@ use native.Mathlib.Decide.{decLe}
 use lib.ListN.{length, getD, List·getD-eq-default}
 use lib.Seq.{ext-getD}
 use lib.IntN.{pos}
-use Rattle.lists.specs.Bools.{by-cases}
 use Rattle.lists.specs.Rows.{row, row-size, row-at}
 use Rattle.graph.specs.declared.Graph.{Graph}
 use Rattle.graph.specs.Limits.{maxEdges}
 use Rattle.graph.specs.Network.{markOf, place, network}
 use Rattle.graph.specs.Places.{place-at, place-zero, place-past}
-use Rattle.graph.specs.Valid.{Valid, EdgeValid, EdgeAt, SamePair, valid}
+use Rattle.graph.specs.Valid.{Valid, EdgeValid, EdgeAt, SamePair}
 use Rattle.graph.specs.Same.{Clear}
-use Rattle.graph.specs.Meaning.{valid-true, true-valid, not-valid}
 use Rattle.machine.specs.Machine.{trimmed}
 
 -- ---- one array
@@ -148,9 +145,3 @@ valid-trimmed g v = record {
   each = λ k h. subst (λ (P : Type 0). P) (edge-trimmed g (v .few) k h) (v .each k h);
   once = λ j k l h s. v .once j k l h (pair-trimmed g (v .few) j k (omega arith) h .1 s);
 }
-
-pub same-valid : (g : Graph) → valid (trimmed g) ≡ valid g
-same-valid g =
-    by-cases (valid g)
-    (λ e. true-valid (trimmed g) (trimmed-valid g (valid-true g e)) ∙ sym e)
-    (λ e. not-valid (trimmed g) (λ v. true≢false (sym (true-valid g (valid-trimmed g v)) ∙ e)) ∙ sym e)

@@ -11,6 +11,10 @@ use Rattle.integers.specs.Range.{within, InRange}
 use Rattle.graph.specs.declared.Graph.{Graph}
 use Rattle.graph.specs.Limits.{minVertices, maxVertices, maxEdges, maxCost, maxMark}
 
+-- the graph value with these fields, for code that is lent its arrays
+abbrev pub graphOf : ℕ → ℕ → List ℕ → List ℕ → List ℤ → List ℕ → Graph
+graphOf n m a b cost mark = record { n = n; m = m; a = a; b = b; cost = cost; mark = mark }
+
 -- ---- as statements
 
 -- "A leg joins a and b, 1 ≤ a < b ≤ n"; "Its cost is a whole number of minutes over the timetable, −1,000,000 to 1,000,000. Its mark

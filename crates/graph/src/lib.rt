@@ -10,6 +10,7 @@ mod writer;
 pub use bytes::i32_of;
 pub use reader::read;
 pub use valid::check;
+pub use valid::check_parts;
 pub use writer::write;
 
 // Limits. The definitions in specs/Limits.antt state them; every size fact is a law over those.

@@ -3,7 +3,7 @@ ghost use mathlib.Core.Path.{_≡_};
 ghost use Prim.Native.Nat.{_+_, _*_};
 ghost use Rattle.integers.specs.Range.{within};
 ghost use Rattle.graph.specs.Limits.{maxCost};
-ghost use Rattle.graph.specs.Valid.{endsOk, edgeOk, valid};
+ghost use Rattle.graph.specs.Valid.{graphOf, endsOk, edgeOk, valid};
 ghost use Rattle.graph.specs.PairTable.{placeOf};
 use crate::EXCLUDED;
 use crate::Graph;
@@ -53,13 +53,18 @@ fn place_of(x: u8, y: u8) -> usize
     wide(x) * 21 + wide(y)
 }
 
-// Does the graph keep to 'Legs and marks'? What stands past m counts for nothing.
+// Do these parts of a graph keep to 'Legs and marks'? What stands past m counts for nothing.
 // Ruled out: yes for a graph that has a pair twice, however far apart; no for one with the full 190 edges.
-pub fn check(g: Graph) -> bool
-    ensures { λ r. ⌜ r ≡ valid g ⌝ }
+pub fn check_parts<'a>(
+    n: usize,
+    m: usize,
+    a: &'a [u8; 190],
+    b: &'a [u8; 190],
+    cost: &'a [i32; 190],
+    mark: &'a [u8; 190],
+) -> bool
+    ensures { λ r. ⌜ r ≡ valid (graphOf n m (now (a .entry)) (now (b .entry)) (now (cost .entry)) (now (mark .entry))) ⌝ }
 {
-    let n = g.n;
-    let m = g.m;
     if n < MIN_VERTICES {
         return false;
     }
@@ -71,14 +76,22 @@ pub fn check(g: Graph) -> bool
     }
     let mut met = [false; 441];
     for k in 0..m {
-        if !edge_ok(n, g.a[k], g.b[k], g.cost[k], g.mark[k]) {
+        if !edge_ok(n, a[k], b[k], cost[k], mark[k]) {
             return false;
         }
-        let p = place_of(g.a[k], g.b[k]);
+        let p = place_of(a[k], b[k]);
         if met[p] {
             return false;
         }
         met[p] = true;
     }
     true
+}
+
+// Does the graph keep to 'Legs and marks'?
+// Ruled out: as above.
+pub fn check(g: Graph) -> bool
+    ensures { λ r. ⌜ r ≡ valid g ⌝ }
+{
+    check_parts(g.n, g.m, &g.a, &g.b, &g.cost, &g.mark)
 }

@@ -116,7 +116,7 @@ ruleLeaves g d ceiling out =
     leaves (ruleFault g d ceiling (length out)) out
     (ruleWrites (g .m) ceiling out (ruling (network g) (multiplier d) ceiling) (leastTree (network g) (multiplier d)))
 
--- ---- the combined pass of a search: the tree and the rulings from one 1-tree, in arrays by value
+-- ---- the combined pass of a search: the tree and the rulings from one 1-tree, in lent arrays
 
 -- the values of the edges 1 to m, and 0 past them
 unfoldable pub padded : ℕ → (ℕ → ℕ) → List ℕ
@@ -125,21 +125,21 @@ padded m f = row maxEdges (λ k. cond (leb k m) (f k) 0)
 abbrev pub blank : List ℕ
 blank = replicate maxEdges 0
 
--- what a refusal, 'no tree' or 'dead' leaves blank
+-- 'no tree' and 'dead' leave it blank
 abbrev pub passWrites : ℕ → ℤ → (Edges → ℕ → ℕ) → Tree → List ℕ
 passWrites m ceiling f noTree = blank
 passWrites m ceiling f (aTree b t) = cond (ltZ ceiling b) blank (padded m (f t))
 
--- the bytes of the tree call
-unfoldable pub passTree : Graph → List ℤ → ℤ → List ℕ
+-- the bytes of the tree call; "a refusal leaves each lent list .. unchanged"
+unfoldable pub passTree : Graph → List ℤ → ℤ → List ℕ → List ℕ
 unfolding ruleFault
-passTree g d ceiling =
-    leaves (ruleFault g d ceiling (g .m)) blank
+passTree g d ceiling out =
+    leaves (ruleFault g d ceiling (g .m)) out
     (passWrites (g .m) ceiling (λ t k. bit (t k)) (leastTree (network g) (multiplier d)))
 
 -- the bytes of the rule call
-unfoldable pub passRulings : Graph → List ℤ → ℤ → List ℕ
+unfoldable pub passRulings : Graph → List ℤ → ℤ → List ℕ → List ℕ
 unfolding ruleFault
-passRulings g d ceiling =
-    leaves (ruleFault g d ceiling (g .m)) blank
+passRulings g d ceiling out =
+    leaves (ruleFault g d ceiling (g .m)) out
     (passWrites (g .m) ceiling (λ t k. rulingByte (ruling (network g) (multiplier d) ceiling k)) (leastTree (network g) (multiplier d)))

@@ -5,7 +5,6 @@ use mathlib.Core.List.{List, _∷_}
 use Prim.Native.Nat.{ℕ, zero, suc, _<_, _≤_}
 use native.Mathlib.Omega.{arith}
 use lib.Dec.{eqb}
-use lib.IntN.{ℤ}
 use lib.ListN.{getD}
 use borrow.Author.Tests.{ne-eqb}
 use Rattle.lists.specs.Members.{_∈_}
@@ -25,10 +24,6 @@ entry c k = getD (0 ∷ c) k 0
 -- one byte an edge, "1 in, 0 out"
 abbrev pub bytes : List ℕ → Edges
 bytes w k = eqb (entry w k) 1
-
--- the graph value with these fields, for code that is lent some of its arrays
-abbrev pub graphOf : ℕ → ℕ → List ℕ → List ℕ → List ℤ → List ℕ → Graph
-graphOf n m a b cost mark = record { n = n; m = m; a = a; b = b; cost = cost; mark = mark }
 
 -- the edges are the numbers suc k with k < m
 pub edge-of : (m e : ℕ) → e ∈ upTo m → (k : ℕ) × (k < m) × (e ≡ suc k)

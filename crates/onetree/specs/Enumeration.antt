@@ -1,5 +1,5 @@
 -- The least 1-tree and the rulings as values, by going through all sets of edges: total, plain, and computable on small networks. The
--- contracts of the calls and the machine cite these. That they are what the definitions say is shown in Decide.
+-- contracts of the calls and the machine cite these. That they are what the definitions say is shown in Decide, LeastTree and Rulings.
 use mathlib.Core.Bool.{Bool, true, false, not, _&&_, _||_}
 use mathlib.Core.List.{List, [], _∷_, _++_, map}
 use Prim.Native.Nat.{ℕ, zero, suc, _+_}

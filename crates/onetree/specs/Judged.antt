@@ -1,20 +1,21 @@
 -- What is known of the least 1-tree and a ceiling once the rulings are worked out. Assumes nothing.
 use mathlib.Core.Path.{_≡_, _∙_, sym, ap, subst}
-use mathlib.Core.Bool.{Bool, true, false}
+use mathlib.Core.Bool.{Bool, true, false, true≢false}
 use mathlib.Core.List.{List}
 use Prim.Native.Nat.{ℕ, suc, _<_, _≤_}
-use lib.ListN.{getD}
+use lib.ListN.{length, getD}
 use lib.IntN.{ℤ}
 use lib.Signed.{ltZ, mag}
 use Rattle.lists.specs.Bools.{bit}
 use Rattle.integers.specs.Parts.{up, dn}
 use Rattle.graph.specs.declared.Graph.{Graph}
+use Rattle.graph.specs.Limits.{maxEdges}
 use Rattle.graph.specs.Network.{network}
 use Rattle.onetree.specs.OneTree.{Edges}
 use Rattle.onetree.specs.Inputs.{multiplier}
 use Rattle.onetree.specs.Enumeration.{Tree, noTree, aTree, leastTree, ruling}
 use Rattle.onetree.specs.LeastTree.{tree-found, tree-missing}
-use Rattle.onetree.specs.Answers.{rulingByte}
+use Rattle.onetree.specs.Answers.{rulingByte, blank}
 use Rattle.onetree.specs.Arrays.{bytes, in-edge}
 use Rattle.onetree.specs.Found.{FoundIs}
 use Rattle.onetree.specs.TreeCall.{byte-is}
@@ -42,11 +43,21 @@ pub record Within (g : Graph) (d : List ℤ) (ceiling b : ℤ) (tree rulings : L
   pub chosen : (k : ℕ) → k < g .m → getD tree k 0 ≡ bit (edges (suc k))
   pub ruled : (k : ℕ) → k < g .m → getD rulings k 0 ≡ rulingByte (ruling (network g) (multiplier d) ceiling (suc k))
   pub past : (k : ℕ) → g .m ≤ k → (getD tree k 0 ≡ 0) × (getD rulings k 0 ≡ 0)
+  pub long : (length tree ≡ maxEdges) × (length rulings ≡ maxEdges)
 
+-- any says whether one is within the ceiling; else both lists are blank
 pub record JudgedIs (g : Graph) (d : List ℤ) (ceiling : ℤ) (any : Bool) (b : ℤ) (tree rulings : List ℕ) : Type 0 where
-  pub none : any ≡ false → Over ceiling (leastTree (network g) (multiplier d))
+  pub none : any ≡ false → Over ceiling (leastTree (network g) (multiplier d)) × (tree ≡ blank) × (rulings ≡ blank)
   pub some : any ≡ true → Within g d ceiling b tree rulings
   pub fits : any ≡ true → mag b < 9223372036854775808
+
+pub judged-nothing : (g : Graph) (d : List ℤ) (ceiling : ℤ) (any : Bool) (b : ℤ) (tree rulings : List ℕ) → any ≡ false
+    → Over ceiling (leastTree (network g) (multiplier d)) → tree ≡ blank → rulings ≡ blank → JudgedIs g d ceiling any b tree rulings
+judged-nothing g d ceiling any b tree rulings n o t r = record {
+  none = λ e. (o, t, r);
+  some = λ e. absurd (true≢false (sym e ∙ n));
+  fits = λ e. absurd (true≢false (sym e ∙ n));
+}
 
 module _ (g : Graph) (d : List ℤ) (ceiling : ℤ) (any : Bool) (b : ℤ) (w c : List ℕ) (f : FoundIs g d any b w c) where
   pub judged-missing : any ≡ false → Over ceiling (leastTree (network g) (multiplier d))
@@ -62,8 +73,8 @@ module _ (g : Graph) (d : List ℤ) (ceiling : ℤ) (any : Bool) (b : ℤ) (w c 
   judged-over e l = rw (found e .1) l
 
   pub judged-within : any ≡ true → ltZ ceiling b ≡ false → (slack : ℕ) → SlackIs ceiling b slack → slack ≤ maxSlack → (res : List ℕ)
-      → RuledBy g w c slack res → Within g d ceiling b w res
-  judged-within e l slack s small res r = record {
+      → RuledBy g w c slack res → length w ≡ maxEdges → length res ≡ maxEdges → Within g d ceiling b w res
+  judged-within e l slack s small res r lw lr = record {
     edges = found e .0;
     least = found e .1;
     under = l;
@@ -75,6 +86,7 @@ module _ (g : Graph) (d : List ℤ) (ceiling : ℤ) (any : Bool) (b : ℤ) (w c 
       small = small;
     });
     past = λ k h. (f .past k h, r .past k h);
+    long = (lw, lr);
   }
 
 pub found-fits : (g : Graph) (d : List ℤ) (any : Bool) (b : ℤ) (w c : List ℕ) → FoundIs g d any b w c → BoundFits b

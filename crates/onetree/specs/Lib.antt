@@ -7,6 +7,7 @@ pub mod Subsets
 pub mod Decide
 pub mod LeastTree
 pub mod Rulings
+pub mod Spans
 pub mod Grid
 pub mod TreeTable
 pub mod Visiting

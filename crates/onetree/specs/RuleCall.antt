@@ -97,12 +97,12 @@ module _ (g : Graph) (d : List ℤ) (ceiling : ℤ) (out : List ℕ) where
         same : row (length out) (entry rulings) ≡ row (g .m) (λ k. rulingByte (ruling (network g) (multiplier d) ceiling k))
         same = rw (rule-no-fault g d ceiling (length out) e .0 .lent) (row-same (g .m) (entry rulings) _ (h .ruled))
 
--- ---- the combined pass: its reply r, and its two lists
+-- ---- the combined pass: its reply r, and its two lists, before (t, s) and after
 
-pub record PassIs (g : Graph) (d : List ℤ) (ceiling : ℤ) (r : Reply) (tree rulings : List ℕ) : Type 0 where
+pub record PassIs (g : Graph) (d : List ℤ) (ceiling : ℤ) (t s : List ℕ) (r : Reply) (tree rulings : List ℕ) : Type 0 where
   pub reply : r ≡ ruleReply g d ceiling (g .m)
-  pub chosen : tree ≡ passTree g d ceiling
-  pub ruled : rulings ≡ passRulings g d ceiling
+  pub chosen : tree ≡ passTree g d ceiling t
+  pub ruled : rulings ≡ passRulings g d ceiling s
 
 -- a list of 190 that has f at the edges and 0 past them
 padded-is : (m : ℕ) (f : ℕ → ℕ) (l : List ℕ) → length l ≡ maxEdges → ((k : ℕ) → k < m → getD l k 0 ≡ f (suc k))
@@ -115,17 +115,17 @@ padded-is m f l long at past =
     go j (yes h) = rw (le-leb (suc j) m h) (at j h)
     go j (no h) = rw (lt-leb (suc j) m (omega arith)) (past j (omega arith))
 
-module _ (g : Graph) (d : List ℤ) (ceiling : ℤ) where
-  pub pass-refused : (f : ℕ) → f ≡ ruleFault g d ceiling (g .m) → f ≢ 0 → PassIs g d ceiling (refused f 0) blank blank
+module _ (g : Graph) (d : List ℤ) (ceiling : ℤ) (t s : List ℕ) where
+  pub pass-refused : (f : ℕ) → f ≡ ruleFault g d ceiling (g .m) → f ≢ 0 → PassIs g d ceiling t s (refused f 0) t s
   unfolding ruleReply passTree passRulings
   pass-refused f e n = rw e (record {
     reply = sym (fault-replies (ruleFault g d ceiling (g .m)) _ (λ z. n (e ∙ z)));
-    chosen = sym (fault-leaves (ruleFault g d ceiling (g .m)) blank _ (λ z. n (e ∙ z)));
-    ruled = sym (fault-leaves (ruleFault g d ceiling (g .m)) blank _ (λ z. n (e ∙ z)));
+    chosen = sym (fault-leaves (ruleFault g d ceiling (g .m)) t _ (λ z. n (e ∙ z)));
+    ruled = sym (fault-leaves (ruleFault g d ceiling (g .m)) s _ (λ z. n (e ∙ z)));
   })
 
   module _ (e : ruleFault g d ceiling (g .m) ≡ 0) where
-    pub pass-none : Over ceiling (leastTree (network g) (multiplier d)) → PassIs g d ceiling none blank blank
+    pub pass-none : Over ceiling (leastTree (network g) (multiplier d)) → PassIs g d ceiling t s none blank blank
     unfolding ruleReply passTree passRulings
     pass-none h = record {
       reply = rw e (sym (over-says ceiling (leastTree (network g) (multiplier d)) h));
@@ -134,13 +134,12 @@ module _ (g : Graph) (d : List ℤ) (ceiling : ℤ) where
           (leastTree (network g) (multiplier d)) h));
     }
 
-    pub pass-some : (b : ℤ) (tree rulings : List ℕ) → Within g d ceiling b tree rulings → length tree ≡ maxEdges
-        → length rulings ≡ maxEdges
-        → PassIs g d ceiling (bounded b) tree rulings
+    pub pass-some : (b : ℤ) (tree rulings : List ℕ) → Within g d ceiling b tree rulings
+        → PassIs g d ceiling t s (bounded b) tree rulings
     unfolding ruleReply passTree passRulings
-    pass-some b tree rulings h lt lr = record {
+    pass-some b tree rulings h = record {
       reply = rw (e, h .least, h .under);
-      chosen = rw (e, h .least, h .under) (padded-is (g .m) (λ k. bit (h .edges k)) tree lt (h .chosen) (λ k l. h .past k l .0));
-      ruled = rw (e, h .least, h .under) (padded-is (g .m) (λ k. rulingByte (ruling (network g) (multiplier d) ceiling k)) rulings lr
-          (h .ruled) (λ k l. h .past k l .1));
+      chosen = rw (e, h .least, h .under) (padded-is (g .m) (λ k. bit (h .edges k)) tree (h .long .0) (h .chosen) (λ k l. h .past k l .0));
+      ruled = rw (e, h .least, h .under) (padded-is (g .m) (λ k. rulingByte (ruling (network g) (multiplier d) ceiling k)) rulings
+          (h .long .1) (h .ruled) (λ k l. h .past k l .1));
     }

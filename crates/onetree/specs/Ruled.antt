@@ -16,14 +16,13 @@ use Rattle.lists.specs.Members.{_∈_}
 use Rattle.graph.specs.declared.Graph.{Graph}
 use Rattle.graph.specs.Network.{network}
 use Rattle.graph.specs.Places.{network-a, network-b}
-use Rattle.graph.specs.Valid as value
 use Rattle.onetree.specs.Enumeration.{ruling}
 use Rattle.onetree.specs.Rulings.{rules-required, rules-excluded}
 use Rattle.onetree.specs.Inputs.{multiplier}
 use Rattle.onetree.specs.Answers.{rulingByte}
 use Rattle.onetree.specs.Arrays.{of-edge, mark-required, mark-excluded}
 use Rattle.onetree.specs.Extremes.{Least}
-use Rattle.onetree.specs.Filled.{Filled}
+use Rattle.onetree.specs.Filled.{Updated}
 use Rattle.onetree.specs.Visiting.{edgeAt, parentAt, depthAt}
 use Rattle.onetree.specs.Rooted.{Joins}
 use Rattle.onetree.specs.RootedTree.{edgeOver}
@@ -124,5 +123,9 @@ module _ (g : Graph) (w c : List ℕ) (r : Rooting) (weight : List ℕ) (dearest
         go (inr (inr e)) = rw e (sym (ap rulingByte (rules-excluded (network g) (multiplier d) z (suc k) mk (mark-excluded g k hk e))))
 
   -- THE RULINGS
-  pub ruled-by : (res : List ℕ) → Filled (finalAt (g .a) (g .b) (g .mark) w c slack (r .depth) rep out near) 0 res (g .m) → RuledBy g w c slack res
-  ruled-by res f = record { each = λ d z j k hk. f .done k (omega arith) hk ∙ final d z j k hk; past = f .rest }
+  pub ruled-by : (res : List ℕ) → Updated (finalAt (g .a) (g .b) (g .mark) w c slack (r .depth) rep out near) out res (g .m)
+      → RuledBy g w c slack res
+  ruled-by res f = record {
+    each = λ d z j k hk. f .done k hk ∙ final d z j k hk;
+    past = λ k l. f .rest k l ∙ h .rest k l;
+  }

@@ -33,6 +33,10 @@ pub record Inner (g : Graph) (w : List ℕ) (k : ℕ) : Type 0 where
 abbrev pub End : Graph → ℕ → ℕ → Type 0
 End g k x = (getD (g .a) k 0 ≡ x) ⊎ (getD (g .b) k 0 ≡ x)
 
+-- a table with nothing in it
+abbrev pub emptyTable : List (List ℕ)
+emptyTable = replicate 20 (replicate 20 0)
+
 -- what the list of x has at place i
 abbrev pub listed : List (List ℕ) → ℕ → ℕ → ℕ
 listed t x i = cell t (x - 1) i
@@ -151,7 +155,7 @@ pub record Table (g : Graph) (w : List ℕ) (t : List (List ℕ)) (count : List 
   pub all : (k : ℕ) → k < n → Inner g w k → (x : ℕ) → End g k x → (i : ℕ) × (listed t x i ≡ suc k)
   pub few : (x : ℕ) → getD count x 0 ≤ taken g w n
 
-pub table-none : (g : Graph) (w : List ℕ) → Table g w (replicate 20 (replicate 20 0)) (replicate 21 0) 0
+pub table-none : (g : Graph) (w : List ℕ) → Table g w emptyTable (replicate 21 0) 0
 table-none g w = record {
   packed = record {
     square = zero-square 20;

@@ -14,7 +14,7 @@ use borrow.Author.Tests.{eqb-true, eqb-false, eq-eqb, ne-eqb, lt-ltb, le-ltb}
 use Rattle.lists.specs.Members.{_∈_}
 use Rattle.lists.specs.Numbers.{upTo}
 use Rattle.graph.specs.declared.Graph.{Graph}
-use Rattle.graph.specs.Network.{Network, network}
+use Rattle.graph.specs.Network.{network}
 use Rattle.graph.specs.Valid as value
 use Rattle.onetree.specs.OneTree as one
 use Rattle.onetree.specs.OneTree.{bound, Barred, Forced}
@@ -83,9 +83,6 @@ pub record Judgement (g : Graph) (w c : List ℕ) (slack : ℕ) (d : List ℤ) (
 
 module _ (g : Graph) (v : value.Valid g) (w c : List ℕ) (r : Rooting) (t : RootedIn g w r) (slack : ℕ) (d : List ℤ) (z : ℤ)
     (j : Judgement g w c slack d z) (k : ℕ) (hk : k < g .m) (free : markAt g k ≡ 0) where
-  G : Network
-  G = network g
-
   mk : suc k ∈ upTo (g .m)
   mk = of-edge (g .m) k hk
 

@@ -1,42 +1,48 @@
 // The least 1-tree against a ceiling: whether any is within it, and then the rulings.
 ghost use mathlib.Core.Path.{_≡_};
 ghost use mathlib.Core.Bool.{false};
-ghost use Prim.Native.Nat.{_+_, _<_, _≤_};
+ghost use Prim.Native.Nat.{_≤_};
 ghost use lib.ListN.{length};
 ghost use lib.Signed.{ltZ};
 ghost use Rattle.integers.specs.Range.{InRange};
-ghost use Rattle.graph.specs.Limits.{maxEdges, maxCeiling};
-ghost use Rattle.graph.specs.Valid.{Valid};
+ghost use Rattle.graph.specs.Limits.{maxCeiling};
+ghost use Rattle.graph.specs.Valid.{Valid, graphOf};
 ghost use Rattle.onetree.specs.Multipliers.{Ranged};
-ghost use Rattle.onetree.specs.Answers.{ruleFault};
-ghost use Rattle.onetree.specs.Looks.{Looks};
+ghost use Rattle.onetree.specs.Answers.{ruleFault, blank};
+ghost use Rattle.onetree.specs.Looks.{Handed};
 ghost use Rattle.onetree.specs.Slack.{SlackIs};
 ghost use Rattle.onetree.specs.Judged.{maxSlack, BoundFits, JudgedIs};
 use crate::find;
 use crate::refusals::ceiling_fits;
 use crate::refusals::input_fault;
 use crate::rulings::rulings;
-use graph::Graph;
 
-// The least 1-tree and the rulings, one byte an edge; or that no 1-tree is within the ceiling. And the order in which the edges were looked
-// at; or live is 0.
+// Whether a 1-tree is within the ceiling, and then the bound of the least and how many edges were looked at.
 pub(crate) struct Judged {
     pub any: bool,
     pub bound: i64,
-    pub tree: [u8; 190],
-    pub rulings: [u8; 190],
-    pub order: [u8; 190],
     pub live: usize,
 }
 
 // The first fault of a rule call's input; 0 where there is none.
-pub(crate) fn rule_fault(g: Graph, multipliers: &[i32], ceiling: i64, len: usize) -> u32
-    ensures { λ r. ⌜ r ≡ ruleFault g (now (multipliers .entry)) ceiling len ⌝ }
+pub(crate) fn rule_fault<'a>(
+    n: usize,
+    m: usize,
+    a: &'a [u8; 190],
+    b: &'a [u8; 190],
+    cost: &'a [i32; 190],
+    mark: &'a [u8; 190],
+    multipliers: &'a [i32],
+    ceiling: i64,
+    len: usize,
+) -> u32
+    ensures { λ r. ⌜ r ≡ ruleFault (graphOf n m (now (a .entry)) (now (b .entry)) (now (cost .entry)) (now (mark .entry)))
+        (now (multipliers .entry)) ceiling len ⌝ }
 {
     if ceiling_fits(ceiling) {
-        return input_fault(g, multipliers, len, 0);
+        return input_fault(n, m, a, b, cost, mark, multipliers, len, 0);
     }
-    input_fault(g, multipliers, len, 13)
+    input_fault(n, m, a, b, cost, mark, multipliers, len, 13)
 }
 
 fn below(x: i64, y: i64) -> bool
@@ -53,44 +59,66 @@ fn slack_of(ceiling: i64, bound: i64) -> u32
     (ceiling - bound) as u32
 }
 
-fn nothing() -> Judged
-    ensures { λ r. ⌜ (r .any ≡ false) × (r .live ≡ 0) ⌝ }
+// No 1-tree is within the ceiling: what was written of one is wiped out.
+fn nothing(tree: &mut [u8; 190], order: &mut [u8; 190]) -> Judged
+    ensures { λ r. ⌜ (r .any ≡ false) × (r .live ≡ 0) × (now (tree .exit) ≡ blank) × (now (order .exit) ≡ blank) ⌝ }
 {
+    *tree = [0; 190];
+    *order = [0; 190];
     Judged {
         any: false,
         bound: 0,
-        tree: [0; 190],
-        rulings: [0; 190],
-        order: [0; 190],
         live: 0,
     }
 }
 
-// One tree, and from it everything.
-pub(crate) fn judge(g: Graph, multipliers: &[i32], ceiling: i64, hint: &[u8]) -> Judged
-    requires { ⌜ Valid g × Ranged (now multipliers) × (length (now multipliers) ≡ g .n) × InRange maxCeiling ceiling ⌝ }
-    ensures { λ r. ⌜ JudgedIs g (now (multipliers .entry)) ceiling (r .any) (r .bound) (r .tree) (r .rulings)
-        × (r .live ≤ maxEdges) × (0 < r .live → Looks (g .mark) (g .m) (r .order) (r .live)) ⌝ }
+// One tree, and from it everything, into blank arrays; they stay blank where no 1-tree is within the ceiling.
+pub(crate) fn judge<'a>(
+    n: usize,
+    m: usize,
+    a: &'a [u8; 190],
+    b: &'a [u8; 190],
+    cost: &'a [i32; 190],
+    mark: &'a [u8; 190],
+    multipliers: &'a [i32],
+    ceiling: i64,
+    hint: &'a [u8],
+    tree: &mut [u8; 190],
+    res: &mut [u8; 190],
+    order: &mut [u8; 190],
+) -> Judged
+    requires { ⌜ Valid (graphOf n m (now a) (now b) (now cost) (now mark)) × Ranged (now multipliers) × (length (now multipliers) ≡ n)
+        × InRange maxCeiling ceiling × (now tree ≡ blank) × (now res ≡ blank) × (now order ≡ blank) ⌝ }
+    ensures { λ r. ⌜ JudgedIs (graphOf n m (now (a .entry)) (now (b .entry)) (now (cost .entry)) (now (mark .entry)))
+        (now (multipliers .entry)) ceiling (r .any) (r .bound) (now (tree .exit)) (now (res .exit))
+        × Handed (r .any) (now (mark .entry)) m (now (order .exit)) (r .live) ⌝ }
 {
-    let f = find(g, multipliers, hint);
+    let mut c = [0u32; 190];
+    let f = find(
+        n,
+        m,
+        a,
+        b,
+        cost,
+        mark,
+        multipliers,
+        hint,
+        tree,
+        &mut c,
+        order,
+    );
     if !f.any {
-        return nothing();
+        return nothing(tree, order);
     }
-    let b = f.bound;
-    if below(ceiling, b) {
-        return nothing();
+    let lowest = f.bound;
+    if below(ceiling, lowest) {
+        return nothing(tree, order);
     }
-    let slack = slack_of(ceiling, b);
-    let w = f.within;
-    let c = f.charge;
-    let order = f.order;
-    let r = rulings(g, w, c, slack);
+    let slack = slack_of(ceiling, lowest);
+    rulings(n, m, a, b, mark, tree, &c, slack, res);
     Judged {
         any: true,
-        bound: b,
-        tree: w,
-        rulings: r,
-        order: order,
+        bound: lowest,
         live: f.live,
     }
 }

@@ -7,6 +7,7 @@ ghost use Rattle.lists.specs.Bools.{Says};
 ghost use Rattle.graph.specs.Limits.{maxEdges};
 ghost use Rattle.graph.specs.Network.{Network};
 ghost use Rattle.spanning.specs.Walks.{relabel};
+ghost use Rattle.onetree.specs.Answers.{blank};
 ghost use Rattle.onetree.specs.Keys.{queued};
 ghost use Rattle.onetree.specs.Growth.{Grew};
 ghost use Rattle.onetree.specs.Turn.{Joins, Reads};
@@ -63,7 +64,7 @@ fn join(l: &mut [u8; 21], x: u8, y: u8)
     }
 }
 
-// One byte an edge, into w.
+// One byte an edge, into w, which is blank.
 pub(crate) fn grow<'a>(
     a: &'a [u8; 190],
     b: &'a [u8; 190],
@@ -71,9 +72,9 @@ pub(crate) fn grow<'a>(
     f: usize,
     w: &mut [u8; 190],
 ) -> Grown
-    requires { ⌜ (f ≤ maxEdges) × ((i : ℕ) → i < f → Joins (now a) (now b) (getD (now keys) i 0 % 256))
-        × (length (now w) ≡ maxEdges) × ((k : ℕ) → getD (now w) k 0 ≡ 0) ⌝ }
-    ensures { λ r. ⌜ (r .far ≤ maxEdges) × ((G : Network) → Reads G (now (a .entry)) (now (b .entry)) (now (keys .entry)) f
+    requires { ⌜ (f ≤ maxEdges) × ((i : ℕ) → i < f → Joins (now a) (now b) (getD (now keys) i 0 % 256)) × (now w ≡ blank) ⌝ }
+    ensures { λ r. ⌜ (r .far ≤ maxEdges) × (length (now (w .exit)) ≡ maxEdges)
+        × ((G : Network) → Reads G (now (a .entry)) (now (b .entry)) (now (keys .entry)) f
         → Grew G (queued (now (keys .entry)) f) (now (w .exit)) (r .near) (r .far)) ⌝ }
 {
     let mut l = labels();

@@ -4,12 +4,22 @@ ghost use Prim.Native.Nat.{_<_, _≤_};
 ghost use lib.ListN.{length};
 ghost use Rattle.lists.specs.Rows.{row};
 ghost use Rattle.graph.specs.Limits.{maxEdges};
-ghost use Rattle.graph.specs.Valid.{Valid};
+ghost use Rattle.graph.specs.Valid.{Valid, graphOf};
 ghost use Rattle.onetree.specs.Arrays.{entry};
 ghost use Rattle.onetree.specs.Multipliers.{Ranged};
 ghost use Rattle.onetree.specs.Found.{FoundIs};
-ghost use Rattle.onetree.specs.Looks.{Looks};
-ghost use Rattle.onetree.specs.Answers.{treeMeaning, treeReply, treeLeaves, ruleMeaning, ruleReply, ruleLeaves, passTree, passRulings};
+ghost use Rattle.onetree.specs.Looks.{Hinted, HintAfter};
+ghost use Rattle.onetree.specs.Answers.{
+  treeMeaning,
+  treeReply,
+  treeLeaves,
+  ruleMeaning,
+  ruleReply,
+  ruleLeaves,
+  blank,
+  passTree,
+  passRulings,
+};
 
 mod charges;
 mod climb;
@@ -24,6 +34,11 @@ mod sort;
 use graph::Graph;
 pub use refusals::ceiling_fits;
 pub use refusals::multipliers_fit;
+pub use rulings::BAR;
+pub use rulings::FORCE;
+pub use rulings::KEEP;
+pub use rulings::WAS_EXCLUDED;
+pub use rulings::WAS_REQUIRED;
 
 // Limits, as specs/Limits.antt of crate graph has them.
 pub const MAX_MULTIPLIER: i32 = 1_000_000;
@@ -44,23 +59,16 @@ pub enum RuleAnswer {
     Refused(u32, u64),
 }
 
-// The tree and the rulings from one 1-tree, for a search: a byte for each edge and 0 past them, all 0 where the answer has no bound. And in
-// the first `live` bytes of `order` the places of the edges that are not excluded, as they were looked at; or live is 0.
+// What a pass answers, and in how many bytes of its order it hands on a hint.
 pub struct Passed {
     pub answer: RuleAnswer,
-    pub tree: [u8; 190],
-    pub rulings: [u8; 190],
-    pub order: [u8; 190],
     pub live: usize,
 }
 
-// The least 1-tree, one byte an edge, and its bound, where there is any; and the charges that it was found by, and the order.
+// Whether there is a 1-tree, and then the bound of the least; and how many edges were looked at.
 pub(crate) struct Found {
     pub any: bool,
     pub bound: i64,
-    pub within: [u8; 190],
-    pub charge: [u32; 190],
-    pub order: [u8; 190],
     pub live: usize,
 }
 
@@ -70,40 +78,45 @@ pub(crate) fn wide(x: u8) -> usize
     x as usize
 }
 
-pub(crate) fn find(g: Graph, multipliers: &[i32], hint: &[u8]) -> Found
-    requires { ⌜ Valid g × Ranged (now multipliers) × (length (now multipliers) ≡ g .n) ⌝ }
-    ensures { λ r. ⌜ FoundIs g (now (multipliers .entry)) (r .any) (r .bound) (r .within) (r .charge)
-        × Looks (g .mark) (g .m) (r .order) (r .live) ⌝ }
+// The least 1-tree, one byte an edge, into w, and the order in which edges were looked at, both blank before; and the charges into c.
+pub(crate) fn find<'a>(
+    n: usize,
+    m: usize,
+    a: &'a [u8; 190],
+    b: &'a [u8; 190],
+    cost: &'a [i32; 190],
+    mark: &'a [u8; 190],
+    multipliers: &'a [i32],
+    hint: &'a [u8],
+    w: &mut [u8; 190],
+    c: &mut [u32; 190],
+    order: &mut [u8; 190],
+) -> Found
+    requires { ⌜ Valid (graphOf n m (now a) (now b) (now cost) (now mark)) × Ranged (now multipliers) × (length (now multipliers) ≡ n)
+        × (now w ≡ blank) × (length (now c) ≡ maxEdges) × (now order ≡ blank) ⌝ }
+    ensures { λ r. ⌜ FoundIs (graphOf n m (now (a .entry)) (now (b .entry)) (now (cost .entry)) (now (mark .entry)))
+        (now (multipliers .entry)) (r .any) (r .bound) (now (w .exit)) (now (c .exit))
+        × (length (now (w .exit)) ≡ maxEdges) × Hinted (now (mark .entry)) m (now (order .exit)) (r .live) ⌝ }
 {
-    let a = g.a;
-    let b = g.b;
-    let cost = g.cost;
-    let mark = g.mark;
-    let mut c = [0u32; 190];
-    charges::charges(&a, &b, &cost, g.m, multipliers, &mut c);
+    charges::charges(a, b, cost, m, multipliers, c);
     let mut ks = [0u32; 190];
-    let f = order::order(&mark, g.m, &c, hint, &mut ks);
-    let mut order = [0u8; 190];
-    order::places(&ks, f, &mut order);
-    let mut w = [0u8; 190];
-    let t = kruskal::grow(&a, &b, &ks, f, &mut w);
-    let any = kruskal::whole(&mark, g.n, g.m, &w, t.near, t.far);
-    let sum = charges::weigh(&c, &w, g.m);
-    let lowest = charges::bound(sum, g.n, charges::total(multipliers));
+    let f = order::order(mark, m, c, hint, &mut ks);
+    order::places(&ks, f, order);
+    let t = kruskal::grow(a, b, &ks, f, w);
+    let any = kruskal::whole(mark, n, m, w, t.near, t.far);
+    let sum = charges::weigh(c, w, m);
+    let lowest = charges::bound(sum, n, charges::total(multipliers));
     Found {
         any: any,
         bound: lowest,
-        within: w,
-        charge: c,
-        order: order,
         live: f,
     }
 }
 
 // A byte for each edge, into the lent list.
-pub(crate) fn write(from: [u8; 190], out: &mut [u8])
+pub(crate) fn write(from: &[u8; 190], out: &mut [u8])
     requires { ⌜ length (now out) ≤ maxEdges ⌝ }
-    ensures { λ _. ⌜ now (out .exit) ≡ row (length (now (out .entry))) (entry from) ⌝ }
+    ensures { λ _. ⌜ now (out .exit) ≡ row (length (now (out .entry))) (entry (now (from .entry))) ⌝ }
 {
     let mut k = 0;
     while k < out.len() {
@@ -118,16 +131,40 @@ pub fn tree(g: Graph, multipliers: &[i32], out: &mut [u8]) -> TreeAnswer
     ensures { λ r. ⌜ (treeMeaning r ≡ treeReply g (now (multipliers .entry)) (length (now (out .entry))))
         × (now (out .exit) ≡ treeLeaves g (now (multipliers .entry)) (now (out .entry))) ⌝ }
 {
-    let fault = refusals::input_fault(g, multipliers, out.len(), 0);
+    let fault = refusals::input_fault(
+        g.n,
+        g.m,
+        &g.a,
+        &g.b,
+        &g.cost,
+        &g.mark,
+        multipliers,
+        out.len(),
+        0,
+    );
     if fault != 0 {
         return TreeAnswer::Refused(fault, 0);
     }
-    let f = find(g, multipliers, &[]);
+    let mut w = [0u8; 190];
+    let mut c = [0u32; 190];
+    let mut order = [0u8; 190];
+    let f = find(
+        g.n,
+        g.m,
+        &g.a,
+        &g.b,
+        &g.cost,
+        &g.mark,
+        multipliers,
+        &[],
+        &mut w,
+        &mut c,
+        &mut order,
+    );
     if !f.any {
         return TreeAnswer::NoTree;
     }
-    let w = f.within;
-    write(w, out);
+    write(&w, out);
     TreeAnswer::Bound(f.bound)
 }
 
@@ -137,56 +174,105 @@ pub fn rule(g: Graph, multipliers: &[i32], ceiling: i64, out: &mut [u8]) -> Rule
     ensures { λ r. ⌜ (ruleMeaning r ≡ ruleReply g (now (multipliers .entry)) ceiling (length (now (out .entry))))
         × (now (out .exit) ≡ ruleLeaves g (now (multipliers .entry)) ceiling (now (out .entry))) ⌝ }
 {
-    let fault = judge::rule_fault(g, multipliers, ceiling, out.len());
+    let fault = judge::rule_fault(
+        g.n,
+        g.m,
+        &g.a,
+        &g.b,
+        &g.cost,
+        &g.mark,
+        multipliers,
+        ceiling,
+        out.len(),
+    );
     if fault != 0 {
         return RuleAnswer::Refused(fault, 0);
     }
-    let j = judge::judge(g, multipliers, ceiling, &[]);
+    let mut w = [0u8; 190];
+    let mut r = [0u8; 190];
+    let mut order = [0u8; 190];
+    let j = judge::judge(
+        g.n,
+        g.m,
+        &g.a,
+        &g.b,
+        &g.cost,
+        &g.mark,
+        multipliers,
+        ceiling,
+        &[],
+        &mut w,
+        &mut r,
+        &mut order,
+    );
     if !j.any {
         return RuleAnswer::Infeasible;
     }
-    let r = j.rulings;
-    write(r, out);
+    write(&r, out);
     RuleAnswer::Bound(j.bound)
 }
 
-// What the tree call and the rule call say, from one tree. hint: an order to start sorting from; whatever it holds, the answers are the
-// same.
-// Ruled out: a byte of either list where the answer has no bound, or past the edges.
-pub fn pass(g: Graph, multipliers: &[i32], ceiling: i64, hint: &[u8]) -> Passed
-    ensures { λ r. ⌜ (ruleMeaning (r .answer) ≡ ruleReply g (now (multipliers .entry)) ceiling (g .m))
-        × (r .tree ≡ passTree g (now (multipliers .entry)) ceiling)
-        × (r .rulings ≡ passRulings g (now (multipliers .entry)) ceiling)
-        × (r .live ≤ maxEdges) × (0 < r .live → Looks (g .mark) (g .m) (r .order) (r .live)) ⌝ }
+// What the tree call and the rule call say, from one tree, for a search that lends the parts of a graph: a byte for each edge and 0 past
+// them in `tree` and `rulings`, all 0 where no 1-tree is within the ceiling. hint: an order to start sorting from; whatever it holds, the answers
+// are the same. `order` then has such a hint for the next pass.
+// Ruled out: a byte of either list where no 1-tree is within the ceiling, or past the edges; a refusal that changes a byte.
+pub fn pass<'a>(
+    n: usize,
+    m: usize,
+    a: &'a [u8; 190],
+    b: &'a [u8; 190],
+    cost: &'a [i32; 190],
+    mark: &'a [u8; 190],
+    multipliers: &'a [i32],
+    ceiling: i64,
+    hint: &'a [u8],
+    tree: &mut [u8; 190],
+    rulings: &mut [u8; 190],
+    order: &mut [u8; 190],
+) -> Passed
+    ensures { λ r. ⌜ (ruleMeaning (r .answer)
+        ≡ ruleReply (graphOf n m (now (a .entry)) (now (b .entry)) (now (cost .entry)) (now (mark .entry))) (now (multipliers .entry))
+        ceiling m)
+        × (now (tree .exit)
+        ≡ passTree (graphOf n m (now (a .entry)) (now (b .entry)) (now (cost .entry)) (now (mark .entry))) (now (multipliers .entry))
+        ceiling (now (tree .entry)))
+        × (now (rulings .exit)
+        ≡ passRulings (graphOf n m (now (a .entry)) (now (b .entry)) (now (cost .entry)) (now (mark .entry))) (now (multipliers .entry))
+        ceiling (now (rulings .entry)))
+        × HintAfter (ruleMeaning (r .answer)) (now (mark .entry)) m (now (order .entry)) (now (order .exit)) (r .live) ⌝ }
 {
-    let fault = judge::rule_fault(g, multipliers, ceiling, g.m);
+    let fault = judge::rule_fault(n, m, a, b, cost, mark, multipliers, ceiling, m);
     if fault != 0 {
         return Passed {
             answer: RuleAnswer::Refused(fault, 0),
-            tree: [0; 190],
-            rulings: [0; 190],
-            order: [0; 190],
             live: 0,
         };
     }
-    let j = judge::judge(g, multipliers, ceiling, hint);
+    *tree = [0; 190];
+    *rulings = [0; 190];
+    *order = [0; 190];
+    let j = judge::judge(
+        n,
+        m,
+        a,
+        b,
+        cost,
+        mark,
+        multipliers,
+        ceiling,
+        hint,
+        tree,
+        rulings,
+        order,
+    );
     if !j.any {
         return Passed {
             answer: RuleAnswer::Infeasible,
-            tree: [0; 190],
-            rulings: [0; 190],
-            order: [0; 190],
             live: 0,
         };
     }
-    let tree = j.tree;
-    let order = j.order;
-    let rulings = j.rulings;
     Passed {
         answer: RuleAnswer::Bound(j.bound),
-        tree: tree,
-        rulings: rulings,
-        order: order,
         live: j.live,
     }
 }

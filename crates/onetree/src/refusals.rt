@@ -4,11 +4,11 @@ ghost use mathlib.Core.Bool.{_&&_};
 ghost use lib.Dec.{eqb};
 ghost use Rattle.integers.specs.Range.{within};
 ghost use Rattle.graph.specs.Limits.{maxMultiplier};
+ghost use Rattle.graph.specs.Valid.{graphOf};
 ghost use Rattle.onetree.specs.Inputs.{multipliersFit, ceilingFits};
 ghost use Rattle.onetree.specs.Answers.{inputFault};
 use crate::MAX_CEILING;
 use crate::MAX_MULTIPLIER;
-use graph::Graph;
 
 fn multiplier_ok(x: i32) -> bool
     ensures { λ r. ⌜ r ≡ within maxMultiplier x ⌝ }
@@ -61,13 +61,24 @@ fn lengths_fit(n: usize, m: usize, multipliers: usize, len: usize) -> bool
 }
 
 // The first fault of a graph, its multipliers and a lent list of length len, in document 01's order; else what is left to say.
-pub(crate) fn input_fault(g: Graph, multipliers: &[i32], len: usize, left: u32) -> u32
-    ensures { λ r. ⌜ r ≡ inputFault g (now (multipliers .entry)) len left ⌝ }
+pub(crate) fn input_fault<'a>(
+    n: usize,
+    m: usize,
+    a: &'a [u8; 190],
+    b: &'a [u8; 190],
+    cost: &'a [i32; 190],
+    mark: &'a [u8; 190],
+    multipliers: &'a [i32],
+    len: usize,
+    left: u32,
+) -> u32
+    ensures { λ r. ⌜ r ≡ inputFault (graphOf n m (now (a .entry)) (now (b .entry)) (now (cost .entry)) (now (mark .entry)))
+        (now (multipliers .entry)) len left ⌝ }
 {
-    if !graph::check(g) {
+    if !graph::check_parts(n, m, a, b, cost, mark) {
         return 15;
     }
-    if !lengths_fit(g.n, g.m, multipliers.len(), len) {
+    if !lengths_fit(n, m, multipliers.len(), len) {
         return 11;
     }
     if !multipliers_fit(multipliers) {

@@ -1,12 +1,11 @@
 // The least 1-tree away from vertex 1, hung on vertex 2: what the walk of a circle climbs.
+ghost use mathlib.Core.Path.{_≡_};
 ghost use mathlib.Core.List.{List};
 ghost use Prim.Native.Nat.{ℕ, _≤_};
 ghost use lib.IntN.{ℤ};
-ghost use Rattle.graph.specs.Network.{network};
-ghost use Rattle.graph.specs.Valid.{Valid};
-ghost use Rattle.onetree.specs.OneTree.{OneTree};
-ghost use Rattle.onetree.specs.Arrays.{bytes, graphOf};
-ghost use Rattle.onetree.specs.TreeTable.{Lists};
+ghost use Rattle.graph.specs.Valid.{graphOf};
+ghost use Rattle.onetree.specs.Spans.{Spans};
+ghost use Rattle.onetree.specs.TreeTable.{Lists, emptyTable};
 ghost use Rattle.onetree.specs.Visiting.{rooting, Hung, Complete, Leaving, Left, Rows};
 use crate::wide;
 
@@ -17,21 +16,21 @@ pub(crate) struct Rooting {
     pub edge: [u8; 21],
 }
 
-// Row x - 1 lists the tree's edges at vertex x, each as one more than its place, and has zeros after them. Edges at vertex 1 have no part
-// in it.
+// Into t, empty before: row x - 1 lists the tree's edges at vertex x, each as one more than its place, and has zeros after them. Edges at
+// vertex 1 have no part in it.
 pub(crate) fn table<'a>(
     a: &'a [u8; 190],
     b: &'a [u8; 190],
     w: &'a [u8; 190],
     m: usize,
-) -> [[u8; 20]; 20]
-    requires { ⌜ ((n : ℕ) × (cost : List ℤ) × (mark : List ℕ) × Valid (graphOf n m (now a) (now b) cost mark)
-        × OneTree (network (graphOf n m (now a) (now b) cost mark)) (bytes (now w))) ⌝ }
-    ensures { λ r. ⌜ ((n : ℕ) (cost : List ℤ) (mark : List ℕ) → Valid (graphOf n m (now (a .entry)) (now (b .entry)) cost mark)
-        → OneTree (network (graphOf n m (now (a .entry)) (now (b .entry)) cost mark)) (bytes (now (w .entry)))
-        → Lists (graphOf n m (now (a .entry)) (now (b .entry)) cost mark) (now (w .entry)) r) ⌝ }
+    t: &mut [[u8; 20]; 20],
+)
+    requires { ⌜ ((n : ℕ) × (cost : List ℤ) × (mark : List ℕ) × Spans (graphOf n m (now a) (now b) cost mark) (now w))
+        × (now t ≡ emptyTable) ⌝ }
+    ensures { λ _. ⌜ ((n : ℕ) (cost : List ℤ) (mark : List ℕ)
+        → Spans (graphOf n m (now (a .entry)) (now (b .entry)) cost mark) (now (w .entry))
+        → Lists (graphOf n m (now (a .entry)) (now (b .entry)) cost mark) (now (w .entry)) (now (t .exit))) ⌝ }
 {
-    let mut t = [[0u8; 20]; 20];
     let mut count = [0u8; 21];
     for k in 0..m {
         if w[k] == 1 {
@@ -50,7 +49,6 @@ pub(crate) fn table<'a>(
             }
         }
     }
-    t
 }
 
 // Every neighbour of x that hangs nowhere yet is hung on x, and put at the end of the queue, whose length is handed on.

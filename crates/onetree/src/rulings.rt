@@ -6,16 +6,16 @@ ghost use mathlib.Core.Logic.{_⊎_};
 ghost use mathlib.Core.List.{List};
 ghost use Prim.Native.Nat.{ℕ, _+_, _<_, _≤_};
 ghost use lib.Dec.{eqb};
-ghost use lib.ListN.{getD};
 ghost use lib.IntN.{ℤ};
-ghost use Rattle.graph.specs.Valid.{Valid};
-ghost use Rattle.graph.specs.Network.{network};
-ghost use Rattle.onetree.specs.OneTree.{OneTree};
-ghost use Rattle.onetree.specs.Arrays.{bytes, graphOf};
-ghost use Rattle.onetree.specs.Filled.{Filled};
-ghost use Rattle.onetree.specs.Verdicts.{barByte, forceByte};
+ghost use lib.ListN.{length, getD, replicate};
+ghost use Rattle.graph.specs.Limits.{maxEdges};
+ghost use Rattle.graph.specs.Valid.{graphOf};
+ghost use Rattle.onetree.specs.Answers.{blank};
+ghost use Rattle.onetree.specs.Spans.{Spans};
+ghost use Rattle.onetree.specs.Filled.{Filled, Updated};
+ghost use Rattle.onetree.specs.Verdicts.{noCharge, barByte, forceByte};
 ghost use Rattle.onetree.specs.Candidates.{weightOf, weightAt, NearIs};
-ghost use Rattle.onetree.specs.Judging.{Ready, Judged, hung};
+ghost use Rattle.onetree.specs.Judging.{Prepared, graphIn, rootingIn, Judged};
 ghost use Rattle.onetree.specs.Ruled.{lowOf, rulingOf, finalAt, RuledBy};
 use crate::climb::climb;
 use crate::climb::greater;
@@ -24,7 +24,6 @@ use crate::rooted::table;
 use crate::wide;
 use graph::EXCLUDED;
 use graph::FREE;
-use graph::Graph;
 use graph::REQUIRED;
 
 // Rulings.
@@ -45,12 +44,6 @@ const NONE: u32 = 4_000_000_000;
 pub(crate) struct Near {
     pub dearest: u32,
     pub cheapest: u32,
-}
-
-// The rulings of the free edges outside the tree; and, for each vertex, the cheapest edge that can take the place of the one above it.
-pub(crate) struct Outside {
-    pub out: [u8; 190],
-    pub cheapest: [u32; 21],
 }
 
 fn lesser(x: u32, y: u32) -> u32
@@ -153,7 +146,8 @@ fn free_outside(x: u8, mark: u8) -> bool
     mark == FREE
 }
 
-// Every free edge outside the tree: at vertex 1 against the dearest there, elsewhere against the dearest on its circle.
+// Every free edge outside the tree, its ruling into res: at vertex 1 against the dearest there, elsewhere against the dearest on its
+// circle. And for each vertex the cheapest edge that can take the place of the one above it.
 fn judge_outside<'a>(
     a: &'a [u8; 190],
     b: &'a [u8; 190],
@@ -166,32 +160,26 @@ fn judge_outside<'a>(
     m: usize,
     dearest: u32,
     slack: u32,
-) -> Outside
-    requires { ⌜ ((n : ℕ) × (cost : List ℤ) × (edge : List ℕ) × Ready (graphOf n m (now a) (now b) cost (now mark)) (now w) (now c)
-        (hung (now parent) (now depth) edge) (now weight) dearest) ⌝ }
-    ensures { λ o. ⌜ ((n : ℕ) (cost : List ℤ) (edge : List ℕ)
-        → Ready (graphOf n m (now (a .entry)) (now (b .entry)) cost (now (mark .entry))) (now (w .entry)) (now (c .entry))
-        (hung (now (parent .entry)) (now (depth .entry)) edge) (now (weight .entry)) dearest
-        → Judged (graphOf n m (now (a .entry)) (now (b .entry)) cost (now (mark .entry))) (now (w .entry)) (now (c .entry))
-        (hung (now (parent .entry)) (now (depth .entry)) edge) slack (o .out) (o .cheapest) m) ⌝ }
+    res: &mut [u8; 190],
+    cheapest: &mut [u32; 21],
+)
+    requires { ⌜ Prepared m (now a) (now b) (now mark) (now w) (now c) (now parent) (now depth) (now weight) dearest
+        × (now res ≡ blank) × (now cheapest ≡ replicate 21 noCharge) ⌝ }
+    ensures { λ _. ⌜ ((p : Prepared m (now (a .entry)) (now (b .entry)) (now (mark .entry)) (now (w .entry)) (now (c .entry))
+        (now (parent .entry)) (now (depth .entry)) (now (weight .entry)) dearest)
+        → Judged (graphIn p) (now (w .entry)) (now (c .entry)) (rootingIn p) slack (now (res .exit)) (now (cheapest .exit)) m) ⌝ }
 {
-    let mut out = [0u8; 190];
-    let mut cheapest = [NONE; 21];
     for k in 0..m {
         if free_outside(w[k], mark[k]) {
             let x = wide(a[k]);
             let y = wide(b[k]);
             if x == 1 {
-                out[k] = bar(dearest, c[k], slack);
+                res[k] = bar(dearest, c[k], slack);
             } else {
-                let top = climb(parent, depth, weight, &mut cheapest, x, y, c[k]);
-                out[k] = bar(top, c[k], slack);
+                let top = climb(parent, depth, weight, cheapest, x, y, c[k]);
+                res[k] = bar(top, c[k], slack);
             }
         }
-    }
-    Outside {
-        out: out,
-        cheapest: cheapest,
     }
 }
 
@@ -224,66 +212,75 @@ fn ruling_of(mark: u8, x: u8, low: u32, c: u32, slack: u32, old: u8) -> u8
     old
 }
 
-// Edge by edge: what its mark says, or whether it is forced, or what was found outside the tree.
+// Edge by edge, in res: what its mark says, or whether it is forced, or what was found outside the tree.
 fn finish<'a>(
     a: &'a [u8; 190],
     b: &'a [u8; 190],
     mark: &'a [u8; 190],
     w: &'a [u8; 190],
     c: &'a [u32; 190],
-    out: &'a [u8; 190],
     depth: &'a [u8; 21],
     cheapest: &'a [u32; 21],
     m: usize,
     near: u32,
     slack: u32,
-) -> [u8; 190]
-    requires { ⌜ (m ≤ 190) × ((k : ℕ) → k < m → (getD (now a) k 0 < 21) × (getD (now b) k 0 < 21)) ⌝ }
-    ensures { λ r. ⌜ Filled (finalAt (now (a .entry)) (now (b .entry)) (now (mark .entry)) (now (w .entry)) (now (c .entry)) slack
-        (now (depth .entry)) (now (cheapest .entry)) (now (out .entry)) near) 0 r m ⌝ }
+    res: &mut [u8; 190],
+)
+    requires { ⌜ (m ≤ maxEdges) × ((k : ℕ) → k < m → (getD (now a) k 0 < 21) × (getD (now b) k 0 < 21))
+        × (length (now res) ≡ maxEdges) ⌝ }
+    ensures { λ _. ⌜ Updated (finalAt (now (a .entry)) (now (b .entry)) (now (mark .entry)) (now (w .entry)) (now (c .entry)) slack
+        (now (depth .entry)) (now (cheapest .entry)) (now (res .entry)) near) (now (res .entry)) (now (res .exit)) m ⌝ }
 {
-    let mut res = [0u8; 190];
     for k in 0..m {
         let x = wide(a[k]);
         let y = wide(b[k]);
         let low = low_of(x, y, depth, cheapest, near);
-        res[k] = ruling_of(mark[k], w[k], low, c[k], slack, out[k]);
+        res[k] = ruling_of(mark[k], w[k], low, c[k], slack, res[k]);
     }
-    res
 }
 
-// The ruling of every edge, from the least 1-tree, its charges and how far it lies below the ceiling; 0 past the edges.
+// The ruling of every edge into res, blank before, from the least 1-tree, its charges and how far it lies below the ceiling.
 // Ruled out: a required edge swapped out or ruled FORCE; a BAR at a bound that equals the ceiling.
-pub(crate) fn rulings(g: Graph, w: [u8; 190], c: [u32; 190], slack: u32) -> [u8; 190]
-    requires { ⌜ Valid g × OneTree (network g) (bytes w) ⌝ }
-    ensures { λ r. ⌜ RuledBy g w c slack r ⌝ }
+pub(crate) fn rulings<'a>(
+    n: usize,
+    m: usize,
+    a: &'a [u8; 190],
+    b: &'a [u8; 190],
+    mark: &'a [u8; 190],
+    w: &'a [u8; 190],
+    c: &'a [u32; 190],
+    slack: u32,
+    res: &mut [u8; 190],
+)
+    requires { ⌜ ((cost : List ℤ) × Spans (graphOf n m (now a) (now b) cost (now mark)) (now w)) × (now res ≡ blank) ⌝ }
+    ensures { λ _. ⌜ ((cost : List ℤ) → Spans (graphOf n m (now (a .entry)) (now (b .entry)) cost (now (mark .entry))) (now (w .entry))
+        → RuledBy (graphOf n m (now (a .entry)) (now (b .entry)) cost (now (mark .entry))) (now (w .entry)) (now (c .entry)) slack
+        (now (res .exit))) × (length (now (res .exit)) ≡ maxEdges) ⌝ }
 {
-    let a = g.a;
-    let b = g.b;
-    let mark = g.mark;
-    let m = g.m;
-    let t = table(&a, &b, &w, m);
-    let r = hang(&a, &b, &t);
+    let mut t = [[0u8; 20]; 20];
+    table(a, b, w, m, &mut t);
+    let r = hang(a, b, &t);
     let parent = r.parent;
     let depth = r.depth;
     let edge = r.edge;
-    let weight = weights(&mark, &c, &edge, g.n);
-    let one = near_one(&a, &mark, &w, &c, m);
+    let weight = weights(mark, c, &edge, n);
+    let one = near_one(a, mark, w, c, m);
     let near = one.cheapest;
-    let o = judge_outside(
-        &a,
-        &b,
-        &mark,
-        &w,
-        &c,
+    let mut cheapest = [NONE; 21];
+    judge_outside(
+        a,
+        b,
+        mark,
+        w,
+        c,
         &parent,
         &depth,
         &weight,
         m,
         one.dearest,
         slack,
+        res,
+        &mut cheapest,
     );
-    let out = o.out;
-    let low = o.cheapest;
-    finish(&a, &b, &mark, &w, &c, &out, &depth, &low, m, near, slack)
+    finish(a, b, mark, w, c, &depth, &cheapest, m, near, slack, res);
 }

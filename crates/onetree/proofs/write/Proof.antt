@@ -12,17 +12,17 @@ use Rattle.onetree.proofs.write.Statement.{statement}
 use Rattle.onetree.proofs.write.Tie as tie
 
 abbrev Inv-loop : tie.InvT-loop
-Inv-loop out₀ from k₀ out k =
+Inv-loop from out₀ k₀ out k =
     (length out ≡ length out₀) × (length out₀ ≤ 190) × (k ≤ length out₀) × ((j : ℕ) → j < k → getD out j 0 ≡ getD from j 0)
 
 abbrev μ-loop : tie.MeasureT-loop
-μ-loop out₀ from k₀ out k = length out₀ - k
+μ-loop from out₀ k₀ out k = length out₀ - k
 
 loop-holds : tie.Need-loop-holds Inv-loop μ-loop
 loop-holds c = (refl, omega arith, omega arith, λ j h. absurd (omega arith))
 
-array-read-out : tie.Need-array-read-out Inv-loop μ-loop
-array-read-out c = search needs
+element-copy-out-out : tie.Need-element-copy-out-out Inv-loop μ-loop
+element-copy-out-out c = search needs
 
 slice-write-out : tie.Need-slice-write-out Inv-loop μ-loop
 slice-write-out c = search needs
@@ -35,8 +35,8 @@ loop-less c = search needs
 
 loop-again : tie.Need-loop-again Inv-loop μ-loop
 loop-again c =
-    let l = c .before .loop in
-    let x = getD (c .before .before .args .t1) (l .k) 0 in (
+    let l = c .before .before .loop in
+    let x = getD (c .before .before .before .args .from .now) (l .k) 0 in (
       length-set (l .out) (l .k) x ∙ l .inv .0,
       l .inv .1,
       omega (arith, l .inv .0),
@@ -51,7 +51,7 @@ same-length c = c .before .loop .inv .0
 returns : tie.Need-returns Inv-loop μ-loop
 returns c =
     let l = c .before .loop in
-    let from = c .before .before .args .t1 in
+    let from = c .before .before .args .from .now in
     row-is (l .out) 0 (entry from) (λ j h. l .inv .3 j (omega (arith, l .inv .0)))
     ∙ ap (λ (n : ℕ). row n (entry from)) (l .inv .0)
 
@@ -62,7 +62,7 @@ write-spec =
     Inv-loop
     μ-loop
     loop-holds
-    array-read-out
+    element-copy-out-out
     slice-write-out
     add-k
     loop-less

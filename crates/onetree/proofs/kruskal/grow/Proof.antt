@@ -5,6 +5,7 @@ use mathlib.Core.Logic.{⊎-elim}
 use lib.ListN.{getD, set}
 use borrow.Author.Needs.{needs}
 use native.Mathlib.Omega.{arith}
+use Rattle.lists.specs.Rows.{zeros}
 use Rattle.graph.specs.Network.{Network}
 use Rattle.onetree.specs.Turn.{Joins, Reads, joining, Turn, turn-none, turn-near, turn-spare, turn-join, turn-idle}
 use Rattle.onetree.proofs.kruskal.grow.Statement.{statement}
@@ -55,7 +56,8 @@ labels-requires c κs = search needs
 loop-holds : tie.Need-loop-holds Inv-loop μ-loop
 loop-holds c =
     let l = c .labels .ensures in
-    (omega arith, c .before .pre .0, c .before .pre .1, λ G r. turn-none _ _ _ _ (l .0) (l .1) (c .before .pre .2) (c .before .pre .3))
+    let p = c .before .pre in
+    rw (p .2) (omega arith, p .0, p .1, λ G r. turn-none _ _ _ _ (l .0) (l .1) refl (zeros 190))
 
 mul-place : tie.Need-mul-place Inv-loop μ-loop
 mul-place c = search needs
@@ -162,7 +164,7 @@ returns : tie.Need-returns Inv-loop μ-loop
 returns c =
     let l = c .before .loop in
     let e : l .i ≡ c .before .before .before .args .f = omega arith in
-    (omega (arith, plain (c .before) .less), λ G r. rw (← e) (l .inv .3 G r .grew))
+    (omega (arith, plain (c .before) .less), plain (c .before) .wide, λ G r. rw (← e) (l .inv .3 G r .grew))
 
 pub grow-spec : {M : Type 1} → statement M
 grow-spec =

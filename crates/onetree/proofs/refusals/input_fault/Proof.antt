@@ -6,12 +6,12 @@ use Rattle.onetree.specs.Answers.{inputFault}
 use Rattle.onetree.proofs.refusals.input_fault.Statement.{statement}
 use Rattle.onetree.proofs.refusals.input_fault.Tie as tie
 
-check-requires : tie.Need-check-requires
-check-requires c κs = search needs
+check-parts-requires : tie.Need-check-parts-requires
+check-parts-requires c κs = search needs
 
 returns : tie.Need-returns
 unfolding inputFault
-returns c = rw (sym (c .before .check .ensures) ∙ not-true _ (c .if1 .taken))
+returns c = rw (sym (c .before .check-parts .ensures) ∙ not-true _ (c .if1 .taken))
 
 lengths-fit-requires : tie.Need-lengths-fit-requires
 lengths-fit-requires c κs = search needs
@@ -20,7 +20,10 @@ returns-2 : tie.Need-returns-2
 unfolding inputFault
 returns-2 c =
     let at = c .before .before in
-    rw (sym (at .before .check .ensures) ∙ not-false _ (at .if1 .left), sym (c .before .lengths-fit .ensures) ∙ not-true _ (c .if2 .taken))
+    rw (
+      sym (at .before .check-parts .ensures) ∙ not-false _ (at .if1 .left),
+      sym (c .before .lengths-fit .ensures) ∙ not-true _ (c .if2 .taken),
+    )
 
 multipliers-fit-requires : tie.Need-multipliers-fit-requires
 multipliers-fit-requires c κs = search needs
@@ -31,7 +34,7 @@ returns-3 c =
     let two = c .before .before in
     let one = two .before .before in
     rw (
-      sym (one .before .check .ensures) ∙ not-false _ (one .if1 .left),
+      sym (one .before .check-parts .ensures) ∙ not-false _ (one .if1 .left),
       sym (two .before .lengths-fit .ensures) ∙ not-false _ (two .if2 .left),
       sym (c .before .multipliers-fit .ensures) ∙ not-true _ (c .if3 .taken),
     )
@@ -42,7 +45,7 @@ returns-4 c =
     let two = c .before .before in
     let one = two .before .before in
     rw (
-      sym (one .before .check .ensures) ∙ not-false _ (one .if1 .left),
+      sym (one .before .check-parts .ensures) ∙ not-false _ (one .if1 .left),
       sym (two .before .lengths-fit .ensures) ∙ not-false _ (two .if2 .left),
       sym (c .before .multipliers-fit .ensures) ∙ not-false _ (c .if3 .left),
     )
@@ -51,7 +54,7 @@ pub input-fault-spec : {M : Type 1} → statement M
 input-fault-spec =
     tie.close
     (tie.spec
-    check-requires
+    check-parts-requires
     returns
     lengths-fit-requires
     returns-2

@@ -9,10 +9,8 @@ use native.Mathlib.Numerals.{add-one}
 use lib.ListN.{getD, set}
 use lib.IntN.{ℤ}
 use Rattle.graph.specs.declared.Graph.{Graph}
-use Rattle.graph.specs.Network.{network}
-use Rattle.graph.specs.Valid.{Valid}
-use Rattle.onetree.specs.OneTree.{OneTree}
-use Rattle.onetree.specs.Arrays.{bytes, graphOf}
+use Rattle.graph.specs.Valid.{graphOf}
+use Rattle.onetree.specs.Spans.{Spans}
 use Rattle.onetree.specs.Grid.{put}
 use Rattle.onetree.specs.TreeTable.{Inner, Table, table-none, table-skip, table-room, room-b, table-more, table-lists}
 use Rattle.onetree.proofs.rooted.table.Statement.{statement}
@@ -21,15 +19,14 @@ use Rattle.onetree.proofs.rooted.table.Tie as tie
 abbrev Inv-loop : tie.InvT-loop
 Inv-loop a b w m t₀ count₀ k₀ t count k =
     (k ≤ m) × (m ≤ 190)
-    × ((n : ℕ) (cost : List ℤ) (mark : List ℕ) → Valid (graphOf n m a b cost mark)
-    → OneTree (network (graphOf n m a b cost mark)) (bytes w) → Table (graphOf n m a b cost mark) w t count k)
+    × ((n : ℕ) (cost : List ℤ) (mark : List ℕ) → Spans (graphOf n m a b cost mark) w → Table (graphOf n m a b cost mark) w t count k)
 
 abbrev μ-loop : tie.MeasureT-loop
 μ-loop a b w m t₀ count₀ k₀ t count k = m - k
 
 -- the graph of the arrays
 abbrev of : tie.Start Inv-loop μ-loop → Graph
-of c = graphOf (c .pre .0) (c .args .m) (c .args .a .now) (c .args .b .now) (c .pre .1) (c .pre .2)
+of c = let p = c .pre .0 in graphOf (p .0) (c .args .m) (c .args .a .now) (c .args .b .now) (p .1) (p .2)
 
 -- the ends of the edge at k
 ends : (c : tie.Then2 Inv-loop μ-loop)
@@ -38,7 +35,7 @@ ends : (c : tie.Then2 Inv-loop μ-loop)
 ends c =
     let at-wide = c .before .before .before in
     let at-test = at-wide .before .before .before .before in
-    let g = at-test .before .before .pre .3 in
+    let g = at-test .before .before .pre .0 .3 .valid in
     let e = g .each (at-test .before .loop .k) (at-test .loop-test .taken) in
     let a = at-wide .wide .ensures .0 in
     let b = c .before .wide2 .ensures .0 in
@@ -59,12 +56,12 @@ room c =
     let at-test = at-wide .before .before .before .before in
     let turn = at-test .before .loop in
     let start = at-test .before .before in
-    let p = start .pre in
+    let p = start .pre .0 in
     omega (
       arith,
       c .wide3 .ensures .0,
-      table-room (of start) (p .3) (start .args .w .now) (p .4) (turn .t) (turn .count) (turn .k) (at-test .loop-test .taken)
-          (turn .inv .2 (p .0) (p .1) (p .2) (p .3) (p .4)) (inner (c .before)) (at-wide .wide .result),
+      table-room (of start) (p .3 .valid) (start .args .w .now) (p .3 .tree) (turn .t) (turn .count) (turn .k) (at-test .loop-test .taken)
+          (turn .inv .2 (p .0) (p .1) (p .2) (p .3)) (inner (c .before)) (at-wide .wide .result),
     )
 
 room-2 : (c : tie.After-wide4 Inv-loop μ-loop) → c .wide4 .result < 20
@@ -75,31 +72,30 @@ room-2 c =
     let at-test = at-wide .before .before .before .before in
     let turn = at-test .before .loop in
     let start = at-test .before .before in
-    let s = start .pre in
+    let s = start .pre .0 in
     let a = at-wide .wide .result in
     let b = at-then2 .before .wide2 .result in
     let p : at-wide3 .wide3 .result ≡ getD (turn .count) a 0 = at-wide3 .wide3 .ensures .0 in
     let q : c .wide4 .result ≡ getD (set (turn .count) a (at-wide3 .wide3 .result + 1)) b 0 = c .wide4 .ensures .0 in
-    rw (q, p) (room-b (of start) (s .3) (start .args .w .now) (s .4) (turn .t) (turn .count) (turn .k) (at-test .loop-test .taken)
-    (turn .inv .2 (s .0) (s .1) (s .2) (s .3) (s .4)) (inner at-then2) a b (sym (at-wide .wide .ensures .0))
+    rw (q, p) (room-b (of start) (s .3 .valid) (start .args .w .now) (s .3 .tree) (turn .t) (turn .count) (turn .k)
+    (at-test .loop-test .taken) (turn .inv .2 (s .0) (s .1) (s .2) (s .3)) (inner at-then2) a b (sym (at-wide .wide .ensures .0))
     (sym (at-then2 .before .wide2 .ensures .0)))
 
 -- one turn
 next : (c : tie.Joined1 Inv-loop μ-loop)
     → let at-loop = c .before .before .before in
     let s = at-loop .before .args in (n : ℕ) (cost : List ℤ) (mark : List ℕ)
-    → Valid (graphOf n (s .m) (s .a .now) (s .b .now) cost mark)
-    → OneTree (network (graphOf n (s .m) (s .a .now) (s .b .now) cost mark)) (bytes (s .w .now))
+    → Spans (graphOf n (s .m) (s .a .now) (s .b .now) cost mark) (s .w .now)
     → Table (graphOf n (s .m) (s .a .now) (s .b .now) cost mark) (s .w .now) (c .if1 .t) (c .if1 .count) (at-loop .loop .k + 1)
 unfolding put
-next c n cost mark valid tree =
+next c n cost mark spans =
     let at-test = c .before .before in
     let turn = at-test .before .loop in
     let s = at-test .before .before .args in
     let g = graphOf n (s .m) (s .a .now) (s .b .now) cost mark in
     let w = s .w .now in
     let inside : turn .k < g .m = at-test .loop-test .taken in
-    let table = turn .inv .2 n cost mark valid tree in
+    let table = turn .inv .2 n cost mark spans in
     let goal = Table g w (c .if1 .t) (c .if1 .count) (turn .k + 1) in
     ⊎-elim {C = goal}
     (λ u.
@@ -107,18 +103,18 @@ next c n cost mark valid tree =
     let b : u .4 .result ≡ getD (g .b) (turn .k) 0 = u .4 .ensures .0 in
     let p : u .6 .result ≡ getD (turn .count) (u .2 .result) 0 = u .6 .ensures .0 in
     let q : u .7 .result ≡ getD (set (turn .count) (u .2 .result) (u .6 .result + 1)) (u .4 .result) 0 = u .7 .ensures .0 in
-    rw (u .8, u .9, q, p, add-one (turn .k)) (rw (add-one (turn .k)) at (table-more g valid w tree (turn .t) (turn .count)
+    rw (u .8, u .9, q, p, add-one (turn .k)) (rw (add-one (turn .k)) at (table-more g (spans .valid) w (spans .tree) (turn .t) (turn .count)
     (turn .k) inside table (record { chosen = u .0 .taken; far = λ q. u .5 .taken (a ∙ q) }) (u .2 .result) (u .4 .result)
     (sym a) (sym b))))
     (⊎-elim {C = goal}
-    (λ u. rw (u .6, u .7) (table-skip g valid w tree (turn .t) (turn .count) (turn .k) inside table
+    (λ u. rw (u .6, u .7) (table-skip g (spans .valid) w (spans .tree) (turn .t) (turn .count) (turn .k) inside table
     (λ i. i .far (sym (u .2 .ensures .0) ∙ u .5 .left))))
-    (λ u. rw (u .1, u .2) (table-skip g valid w tree (turn .t) (turn .count) (turn .k) inside table
+    (λ u. rw (u .1, u .2) (table-skip g (spans .valid) w (spans .tree) (turn .t) (turn .count) (turn .k) inside table
     (λ i. u .0 .left (i .chosen)))))
     (c .if1 .came)
 
 loop-holds : tie.Need-loop-holds Inv-loop μ-loop
-loop-holds c = (omega arith, c .pre .3 .few, λ n cost mark valid tree. table-none _ _)
+loop-holds c = (omega arith, c .pre .0 .3 .valid .few, λ n cost mark spans. rw (c .pre .1) (table-none _ _))
 
 element-copy-out-if1 : tie.Need-element-copy-out-if1 Inv-loop μ-loop
 element-copy-out-if1 c = search needs
@@ -205,13 +201,13 @@ loop-again : tie.Need-loop-again Inv-loop μ-loop
 loop-again c = (omega arith, c .before .before .before .loop .inv .1, next c)
 
 returns : tie.Need-returns Inv-loop μ-loop
-returns c n cost mark valid tree =
+returns c n cost mark spans =
     let turn = c .before .loop in
     let s = c .before .before .args in
     let g = graphOf n (s .m) (s .a .now) (s .b .now) cost mark in
     let e : turn .k ≡ s .m = omega (arith, turn .inv .0) in
-    table-lists g valid (s .w .now) tree (turn .t) (turn .count)
-    (subst (λ (k : ℕ). Table g (s .w .now) (turn .t) (turn .count) k) e (turn .inv .2 n cost mark valid tree))
+    table-lists g (spans .valid) (s .w .now) (spans .tree) (turn .t) (turn .count)
+    (subst (λ (k : ℕ). Table g (s .w .now) (turn .t) (turn .count) k) e (turn .inv .2 n cost mark spans))
 
 pub table-spec : {M : Type 1} → statement M
 table-spec =

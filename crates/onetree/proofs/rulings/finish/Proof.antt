@@ -1,23 +1,24 @@
--- The loop fills the array.
+-- The loop gives place after place its last byte, from the one that stood there.
 use native.Mathlib.Omega.{arith}
 use borrow.Author.Needs.{needs}
 use Prim.Native.Nat.{ℕ, _≤_, _-_}
-use mathlib.Core.Path.{_≡_, refl, subst, _∙_}
-use lib.ListN.{length, length-set}
-use Rattle.onetree.specs.Filled.{Filled, filled-none, filled-more}
+use mathlib.Core.Path.{_≡_, subst}
+use lib.ListN.{length}
+use Rattle.graph.specs.Limits.{maxEdges}
+use Rattle.onetree.specs.Filled.{Updated, updated-none, updated-more}
 use Rattle.onetree.specs.Ruled.{finalAt}
 use Rattle.onetree.proofs.rulings.finish.Statement.{statement}
 use Rattle.onetree.proofs.rulings.finish.Tie as tie
 
 abbrev Inv-loop : tie.InvT-loop
-Inv-loop a b mark w c out depth cheapest m near slack res₀ k₀ res k =
-    (k ≤ m) × (m ≤ 190) × (length res ≡ 190) × Filled (finalAt a b mark w c slack depth cheapest out near) 0 res k
+Inv-loop a b mark w c depth cheapest m near slack res₀ k₀ res k =
+    (k ≤ m) × (m ≤ maxEdges) × (length res₀ ≡ maxEdges) × Updated (finalAt a b mark w c slack depth cheapest res₀ near) res₀ res k
 
 abbrev μ-loop : tie.MeasureT-loop
-μ-loop a b mark w c out depth cheapest m near slack res₀ k₀ res k = m - k
+μ-loop a b mark w c depth cheapest m near slack res₀ k₀ res k = m - k
 
 loop-holds : tie.Need-loop-holds Inv-loop μ-loop
-loop-holds c = (omega arith, c .pre .0, refl, filled-none _ 0 190)
+loop-holds c = (omega arith, c .pre .0, c .pre .2, updated-none _ _)
 
 element-copy-out-wide : tie.Need-element-copy-out-wide Inv-loop μ-loop
 element-copy-out-wide c = search needs
@@ -56,8 +57,8 @@ element-copy-out-ruling-of-4 c = search needs
 ruling-of-requires : tie.Need-ruling-of-requires Inv-loop μ-loop
 ruling-of-requires c κs = search needs
 
-array-write-res : tie.Need-array-write-res Inv-loop μ-loop
-array-write-res c = search needs
+element-write-res : tie.Need-element-write-res Inv-loop μ-loop
+element-write-res c = search needs
 
 add-k : tie.Need-add-k Inv-loop μ-loop
 add-k c = search needs
@@ -72,11 +73,12 @@ loop-again c =
     let at-wide = at-wide2 .before .before in
     let at-loop = at-wide .before .before .before in
     let turn = at-loop .loop in
-    let low = rw (at-wide .wide .ensures .0, at-wide2 .wide2 .ensures .0) at (at-low-of .low-of .ensures) in (
+    let low = rw (at-wide .wide .ensures .0, at-wide2 .wide2 .ensures .0) at (at-low-of .low-of .ensures) in
+    let old = turn .inv .3 .rest (turn .k) (omega arith) in (
       omega arith,
       turn .inv .1,
-      length-set (turn .res) (turn .k) _ ∙ turn .inv .2,
-      filled-more _ 0 (turn .res) (turn .k) _ (omega (arith, turn .inv .2)) (turn .inv .3) (rw low at (c .ruling-of .ensures)),
+      turn .inv .2,
+      updated-more _ _ (turn .res) (turn .k) _ (omega (arith, turn .inv .2)) (turn .inv .3) (rw (low, old) at (c .ruling-of .ensures)),
     )
 
 returns : tie.Need-returns Inv-loop μ-loop
@@ -84,8 +86,8 @@ returns c =
     let turn = c .before .loop in
     let a = c .before .before .args in
     let e : turn .k ≡ a .m = omega (arith, turn .inv .0) in
-    subst (λ (k : ℕ). Filled (finalAt (a .a .now) (a .b .now) (a .mark .now) (a .w .now) (a .c .now) (a .slack) (a .depth .now)
-    (a .cheapest .now) (a .out .now) (a .near)) 0 (turn .res) k) e (turn .inv .3)
+    subst (λ (k : ℕ). Updated (finalAt (a .a .now) (a .b .now) (a .mark .now) (a .w .now) (a .c .now) (a .slack) (a .depth .now)
+    (a .cheapest .now) (a .res .now) (a .near)) (a .res .now) (turn .res) k) e (turn .inv .3)
 
 pub finish-spec : {M : Type 1} → statement M
 finish-spec =
@@ -105,7 +107,7 @@ finish-spec =
     element-copy-out-ruling-of-3
     element-copy-out-ruling-of-4
     ruling-of-requires
-    array-write-res
+    element-write-res
     add-k
     loop-less
     loop-again

@@ -1,128 +1,173 @@
--- The tree is hung, so the loops are ready; specs/Ruled.antt says what they come to.
+-- The tree is hung, so the loops are ready; specs/Ruled.antt says what they come to. All of it for whatever costs the graph has.
 use native.Mathlib.Omega.{arith}
+use mathlib.Core.Path.{refl, _∙_}
+use mathlib.Core.List.{List}
+use Prim.Native.Nat.{ℕ}
+use lib.IntN.{ℤ}
+use Rattle.graph.specs.declared.Graph.{Graph}
+use Rattle.graph.specs.Valid.{graphOf}
+use Rattle.onetree.specs.Spans.{Spans}
 use Rattle.onetree.specs.TreeTable.{Lists}
 use Rattle.onetree.specs.Visiting.{Rows, Hung}
 use Rattle.onetree.specs.RootedTree.{walkable, rooted, edge-in, reached}
-use Rattle.onetree.specs.Judging.{Ready}
+use Rattle.onetree.specs.Judging.{Ready, Prepared, Judged}
 use Rattle.onetree.specs.Ruled.{ruled-by}
 use Rattle.onetree.proofs.rulings.rulings.Statement.{statement}
 use Rattle.onetree.proofs.rulings.rulings.Tie as tie
 
+abbrev at-weights : tie.After-near-one → tie.After-weights
+at-weights c = c .before
+
 abbrev at-hang : tie.After-weights → tie.After-hang
-at-hang c = c .before .before .before .before .before .before .before
+at-hang c = c .before .before .before .before .before
 
 abbrev at-table : tie.After-hang → tie.After-table
-at-table c = c .before .before .before .before
+at-table c = c .before .before
 
 abbrev at-start : tie.After-table → tie.Start
-at-start c = c .before .before .before .before .before .before .before
+at-start c = c .before .before
+
+-- the graph with these costs
+abbrev of : tie.Start → List ℤ → Graph
+of c cost = let a = c .args in graphOf (a .n) (a .m) (a .a .now) (a .b .now) cost (a .mark .now)
+
+-- the array has the bytes of a 1-tree of it
+abbrev Fit : tie.Start → List ℤ → Type 0
+Fit c cost = Spans (of c cost) (c .args .w .now)
+
+-- what is left in the table
+abbrev filled : tie.After-table → List (List ℕ)
+filled c = c .table .last .1 .1 .1 .1 .0
 
 -- the tree's edges are listed
-lists : (c : tie.After-table) → let a = at-start c .args in Lists (a .g) (a .t2) (c .table .result)
-lists c =
-    let g = at-start c .args .g in
-    let p = at-start c .pre in
-    c .table .ensures (g .n) (g .cost) (g .mark) (p .0) (p .1)
+lists : (c : tie.After-table) (cost : List ℤ) → Fit (at-start c) cost → Lists (of (at-start c) cost) (at-start c .args .w .now) (filled c)
+lists c cost fit = let a = at-start c .args in c .table .ensures (a .n) cost (a .mark .now) fit
 
 -- the lists are fit to be walked
-rows : (c : tie.After-table) → let g = at-start c .args .g in Rows (g .a) (g .b) (g .n) (c .table .result)
-rows c = walkable _ _ _ (at-start c .pre .0) (lists c)
+rows : (c : tie.After-table) (cost : List ℤ) → Fit (at-start c) cost
+    → let a = at-start c .args in Rows (a .a .now) (a .b .now) (a .n) (filled c)
+rows c cost fit = walkable (of (at-start c) cost) _ _ (fit .valid) (lists c cost fit)
 
 -- the tree hangs
-hangs : (c : tie.After-hang)
-    → let g = at-start (at-table c) .args .g in
-    Hung (g .a) (g .b) (at-table c .table .result) (g .n) (c .hang .result)
-hangs c =
-    let start = at-start (at-table c) in
-    c .hang .ensures .0 (start .args .g .n) (omega (arith, start .pre .0 .low)) (rows (at-table c))
+hangs : (c : tie.After-hang) (cost : List ℤ) → Fit (at-start (at-table c)) cost
+    → let a = at-start (at-table c) .args in Hung (a .a .now) (a .b .now) (filled (at-table c)) (a .n) (c .hang .result)
+hangs c cost fit =
+    c .hang .ensures .0 (at-start (at-table c) .args .n) (omega (arith, fit .valid .low)) (rows (at-table c) cost fit)
 
 -- what the loops rest on
-ready : (c : tie.After-near-one)
-    → let at-weights = c .before .before .before .before .before in
-    let hang = at-hang at-weights in
-    let a = at-start (at-table hang) .args in
-    Ready (a .g) (a .t2) (a .t3) (hang .hang .result) (at-weights .weights .result) (c .near-one .result .dearest)
-ready c =
-    let at-weights = c .before .before .before .before .before in
-    let hang = at-hang at-weights in
-    let table = at-table hang in
-    let start = at-start table in
+ready : (c : tie.After-near-one) (cost : List ℤ)
+    → let hang = at-hang (at-weights c) in
+    let start = at-start (at-table hang) in
     let a = start .args in
-    let p = start .pre in
-    record {
-      valid = p .0;
-      tree = p .1;
-      rooted = rooted (a .g) (p .0) (a .t2) (p .1) (table .table .result) (lists table) (hang .hang .result) (hangs hang)
-          (hang .hang .ensures .1);
-      weights = at-weights .weights .ensures;
+    Fit start cost
+    → Ready (of start cost) (a .w .now) (a .c .now) (hang .hang .result) (at-weights c .weights .result) (c .near-one .result .dearest)
+ready c cost fit =
+    let hang = at-hang (at-weights c) in
+    let table = at-table hang in
+    let start = at-start table in record {
+      valid = fit .valid;
+      tree = fit .tree;
+      rooted = rooted (of start cost) (fit .valid) (start .args .w .now) (fit .tree) (filled table) (lists table cost fit)
+          (hang .hang .result) (hangs hang cost fit) (hang .hang .ensures .1);
+      weights = at-weights c .weights .ensures;
       near = c .near-one .ensures .dear;
     }
 
+abbrev prepared : (c : tie.After-near-one) (cost : List ℤ)
+    → let hang = at-hang (at-weights c) in
+    let start = at-start (at-table hang) in
+    let a = start .args in let r = hang .hang .result in
+    Fit start cost
+    → Prepared (a .m) (a .a .now) (a .b .now) (a .mark .now) (a .w .now) (a .c .now) (r .parent) (r .depth)
+    (at-weights c .weights .result) (c .near-one .result .dearest)
+prepared c cost fit =
+    let hang = at-hang (at-weights c) in
+    record { n = at-start (at-table hang) .args .n; cost = cost; edge = hang .hang .result .edge; ready = ready c cost fit }
+
+abbrev at-near : tie.After-judge-outside → tie.After-near-one
+at-near c = c .before .before .before .before .before .before
+
+-- the bytes of the edges outside the tree, and what may come in for those of the tree
+abbrev bars : tie.After-judge-outside → List ℕ
+bars c = c .judge-outside .last .1 .1 .1 .1 .1 .1 .1 .1 .1 .1 .1 .0
+
+abbrev lows : tie.After-judge-outside → List ℕ
+lows c = c .judge-outside .last .1 .1 .1 .1 .1 .1 .1 .1 .1 .1 .1 .1 .0
+
+judged : (c : tie.After-judge-outside) (cost : List ℤ)
+    → let hang = at-hang (at-weights (at-near c)) in
+    let start = at-start (at-table hang) in
+    let a = start .args in
+    Fit start cost → Judged (of start cost) (a .w .now) (a .c .now) (hang .hang .result) (a .slack) (bars c) (lows c) (a .m)
+judged c cost fit = c .judge-outside .ensures (prepared (at-near c) cost fit)
+
 table-requires : tie.Need-table-requires
 table-requires c κs =
-    let start = c .before .before .before .before .before .before in
-    let g = start .args .g in
-    (g .n, g .cost, g .mark, start .pre .0, start .pre .1)
+    let start = c .before in
+    let p = start .pre .0 in ((start .args .n, p .0, start .args .mark .now, p .1), refl)
 
 hang-requires : tie.Need-hang-requires
 hang-requires c κs =
-    let table = c .before .before .before in
-    let valid = at-start table .pre .0 in
-    (at-start table .args .g .n, omega (arith, valid .low), valid .high, rows table)
+    let table = c .before in
+    let start = at-start table in
+    let fit = start .pre .0 .1 in
+    (start .args .n, omega (arith, fit .valid .low), fit .valid .high, rows table (start .pre .0 .0) fit)
 
 weights-requires : tie.Need-weights-requires
 weights-requires c κs =
-    let hang = c .before .before .before .before .before .before in
+    let hang = c .before .before .before .before in
     let table = at-table hang in
     let start = at-start table in
-    let valid = start .pre .0 in
-    let a = start .args in (
-      omega (arith, valid .low),
-      valid .high,
+    let cost = start .pre .0 .0 in
+    let fit = start .pre .0 .1 in
+    let w = start .args .w .now in (
+      omega (arith, fit .valid .low),
+      fit .valid .high,
       λ v l h. omega (
         arith,
-        valid .few,
-        edge-in (a .g) valid (a .t2) (start .pre .1) (table .table .result) (lists table)
-            (hang .hang .result) (hangs hang) (hang .hang .ensures .1) v (
+        fit .valid .few,
+        edge-in (of start cost) (fit .valid) w (fit .tree) (filled table) (lists table cost fit) (hang .hang .result)
+            (hangs hang cost fit) (hang .hang .ensures .1) v (
               l,
-              reached (a .g) valid (a .t2) (start .pre .1) (table .table .result) (lists table) (hang .hang .result) (hangs hang)
-                  (hang .hang .ensures .1) v (omega arith, h),
+              reached (of start cost) (fit .valid) w (fit .tree) (filled table) (lists table cost fit) (hang .hang .result)
+                  (hangs hang cost fit) (hang .hang .ensures .1) v (omega arith, h),
             ) .0,
       ),
     )
 
 near-one-requires : tie.Need-near-one-requires
-near-one-requires c κs = at-start (at-table (at-hang (c .before .before .before .before))) .pre .0 .few
+near-one-requires c κs = at-start (at-table (at-hang c)) .pre .0 .1 .valid .few
 
 judge-outside-requires : tie.Need-judge-outside-requires
 judge-outside-requires c κs =
-    let at-near-one = c .before .before .before .before .before .before .before .before in
-    let hang = at-hang (at-near-one .before .before .before .before .before) in
-    let g = at-start (at-table hang) .args .g in
-    (g .n, g .cost, hang .hang .result .edge, ready at-near-one)
+    let near-one = c .before .before .before .before .before in
+    let start = at-start (at-table (at-hang (at-weights near-one))) in
+    (prepared near-one (start .pre .0 .0) (start .pre .0 .1), start .pre .1, refl)
 
 finish-requires : tie.Need-finish-requires
 finish-requires c κs =
-    let at-judge-outside = c .before .before .before .before .before .before .before .before .before .before in
-    let at-near-one = at-judge-outside .before .before .before .before .before .before .before .before .before in
-    let valid = ready at-near-one .valid in (
+    let outside = c .before .before .before in
+    let start = at-start (at-table (at-hang (at-weights (at-near outside)))) in
+    let valid = start .pre .0 .1 .valid in (
       valid .few,
       λ k h. let e = valid .each k h in
           (omega (arith, e .less, e .to, valid .high), omega (arith, e .to, valid .high)),
+      judged outside (start .pre .0 .0) (start .pre .0 .1) .long .0,
     )
 
 returns : tie.Need-returns
 returns c =
-    let at-judge-outside = c .before .before .before .before .before .before .before .before .before .before .before in
-    let at-near-one = at-judge-outside .before .before .before .before .before .before .before .before .before in
-    let at-weights = at-near-one .before .before .before .before .before in
-    let hang = at-hang at-weights in
-    let a = at-start (at-table hang) .args in
-    let near = at-near-one .near-one in
-    let outside = at-judge-outside .judge-outside in
-    ruled-by (a .g) (a .t2) (a .t3) (hang .hang .result) (at-weights .weights .result) (near .result .dearest)
-    (near .result .cheapest) (ready at-near-one) (near .ensures .cheap) (a .slack) (outside .result .out) (outside .result .cheapest)
-    (outside .ensures (a .g .n) (a .g .cost) (hang .hang .result .edge) (ready at-near-one)) (c .finish .result) (c .finish .ensures)
+    let outside = c .before .before .before .before in
+    let near-one = at-near outside in
+    let hang = at-hang (at-weights near-one) in
+    let start = at-start (at-table hang) in
+    let a = start .args in
+    let near = near-one .near-one in (
+      λ cost fit. ruled-by (of start cost) (a .w .now) (a .c .now) (hang .hang .result) (at-weights near-one .weights .result)
+          (near .result .dearest) (near .result .cheapest) (ready near-one cost fit) (near .ensures .cheap) (a .slack) (bars outside)
+          (lows outside) (judged outside cost fit) _ (c .finish .ensures),
+      c .finish .ensures .long ∙ judged outside (start .pre .0 .0) (start .pre .0 .1) .long .0,
+    )
 
 pub rulings-spec : {M : Type 1} → statement M
 rulings-spec =

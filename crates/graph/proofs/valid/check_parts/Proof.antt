@@ -6,42 +6,48 @@ use lib.ListN.{getD}
 use lib.IntN.{pos}
 use borrow.Author.Tests.{not-true, not-false}
 use Rattle.integers.specs.Words.{back32}
-use Rattle.graph.specs.Valid.{EdgeAt}
+use Rattle.graph.specs.declared.Graph.{Graph}
+use Rattle.graph.specs.Valid.{EdgeAt, graphOf}
 use Rattle.graph.specs.Meaning.{edge-true, not-valid}
 use Rattle.graph.specs.CheckLoop.{Passed, passed-none, passed-all, edge-bad, place-in, pair-twice, passed-more}
 use native.Mathlib.Omega.{arith}
-use Rattle.graph.proofs.valid.check.Statement.{statement}
-use Rattle.graph.proofs.valid.check.Tie as tie
+use Rattle.graph.proofs.valid.check_parts.Statement.{statement}
+use Rattle.graph.proofs.valid.check_parts.Tie as tie
 
 abbrev Inv-loop : tie.InvT-loop
-Inv-loop g n m met₀ k₀ met k = Passed g met k
+Inv-loop n m a b cost mark met₀ k₀ met k = Passed (graphOf n m a b cost mark) met k
 
 abbrev μ-loop : tie.MeasureT-loop
-μ-loop g n m met₀ k₀ met k = g .m - k
+μ-loop n m a b cost mark met₀ k₀ met k = m - k
+
+-- the graph that was lent
+abbrev lent : tie.Start Inv-loop μ-loop → Graph
+lent c =
+    graphOf (c .args .n) (c .args .m) (c .args .a .now) (c .args .b .now) (c .args .cost .now) (c .args .mark .now)
 
 -- the edge at k, once its test has passed
 edge : (c : tie.After-place-of Inv-loop μ-loop)
     → let at = c .before .before .before .before .before .before .before .before .before .before in
-    EdgeAt (at .before .before .before .before .args .t1) (at .loop .k)
+    EdgeAt (lent (at .before .before .before .before)) (at .loop .k)
 edge c =
     let at = c .before .before .before .before .before .before .before .before .before .before in
-    let g = at .before .before .before .before .args .t1 in
+    let g = lent (at .before .before .before .before) in
     let z = getD (g .cost) (at .loop .k) (pos 0) in
     let fits = c .before .before .before .before .before .before .edge-ok-arg3 .given in
     let said = rw (back32 z fits) at (c .before .before .before .before .edge-ok .ensures) in
     edge-true (g .n) _ _ z _ (sym said ∙ not-false _ (c .before .before .before .if4 .left))
 
 returns : tie.Need-returns Inv-loop μ-loop
-returns c = sym (not-valid (c .before .args .t1) (λ v. omega (arith, v .low)))
+returns c = sym (not-valid (lent (c .before)) (λ v. omega (arith, v .low)))
 
 returns-2 : tie.Need-returns-2 Inv-loop μ-loop
-returns-2 c = sym (not-valid (c .before .before .args .t1) (λ v. omega (arith, v .high)))
+returns-2 c = sym (not-valid (lent (c .before .before)) (λ v. omega (arith, v .high)))
 
 returns-3 : tie.Need-returns-3 Inv-loop μ-loop
-returns-3 c = sym (not-valid (c .before .before .before .args .t1) (λ v. omega (arith, v .few)))
+returns-3 c = sym (not-valid (lent (c .before .before .before)) (λ v. omega (arith, v .few)))
 
 loop-holds : tie.Need-loop-holds Inv-loop μ-loop
-loop-holds c = passed-none (c .before .before .before .args .t1) (omega arith) (omega arith) (omega arith)
+loop-holds c = passed-none (lent (c .before .before .before)) (omega arith) (omega arith) (omega arith)
 
 element-copy-out-edge-ok : tie.Need-element-copy-out-edge-ok Inv-loop μ-loop
 element-copy-out-edge-ok c = search needs
@@ -64,7 +70,7 @@ edge-ok-requires c κs = search needs
 returns-4 : tie.Need-returns-4 Inv-loop μ-loop
 returns-4 c =
     let at = c .before .before .before .before .before .before .before in
-    let g = at .before .before .before .before .args .t1 in
+    let g = lent (at .before .before .before .before) in
     let k = at .loop .k in
     let z = getD (g .cost) k (pos 0) in
     let said = rw (back32 z (c .before .before .before .edge-ok-arg3 .given)) at (c .before .edge-ok .ensures) in
@@ -83,14 +89,14 @@ array-read-if5 : tie.Need-array-read-if5 Inv-loop μ-loop
 array-read-if5 c =
     let at = c .before .before .before .before .before .before .before .before .before .before in
     let turn = at .loop in
-    let g = at .before .before .before .before .args .t1 in
+    let g = lent (at .before .before .before .before) in
     place-in g (turn .met) (turn .k) (c .place-of .result) (turn .inv) (omega arith) (edge c) (c .place-of .ensures)
 
 returns-5 : tie.Need-returns-5 Inv-loop μ-loop
 returns-5 c =
     let at = c .before .before .before .before .before .before .before .before .before .before .before in
     let turn = at .loop in
-    let g = at .before .before .before .before .args .t1 in
+    let g = lent (at .before .before .before .before) in
     let place = c .before .place-of in
     sym (pair-twice g (turn .met) (turn .k) (place .result) (turn .inv) (omega arith) (edge (c .before)) (place .ensures) (c .if5 .taken))
 
@@ -98,7 +104,7 @@ array-write-met : tie.Need-array-write-met Inv-loop μ-loop
 array-write-met c =
     let at = c .before .before .before .before .before .before .before .before .before .before .before in
     let turn = at .loop in
-    let g = at .before .before .before .before .args .t1 in
+    let g = lent (at .before .before .before .before) in
     let place = c .before .place-of in
     place-in g (turn .met) (turn .k) (place .result) (turn .inv) (omega arith) (edge (c .before)) (place .ensures)
 
@@ -112,17 +118,17 @@ loop-again : tie.Need-loop-again Inv-loop μ-loop
 loop-again c =
     let at = c .before .before .before .before .before .before .before .before .before .before .before in
     let turn = at .loop in
-    let g = at .before .before .before .before .args .t1 in
+    let g = lent (at .before .before .before .before) in
     let place = c .before .place-of in
     passed-more g (turn .met) (turn .k) (place .result) (turn .inv) (omega arith) (edge (c .before)) (place .ensures) (c .if5 .left)
 
 returns-6 : tie.Need-returns-6 Inv-loop μ-loop
 returns-6 c =
     let turn = c .before .loop in
-    sym (passed-all (c .before .before .before .before .before .args .t1) (turn .met) (turn .k) (turn .inv) (omega arith))
+    sym (passed-all (lent (c .before .before .before .before .before)) (turn .met) (turn .k) (turn .inv) (omega arith))
 
-pub check-spec : {M : Type 1} → statement M
-check-spec =
+pub check-parts-spec : {M : Type 1} → statement M
+check-parts-spec =
     tie.close
     (tie.spec
     Inv-loop

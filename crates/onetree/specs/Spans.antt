@@ -1,0 +1,13 @@
+-- A 1-tree in an array of bytes. Definitions only.
+use mathlib.Core.List.{List}
+use Prim.Native.Nat.{ℕ}
+use Rattle.graph.specs.declared.Graph.{Graph}
+use Rattle.graph.specs.Network.{network}
+use Rattle.graph.specs.Valid.{Valid}
+use Rattle.onetree.specs.OneTree.{OneTree}
+use Rattle.onetree.specs.Arrays.{bytes}
+
+-- w has the bytes of a 1-tree of the graph
+pub record Spans (g : Graph) (w : List ℕ) : Type 0 where
+  pub valid : Valid g
+  pub tree : OneTree (network g) (bytes w)

@@ -1,15 +1,11 @@
 -- The calls for C and Rust: a graph as six values, an answer as its number, 0 where the call is accepted, and its place. Definitions only.
 use Prim.Native.Nat.{ℕ}
 use mathlib.Core.Bool.{cond}
-use mathlib.Core.List.{List}
 use lib.IntN.{ℤ}
 use Rattle.graph.specs.declared.Graph.{Graph}
 use Rattle.graph.specs.Valid.{valid}
 use Rattle.graph.specs.Answers.{Outcome, accepted, refused}
 use Rattle.onetree.specs.Answers as one
-
-abbrev pub graphOf : ℕ → ℕ → List ℕ → List ℕ → List ℤ → List ℕ → Graph
-graphOf n m a b cost mark = record { n = n; m = m; a = a; b = b; cost = cost; mark = mark }
 
 unfoldable pub numberOf : Outcome → ℕ
 numberOf accepted = 0

@@ -1,7 +1,7 @@
 -- The calls on a search for C and Rust: the record as its parts, the two flags as bytes; what a call leaves in every lent part, and what it
 -- answers. Definitions only.
 use mathlib.Core.Path.{_≡_}
-use mathlib.Core.Bool.{Bool, true, false, cond, _&&_}
+use mathlib.Core.Bool.{Bool, cond, _&&_}
 use mathlib.Core.List.{List}
 use Prim.Native.Nat.{ℕ}
 use lib.Dec.{eqb, ltb}
@@ -13,7 +13,7 @@ use Rattle.search.specs.declared.Search.{Search}
 use Rattle.search.specs.declared.Outcome.{Outcome}
 use Rattle.search.specs.declared.Answer.{Answer}
 use Rattle.search.specs.declared.Answer.the-variants.{Refused, Accepted, GoingOn, Finished, Searching, NoTour, Best}
-use Rattle.ffi.specs.Plain.{graphOf}
+use Rattle.graph.specs.Valid.{graphOf}
 use Rattle.ffi.specs.declared.searches.Said.{Said}
 use Rattle.ffi.specs.declared.searches.Left.{Left}
 

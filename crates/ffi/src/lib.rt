@@ -2,8 +2,9 @@
 // and leaves the place in a lent number.
 ghost use mathlib.Core.Path.{_≡_};
 ghost use lib.ListN.{length};
+ghost use Rattle.graph.specs.Valid.{graphOf};
 ghost use Rattle.graph.specs.Chart.{reading, writeOutcome, writeLeaves};
-ghost use Rattle.ffi.specs.Plain.{graphOf, numberOf, placeOf, leaves, checkOutcome};
+ghost use Rattle.ffi.specs.Plain.{numberOf, placeOf, leaves, checkOutcome};
 
 mod searches;
 mod trees;

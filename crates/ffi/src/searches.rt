@@ -5,7 +5,7 @@ ghost use mathlib.Core.Path.{_≡_};
 ghost use Rattle.lists.specs.Bools.{bit};
 ghost use Rattle.machine.specs.Calls as Calls;
 ghost use Rattle.search.specs.Record.{openingOf, fresh};
-ghost use Rattle.ffi.specs.Plain.{graphOf};
+ghost use Rattle.graph.specs.Valid.{graphOf};
 ghost use Rattle.ffi.specs.Searches.{flagsFit, searchOf, saidBy, leftBy, unfit, left, leftList, Leaves, Holds};
 use crate::graph_of;
 use graph::Graph;

@@ -3,7 +3,8 @@
 ghost use mathlib.Core.Path.{_≡_};
 ghost use lib.ListN.{length};
 ghost use Rattle.onetree.specs.Answers.{treeReply, treeLeaves, ruleReply, ruleLeaves};
-ghost use Rattle.ffi.specs.Plain.{graphOf, replyNumber, replyBound};
+ghost use Rattle.graph.specs.Valid.{graphOf};
+ghost use Rattle.ffi.specs.Plain.{replyNumber, replyBound};
 use crate::graph_of;
 use onetree::RuleAnswer;
 use onetree::TreeAnswer;
@@ -41,7 +42,7 @@ pub extern "C" fn planner_tree(
     }
 }
 
-// Ruled out: a ruling written where the graph is dead; 0 for a ceiling out of range.
+// Ruled out: a ruling written where no 1-tree is within the ceiling; 0 for a ceiling out of range.
 #[no_mangle]
 pub extern "C" fn planner_rule(
     n: usize,

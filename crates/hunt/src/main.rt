@@ -1,4 +1,4 @@
-// Program 'hunt': reads a ceiling and a chart from standard input, and prints what one run with zero dues finds. What it prints is
+// Program 'hunt': reads a ceiling and a chart from standard input, and prints what one run with zero multipliers finds. What it prints is
 // computed by reports::search_text; here stand only the calls that read and write.
 ghost use mathlib.Core.Path.{_≡_};
 ghost use lib.ListN.{length};

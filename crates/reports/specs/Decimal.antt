@@ -1,7 +1,7 @@
 -- Numbers as printed: ASCII digits, no more than the number needs, and '-' before a negative one. Definitions, and the equations that
 -- say what `decimal` is without the count f.
 use Prim.Native.Nat.{ℕ, zero, suc, _+_, _/_, _%_, _<_, _≤_}
-use mathlib.Core.Path.{_≡_, refl, sym, _∙_, ap}
+use mathlib.Core.Path.{_≡_, refl, ap}
 use mathlib.Core.Bool.{cond}
 use mathlib.Core.List.{List, [], _∷_, _++_}
 use native.Mathlib.Omega.{arith}

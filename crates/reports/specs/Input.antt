@@ -8,7 +8,7 @@ use lib.IntN.{ℤ}
 use lib.ListN.{length, drop}
 use Rattle.graph.specs.declared.Graph.{Graph}
 use Rattle.graph.specs.Answers.{Outcome, accepted, refused}
-use Rattle.graph.specs.Chart.{u32At, signedOf, ReadResult, reading}
+use Rattle.graph.specs.Chart.{u32At, signedOf, reading}
 use Rattle.reports.specs.Text.{refusedLine}
 
 -- the bytes of the ceiling

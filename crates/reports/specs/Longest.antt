@@ -7,9 +7,9 @@ use mathlib.Core.List.{List}
 use native.Mathlib.Omega.{arith}
 use lib.Dec.{ltb, leb, eqb}
 use lib.IntN.{ℤ}
-use lib.ListN.{length, getD, take, drop, length-take, length-drop}
+use lib.ListN.{length, getD, take, length-take, length-drop}
 use lib.Seq.{take-all, getD-take, getD-drop}
-use borrow.Author.Tests.{le-ltb, lt-ltb, ltb-true, ltb-false, leb-true, eqb-true, ne-eqb}
+use borrow.Author.Tests.{le-ltb, ltb-true, ltb-false, leb-true, ne-eqb}
 use Rattle.lists.specs.Bools.{by-cases}
 use Rattle.graph.specs.declared.Graph.{Graph}
 use Rattle.graph.specs.Limits.{minVertices, maxVertices, maxRecords}

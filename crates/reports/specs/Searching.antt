@@ -12,8 +12,8 @@ use Rattle.reports.specs.Input.{printed}
 use Rattle.reports.specs.Rulings.{zeroMultipliers}
 
 -- "one run with .. allowance 1,000,000"
-abbrev pub allowed : ℕ
-allowed = 1000000
+abbrev pub budget : ℕ
+budget = 1000000
 
 -- "with zero dues, no sweeps, step 0"
 abbrev pub plainOpening : ℤ → Graph → Opening
@@ -23,7 +23,7 @@ plainOpening ceiling g = record { graph = g; multipliers = zeroMultipliers g; ce
 unfoldable pub lastAnswer : Opening → Answer
 lastAnswer o =
     let opened : State = step noSearch (opens o) .state in
-    let ran : State = step opened (run allowed) .state in
+    let ran : State = step opened (run budget) .state in
     cond (isAccepted (step noSearch (opens o) .answer)) (step ran tell .answer) (step noSearch (opens o) .answer)
 
 -- "'refused N at P'"; or the verdict, "then on a second line 'nodes K'". Nothing is printed of another answer

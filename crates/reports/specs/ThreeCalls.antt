@@ -11,7 +11,7 @@ use Rattle.search.specs.Record.{fresh}
 use Rattle.search.specs.Replies.{means, reply, told}
 use Rattle.search.specs.Theorem.{as-the-machine}
 use Rattle.search.specs.declared.Outcome.{Outcome}
-use Rattle.reports.specs.Searching.{allowed, lastAnswer}
+use Rattle.reports.specs.Searching.{budget, lastAnswer}
 
 answer-at : ℕ → List Answer → Answer
 answer-at k l = getD l k accepted
@@ -37,8 +37,8 @@ module _ (o : Opening) (opened : Outcome) (e : opened ≡ reply fresh (opens o))
 
   -- and of an accepted one
   pub answer-told : isAccepted (means (opened .answer)) ≡ true
-      → (ran told : Outcome) → ran ≡ reply (opened .search) (run allowed) → told ≡ reply (ran .search) tell
+      → (ran told : Outcome) → ran ≡ reply (opened .search) (run budget) → told ≡ reply (ran .search) tell
       → means (told .answer) ≡ lastAnswer o
   unfolding lastAnswer
   answer-told h ran told r t =
-      rw (t, r, e) (third-answer (opens o) (run allowed) tell ∙ rw (rw opening-answer at h))
+      rw (t, r, e) (third-answer (opens o) (run budget) tell ∙ rw (rw opening-answer at h))

@@ -1,5 +1,4 @@
 // The lines that the programs print.
-ghost use mathlib.Core.Path.{_≡_};
 ghost use Prim.Native.Nat.{_+_, _≤_};
 ghost use lib.ListN.{length};
 ghost use Rattle.machine.specs.Calls.{best};
@@ -11,6 +10,10 @@ use crate::text::put_byte;
 use crate::text::put_decimal;
 use crate::text::put_signed;
 use crate::text::put_word;
+use onetree::BAR;
+use onetree::FORCE;
+use onetree::KEEP;
+use onetree::WAS_REQUIRED;
 
 // 'refused N at P'
 pub(crate) fn put_refused(out: &mut [u8; 4096], number: u32, place: u64) -> usize
@@ -47,16 +50,16 @@ fn put_ruling(out: &mut [u8; 4096], at: usize, ruling: u8) -> usize
     requires { ⌜ at + 8 ≤ 4096 ⌝ }
     ensures { λ r. ⌜ Put (rulingWord ruling) (now (out .entry)) at (now (out .exit)) r ⌝ }
 {
-    if ruling == 0 {
+    if ruling == KEEP {
         return put_word(out, at, b"keep");
     }
-    if ruling == 1 {
+    if ruling == FORCE {
         return put_word(out, at, b"force");
     }
-    if ruling == 2 {
+    if ruling == BAR {
         return put_word(out, at, b"bar");
     }
-    if ruling == 3 {
+    if ruling == WAS_REQUIRED {
         return put_word(out, at, b"required");
     }
     put_word(out, at, b"struck")

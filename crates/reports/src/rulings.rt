@@ -1,9 +1,8 @@
 // What program 'rulings' prints.
 ghost use mathlib.Core.Path.{_≡_};
-ghost use Prim.Native.Nat.{_+_, _*_, _<_, _≤_};
+ghost use Prim.Native.Nat.{_+_, _<_, _≤_};
 ghost use lib.ListN.{length};
 ghost use lib.Seq.{sets};
-ghost use Rattle.graph.specs.Limits.{maxVertices, maxEdges};
 ghost use Rattle.graph.specs.Valid.{Valid};
 ghost use Rattle.onetree.specs.Answers.{ruleMeaning, ruleReply, ruleLeaves};
 ghost use Rattle.reports.specs.Puts.{Put};

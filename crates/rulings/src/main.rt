@@ -1,4 +1,4 @@
-// Program 'rulings': reads a ceiling and a chart from standard input, and prints the rulings with zero dues. What it prints is computed by
+// Program 'rulings': reads a ceiling and a chart from standard input, and prints the rulings with zero multipliers. What it prints is computed by
 // reports::rulings_text; here stand only the calls that read and write.
 ghost use mathlib.Core.Path.{_≡_};
 ghost use lib.ListN.{length};

@@ -77,25 +77,26 @@ cell-past st p j h = ap byteOf (List·getD-eq-default (nodeAt st p) free h)
 -- place 190 · p + j, in parts
 in-node : (p j : ℕ) → j < maxEdges → ((maxEdges * p + j) / maxEdges ≡ p) × ((maxEdges * p + j) % maxEdges ≡ j)
 in-node p j h =
-    let e : 190 * ((190 * p + j) / 190) + (190 * p + j) % 190 ≡ 190 * p + j = div-add-mod (190 * p + j) 190 in
-    let l : (190 * p + j) % 190 < 190 = mod-lt (190 * p + j) {m = 190} (omega arith) in
+    let e : maxEdges * ((maxEdges * p + j) / maxEdges) + (maxEdges * p + j) % maxEdges ≡ maxEdges * p + j
+    = div-add-mod (maxEdges * p + j) maxEdges in
+    let l : (maxEdges * p + j) % maxEdges < maxEdges = mod-lt (maxEdges * p + j) {m = maxEdges} (omega arith) in
     (omega arith, omega arith)
 
 -- what holds of every place 190 · p + j holds of every place
 pub each-place : (P : ℕ → Type 0) → ((p : ℕ) → p < maxNodes → (j : ℕ) → j < maxEdges → P (maxEdges * p + j)) → (i : ℕ) → i < stackSize → P i
 each-place P h i b =
-    let e : 190 * (i / 190) + i % 190 ≡ i = div-add-mod i 190 in
-    let l : i % 190 < 190 = mod-lt i {m = 190} (omega arith) in
-    subst P e (h (i / 190) (omega arith) (i % 190) l)
+    let e : maxEdges * (i / maxEdges) + i % maxEdges ≡ i = div-add-mod i maxEdges in
+    let l : i % maxEdges < maxEdges = mod-lt i {m = maxEdges} (omega arith) in
+    subst P e (h (i / maxEdges) (omega arith) (i % maxEdges) l)
 
 pub cells-size : (st : List Marks) → length (cells st) ≡ stackSize
 unfolding cells
-cells-size st = fill-size stackSize (λ i. cell st (i / 190) (i % 190))
+cells-size st = fill-size stackSize (λ i. cell st (i / maxEdges) (i % maxEdges))
 
 pub cells-at : (st : List Marks) (p j : ℕ) → p < maxNodes → j < maxEdges → getD (cells st) (maxEdges * p + j) 0 ≡ cell st p j
 unfolding cells
 cells-at st p j h l =
-    fill-at stackSize (λ i. cell st (i / 190) (i % 190)) (190 * p + j) 0 (omega arith)
+    fill-at stackSize (λ i. cell st (i / maxEdges) (i % maxEdges)) (maxEdges * p + j) 0 (omega arith)
     ∙ rw (in-node p j l .0, in-node p j l .1)
 
 -- a list of bytes is the stack's, where each place is
@@ -104,28 +105,28 @@ pub cells-is : (st : List Marks) (l : List ℕ) → length l ≡ stackSize
     → cells st ≡ l
 unfolding cells
 cells-is st l e h =
-    fill-is stackSize (λ i. cell st (i / 190) (i % 190)) l 0 e
-    (each-place (λ i. cell st (i / 190) (i % 190) ≡ getD l i 0)
+    fill-is stackSize (λ i. cell st (i / maxEdges) (i % maxEdges)) l 0 e
+    (each-place (λ i. cell st (i / maxEdges) (i % maxEdges) ≡ getD l i 0)
     (λ p b j c. rw (in-node p j c .0, in-node p j c .1) (h p b j c)))
 
 pub cells-empty : replicate stackSize 0 ≡ cells []
 cells-empty =
     sym (cells-is [] (replicate stackSize 0) (length-replicate {A = ℕ} stackSize 0)
-    (λ p b j d. cell-none [] p j (omega arith) ∙ sym (replicate-at {A = ℕ} stackSize 0 (190 * p + j))))
+    (λ p b j d. cell-none [] p j (omega arith) ∙ sym (replicate-at {A = ℕ} stackSize 0 (maxEdges * p + j))))
 
 -- ---- the nodes of a list of bytes
 
 pub node-size : (m : ℕ) (l : List ℕ) (p : ℕ) → length (node m l p) ≡ m
 unfolding node
-node-size m l p = fill-size m (λ j. markOf (getD l (190 * p + j) 0))
+node-size m l p = fill-size m (λ j. markOf (getD l (maxEdges * p + j) 0))
 
 pub node-at : (m : ℕ) (l : List ℕ) (p j : ℕ) → j < m → getD (node m l p) j free ≡ markOf (getD l (maxEdges * p + j) 0)
 unfolding node
-node-at m l p j h = fill-at m (λ i. markOf (getD l (190 * p + i) 0)) j free h
+node-at m l p j h = fill-at m (λ i. markOf (getD l (maxEdges * p + i) 0)) j free h
 
 pub node-past : (m : ℕ) (l : List ℕ) (p j : ℕ) → m ≤ j → getD (node m l p) j free ≡ free
 unfolding node
-node-past m l p j h = fill-past m (λ i. markOf (getD l (190 * p + i) 0)) j free h
+node-past m l p j h = fill-past m (λ i. markOf (getD l (maxEdges * p + i) 0)) j free h
 
 pub nodes-size : (m : ℕ) (l : List ℕ) (d : ℕ) → length (nodes m l d) ≡ d
 unfolding nodes
@@ -181,7 +182,7 @@ pub node-back : (m : ℕ) (l : List ℕ) (st : List Marks) (p : ℕ) → length 
     → ((j : ℕ) → j < m → getD l (maxEdges * p + j) 0 ≡ cell st p j) → node m l p ≡ nodeAt st p
 unfolding node cell
 node-back m l st p e h =
-    fill-is m (λ j. markOf (getD l (190 * p + j) 0)) (nodeAt st p) free e
+    fill-is m (λ j. markOf (getD l (maxEdges * p + j) 0)) (nodeAt st p) free e
     (λ j b. ap markOf (h j b) ∙ mark-byte (getD (nodeAt st p) j free))
 
 -- and those of the whole stack give the stack
@@ -192,7 +193,7 @@ unfolding nodes
 nodes-back m l [] n h = refl
 nodes-back m l (x ∷ rest) n h = rw (top, nodes-back m l rest (n .2) below)
   where
-    below : (p : ℕ) → p < length rest → (j : ℕ) → j < m → getD l (190 * p + j) 0 ≡ cell rest p j
+    below : (p : ℕ) → p < length rest → (j : ℕ) → j < m → getD l (maxEdges * p + j) 0 ≡ cell rest p j
     below p b j c = h p (omega arith) j c ∙ cell-lower x rest p j (omega arith)
 
     top : node m l (length rest) ≡ x

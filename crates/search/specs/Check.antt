@@ -8,12 +8,12 @@ use native.Mathlib.Omega.{arith}
 use native.Mathlib.Decide.{decLe, ℕ-discrete, map-dec}
 use lib.ListN.{getD}
 use lib.IntN.{ℤ, pos, ℤ-discrete}
-use Rattle.graph.specs.Limits.{maxMark, maxCount}
+use Rattle.graph.specs.Limits.{maxVertices, maxEdges, maxMark, maxCount}
 use Rattle.graph.specs.declared.Graph.{Graph}
 use Rattle.onetree.specs.Inputs.{ceilingFits}
 use Rattle.machine.specs.Machine.{frees}
 use Rattle.machine.specs.Calls.{fault}
-use Rattle.search.specs.Record.{node, openingIn}
+use Rattle.search.specs.Record.{maxNodes, node, openingIn}
 use Rattle.search.specs.Canonical.{Zeros, GraphTidy, NodeZeros, usedIn, StackTidy, Tidy, Idle, NodeFits, StackFits, Bits, Fits, Stands, Canonical}
 use Rattle.search.specs.declared.Search.{Search}
 
@@ -61,26 +61,28 @@ zerosZ n from l =
 graph-tidy : (g : Graph) → Dec (GraphTidy g)
 graph-tidy g =
     map-dec
-    {A = Zeros 0 190 (g .m) (g .a) × (Zeros 0 190 (g .m) (g .b) × (Zeros (pos 0) 190 (g .m) (g .cost) × Zeros 0 190 (g .m) (g .mark)))}
+    {A = Zeros 0 maxEdges (g .m) (g .a) × (Zeros 0 maxEdges (g .m) (g .b)
+    × (Zeros (pos 0) maxEdges (g .m) (g .cost) × Zeros 0 maxEdges (g .m) (g .mark)))}
     (λ t. record { a = t .0; b = t .1 .0; cost = t .1 .1 .0; mark = t .1 .1 .1 }) (λ t. (t .a, (t .b, (t .cost, t .mark))))
-    (both (zeros 190 (g .m) (g .a)) (both (zeros 190 (g .m) (g .b)) (both (zerosZ 190 (g .m) (g .cost)) (zeros 190 (g .m) (g .mark)))))
+    (both (zeros maxEdges (g .m) (g .a)) (both (zeros maxEdges (g .m) (g .b))
+    (both (zerosZ maxEdges (g .m) (g .cost)) (zeros maxEdges (g .m) (g .mark)))))
 
 stack-tidy : (m depth : ℕ) (l : List ℕ) → Dec (StackTidy m depth l)
 stack-tidy m depth l =
-    below 191 (λ p. NodeZeros l p (usedIn m depth p))
-    (λ p. below 190 (λ j. usedIn m depth p ≤ j → getD l (190 * p + j) 0 ≡ 0)
-    (λ j. implies (decLe (usedIn m depth p) j) (ℕ-discrete (getD l (190 * p + j) 0) 0)))
+    below maxNodes (λ p. NodeZeros l p (usedIn m depth p))
+    (λ p. below maxEdges (λ j. usedIn m depth p ≤ j → getD l (maxEdges * p + j) 0 ≡ 0)
+    (λ j. implies (decLe (usedIn m depth p) j) (ℕ-discrete (getD l (maxEdges * p + j) 0) 0)))
 
 module _ (s : Search) where
   tidy : Dec (Tidy s)
   tidy =
       map-dec
-      {A = GraphTidy (s .graph) × (Zeros (pos 0) 20 (s .graph .n) (s .multipliers)
-      × (StackTidy (s .graph .m) (s .depth) (s .stack) × Zeros 0 190 (cond (s .«has_best») (s .graph .m) 0) (s .best)))}
+      {A = GraphTidy (s .graph) × (Zeros (pos 0) maxVertices (s .graph .n) (s .multipliers)
+      × (StackTidy (s .graph .m) (s .depth) (s .stack) × Zeros 0 maxEdges (cond (s .«has_best») (s .graph .m) 0) (s .best)))}
       (λ t. record { graph = t .0; multipliers = t .1 .0; stack = t .1 .1 .0; best = t .1 .1 .1 })
       (λ t. (t .graph, (t .multipliers, (t .stack, t .best))))
-      (both (graph-tidy (s .graph)) (both (zerosZ 20 (s .graph .n) (s .multipliers))
-      (both (stack-tidy (s .graph .m) (s .depth) (s .stack)) (zeros 190 (cond (s .«has_best») (s .graph .m) 0) (s .best)))))
+      (both (graph-tidy (s .graph)) (both (zerosZ maxVertices (s .graph .n) (s .multipliers))
+      (both (stack-tidy (s .graph .m) (s .depth) (s .stack)) (zeros maxEdges (cond (s .«has_best») (s .graph .m) 0) (s .best)))))
 
   idle : Dec (Idle s)
   idle =
@@ -104,7 +106,9 @@ module _ (s : Search) where
 
   node-fits : (p : ℕ) → Dec (NodeFits (s .graph .m) (s .stack) p)
   node-fits p =
-      both (below (s .graph .m) (λ j. getD (s .stack) (190 * p + j) 0 ≤ maxMark) (λ j. decLe (getD (s .stack) (190 * p + j) 0) maxMark))
+      both
+      (below (s .graph .m) (λ j. getD (s .stack) (maxEdges * p + j) 0 ≤ maxMark)
+      (λ j. decLe (getD (s .stack) (maxEdges * p + j) 0) maxMark))
       (decLe (frees (node (s .graph .m) (s .stack) p) + p) (s .graph .m))
 
   fits : Dec (Fits s)
@@ -123,7 +127,7 @@ module _ (s : Search) where
       (λ t. (t .opening, (t .upper, (t .depth, (t .stack, (t .best, t .count))))))
       (both (ℕ-discrete _ _) (both (bool _ _) (both (decLe _ _)
       (both (below (s .depth) (λ p. NodeFits (s .graph .m) (s .stack) p) node-fits)
-      (both (below 190 (λ i. getD (s .best) i 0 ≤ 1) (λ i. decLe _ _)) (decLe _ _))))))
+      (both (below maxEdges (λ i. getD (s .best) i 0 ≤ 1) (λ i. decLe _ _)) (decLe _ _))))))
 
   stands : (b : Bool) → Dec (Stands b s)
   stands true = fits

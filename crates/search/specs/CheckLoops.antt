@@ -17,7 +17,8 @@ use Rattle.lists.specs.Bools.{Says, bit}
 use Rattle.lists.specs.Rows.{row}
 use Rattle.lists.specs.Fill.{fill, fit, fill-is}
 use Rattle.integers.specs.Words.{back32, back64}
-use Rattle.graph.specs.Network.{Mark, free, markOf}
+use Rattle.graph.specs.Limits.{maxEdges}
+use Rattle.graph.specs.Network.{Mark, markOf}
 use Rattle.machine.specs.Machine.{isFree, frees}
 use Rattle.search.specs.Record.{node}
 use Rattle.search.specs.Canonical.{Tidy, Stands, Canonical}
@@ -78,15 +79,15 @@ module _ (l : List ℕ) (p : ℕ) where
   unfolding node fill row frees
   frees-none = refl
 
-  node-more : (j : ℕ) → frees (node (j + 1) l p) ≡ frees (node j l p) + bit (isFree (markOf (getD l (190 * p + j) 0)))
+  node-more : (j : ℕ) → frees (node (j + 1) l p) ≡ frees (node j l p) + bit (isFree (markOf (getD l (maxEdges * p + j) 0)))
   unfolding node fill
   node-more j = rw add-one (frees-more j _)
 
-  pub frees-free : (j : ℕ) → getD l (190 * p + j) 0 ≡ 0 → frees (node (j + 1) l p) ≡ frees (node j l p) + 1
+  pub frees-free : (j : ℕ) → getD l (maxEdges * p + j) 0 ≡ 0 → frees (node (j + 1) l p) ≡ frees (node j l p) + 1
   frees-free j e = node-more j ∙ ap (λ (k : ℕ). frees (node j l p) + bit (isFree (markOf k))) e ∙ unfold markOf in refl
 
-  pub frees-other : (j : ℕ) → (getD l (190 * p + j) 0 ≡ 0 → ⊥) → frees (node (j + 1) l p) ≡ frees (node j l p)
-  frees-other j e = omega (arith, node-more j, other (getD l (190 * p + j) 0) e)
+  pub frees-other : (j : ℕ) → (getD l (maxEdges * p + j) 0 ≡ 0 → ⊥) → frees (node (j + 1) l p) ≡ frees (node j l p)
+  frees-other j e = omega (arith, node-more j, other (getD l (maxEdges * p + j) 0) e)
     where
       other : (k : ℕ) → (k ≡ 0 → ⊥) → bit (isFree (markOf k)) ≡ 0
       other zero d = absurd (d refl)

@@ -10,7 +10,7 @@ use native.Mathlib.Numerals.{add-one}
 use lib.Dec.{eqb}
 use lib.ListN.{length, getD, set, length-set, replicate, length-replicate}
 use lib.Seq.{getD-set-same, getD-set-other}
-use lib.IntN.{ℤ, pos}
+use lib.IntN.{pos}
 use borrow.Author.Tests.{eq-eqb, ne-eqb}
 use Rattle.lists.specs.Fill.{replicate-at}
 use Rattle.graph.specs.declared.Graph.{Graph}
@@ -78,10 +78,6 @@ module _ {A : Type 0} (z : A) (c : Edges) (f : ℕ → A) where
           getD-set-other l (rank c k) j v z (omega arith) ∙ h .past j (omega arith)
 
 -- ---- a graph
-
--- the graph that these are the parts of
-abbrev pub graphIn : ℕ → ℕ → List ℕ → List ℕ → List ℤ → List ℕ → Graph
-graphIn n m a b cost mark = record { n = n; m = m; a = a; b = b; cost = cost; mark = mark }
 
 -- the first k edges are gone through: r has those that are kept, and q the place that each had
 pub record Compacting (g : Graph) (marks : List ℕ) (k : ℕ) (r : Graph) (q : List ℕ) : Type 0 where

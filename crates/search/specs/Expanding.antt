@@ -7,7 +7,7 @@ use mathlib.Core.List.{List}
 use Prim.Native.Nat.{ℕ, suc, _+_, _≤_, _<_}
 use native.Mathlib.Omega.{arith}
 use native.Mathlib.Decide.{ℕ-discrete}
-use lib.ListN.{length, getD, set, length-set, List·getD-eq-default}
+use lib.ListN.{length, getD, set, length-set, replicate, List·getD-eq-default}
 use lib.Seq.{getD-set-same, getD-set-other}
 use Rattle.lists.specs.Bools.{bit}
 use Rattle.lists.specs.Fill.{fill-at}
@@ -18,12 +18,12 @@ use Rattle.machine.specs.Machine as M
 use Rattle.machine.specs.Machine.{Marks}
 use Rattle.compaction.specs.Ranks.{rank, rank-most}
 use Rattle.compaction.specs.Spread.{spreadMarks, spreadTour, spreadOpened, spread-size, spread-kept, spread-rest}
-use Rattle.search.specs.declared.node.Opened.{Opened}
+use Rattle.search.specs.declared.node.Fate.{Fate}
 use Rattle.search.specs.declared.node.Fate.the-variants as fate
 use Rattle.search.specs.Record.{byteOf, bestBytes}
 use Rattle.search.specs.Pushing.{bytesOf, bytes-at}
 use Rattle.search.specs.Filling.{Filling, filling-is}
-use Rattle.search.specs.Opening.{openedAs}
+use Rattle.search.specs.Opening.{Opened, opened, openedAs}
 use Rattle.search.specs.Compacting.{kept}
 
 -- ---- bytes put at places
@@ -123,32 +123,33 @@ module _ (marks : List ℕ) (m : ℕ) (few : m ≤ maxEdges) where
 
   -- ---- by the fate of the node
 
-  pub closes-same : (out : M.Opened) (o : Opened) → o ≡ openedAs out → o .fate ≡ fate.Closes → o ≡ openedAs (spreadOpened (kept marks) m out)
+  pub closes-same : (out : M.Opened) (o : Opened) → o ≡ openedAs out → o .fate ≡ fate.Closes
+      → opened (o .fate) (replicate maxEdges 0) (replicate maxEdges 0) ≡ openedAs (spreadOpened (kept marks) m out)
   unfolding openedAs
-  closes-same closes o e f = e
+  closes-same closes o e f = ap (λ (a : Fate). opened a (replicate maxEdges 0) (replicate maxEdges 0)) f
   closes-same (finds r) o e f = let z : fate.Finds ≡ fate.Closes = sym (ap (λ (p : Opened). p .fate) e) ∙ f in cc
   closes-same (splits x y) o e f = let z : fate.Splits ≡ fate.Closes = sym (ap (λ (p : Opened). p .fate) e) ∙ f in cc
 
   pub finds-same : (out : M.Opened) (o : Opened) → o ≡ openedAs out → o .fate ≡ fate.Finds
       → (w : List ℕ) → Filling 0 maxEdges m (expandedAt marks (o .row) 0) w
-      → record { fate = fate.Finds; row = w; top = o .top } ≡ openedAs (spreadOpened (kept marks) m out)
+      → opened (o .fate) w (replicate maxEdges 0) ≡ openedAs (spreadOpened (kept marks) m out)
   unfolding openedAs
   finds-same closes o e f w h = let z : fate.Closes ≡ fate.Finds = sym (ap (λ (p : Opened). p .fate) e) ∙ f in cc
   finds-same (finds r) o e f w h = λ i. record {
-    fate = fate.Finds;
+    fate = f i;
     row = expanded-tour r w (subst (λ (p : Opened). Filling 0 maxEdges m (expandedAt marks (p .row) 0) w) e h) i;
-    top = e i .top;
+    top = replicate maxEdges 0;
   }
   finds-same (splits x y) o e f w h = let z : fate.Splits ≡ fate.Finds = sym (ap (λ (p : Opened). p .fate) e) ∙ f in cc
 
   pub splits-same : (out : M.Opened) (o : Opened) → o ≡ openedAs out → o .fate ≡ fate.Splits
       → (w u : List ℕ) → Filling 0 maxEdges m (expandedAt marks (o .row) 2) w → Filling 0 maxEdges m (expandedAt marks (o .top) 2) u
-      → record { fate = fate.Splits; row = w; top = u } ≡ openedAs (spreadOpened (kept marks) m out)
+      → opened (o .fate) w u ≡ openedAs (spreadOpened (kept marks) m out)
   unfolding openedAs
   splits-same closes o e f w u h k = let z : fate.Closes ≡ fate.Splits = sym (ap (λ (p : Opened). p .fate) e) ∙ f in cc
   splits-same (finds r) o e f w u h k = let z : fate.Finds ≡ fate.Splits = sym (ap (λ (p : Opened). p .fate) e) ∙ f in cc
   splits-same (splits x y) o e f w u h k = λ i. record {
-    fate = fate.Splits;
+    fate = f i;
     row = expanded-marks x w (subst (λ (p : Opened). Filling 0 maxEdges m (expandedAt marks (p .row) 2) w) e h) i;
     top = expanded-marks y u (subst (λ (p : Opened). Filling 0 maxEdges m (expandedAt marks (p .top) 2) u) e k) i;
   }

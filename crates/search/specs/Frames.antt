@@ -1,6 +1,6 @@
--- A search while it runs: the part of its progress that changes is a small frame by value (`Frame`) beside the lent bytes of the stack.
--- `Holds` says which search they hold, and the laws say what each outcome of the top node's opening makes of them. Running.antt has the
--- loop over them.
+-- A search while it runs: the part of its progress that changes is a small frame by value (`Frame`) beside the lent bytes of the stack
+-- and of the best tour. `Holds` says which search they hold, and the laws say what each outcome of the top node's opening makes of them.
+-- Running.antt has the loop over them.
 use mathlib.Core.Path.{_≡_, refl, sym, ap, _∙_, subst}
 use mathlib.Core.Bool.{Bool, true}
 use mathlib.Core.List.{List, [], _∷_}
@@ -22,7 +22,6 @@ use Rattle.machine.specs.Machine as M
 use Rattle.machine.specs.Machine.{Marks, Progress, edgesOf, costOf, lowered, openNode, settled, openTop}
 use Rattle.machine.specs.Kept.{Kept, Nodes, Sized, depth}
 use Rattle.machine.specs.Preserved.{top-kept}
-use Rattle.search.specs.declared.node.Opened.{Opened}
 use Rattle.search.specs.declared.node.Fate.{Fate}
 use Rattle.search.specs.declared.node.Fate.the-variants as fate
 use Rattle.search.specs.declared.running.Frame.{Frame}
@@ -31,26 +30,20 @@ use Rattle.search.specs.Cells.{cells-size}
 use Rattle.search.specs.Incumbents.{best-back}
 use Rattle.search.specs.Pushing.{bytesOf, Put, pushed, replaced, popped}
 use Rattle.search.specs.Costs.{cost-bits}
-use Rattle.search.specs.Opening.{openedAs}
+use Rattle.search.specs.Opening.{Opened, openedAs}
 
--- what changes of a search, but for the stack's bytes
+-- what changes of a search, but for the bytes of the stack and of the best tour
 unfoldable pub frameOf : Progress → Frame
-unfolding hasBest bestBytes
-frameOf s =
-    record {
-      upper = s .upper;
-      depth = length (s .stack);
-      «has_best» = hasBest (s .incumbent);
-      best = bestBytes (s .incumbent);
-      count = s .count;
-    }
+unfolding hasBest
+frameOf s = record { upper = s .upper; depth = length (s .stack); «has_best» = hasBest (s .incumbent); count = s .count }
 
--- the frame f and the stack's bytes l hold the search s on the graph g
-pub record Holds (g : Graph) (f : Frame) (l : List ℕ) (s : Progress) : Type 0 where
+-- the frame f, the stack's bytes l and the best tour's bytes w hold the search s on the graph g
+pub record Holds (g : Graph) (f : Frame) (l w : List ℕ) (s : Progress) : Type 0 where
   pub kept : Kept s
   pub graph : s .opening .graph ≡ g
   pub frame : f ≡ frameOf s
   pub bytes : l ≡ cells (s .stack)
+  pub best : w ≡ bestBytes (s .incumbent)
 
 -- a node waits, and may be opened
 pub record Top (s : Progress) : Type 0 where
@@ -59,16 +52,19 @@ pub record Top (s : Progress) : Type 0 where
   pub stack : s .stack ≡ node ∷ rest
   pub room : s .count < maxCount
 
--- the top node comes to o
-pub record Opens (g : Graph) (f : Frame) (l : List ℕ) (o : Opened) : Type 0 where
+-- the top node comes to o; of the graph the edges' number and their costs are given
+pub record Opens (m : ℕ) (costs : List ℤ) (f : Frame) (l w : List ℕ) (o : Opened) : Type 0 where
+  pub graph : Graph
+  pub many : graph .m ≡ m
+  pub costs-are : graph .cost ≡ costs
   pub search : Progress
-  pub holds : Holds g f l search
+  pub holds : Holds graph f l w search
   pub top : Top search
   pub is : o ≡ openedAs (openNode (search .opening) (search .upper) (top .node))
 
 -- ---- what the frame tells
 
-module _ (g : Graph) (f : Frame) (l : List ℕ) (s : Progress) (h : Holds g f l s) where
+module _ (g : Graph) (f : Frame) (l w : List ℕ) (s : Progress) (h : Holds g f l w s) where
   pub holds-upper : f .upper ≡ s .upper
   unfolding frameOf
   holds-upper = ap (λ (x : Frame). x .upper) (h .frame)
@@ -114,9 +110,13 @@ fateNumber fate.Splits = 2
 fate-is : (out : M.Opened) (o : Opened) → o ≡ openedAs out → (a : Fate) → o .fate ≡ a → fateNumber (openedAs out .fate) ≡ fateNumber a
 fate-is out o e a h = ap (λ (x : Opened). fateNumber (x .fate)) (sym e) ∙ ap fateNumber h
 
-pub opened-closes : (out : M.Opened) (o : Opened) → o ≡ openedAs out → o .fate ≡ fate.Closes → out ≡ closes
+pub record Closes (out : M.Opened) (o : Opened) : Type 0 where
+  pub is : out ≡ closes
+  pub top : o .top ≡ replicate maxEdges 0
+
+pub opened-closes : (out : M.Opened) (o : Opened) → o ≡ openedAs out → o .fate ≡ fate.Closes → Closes out o
 unfolding openedAs
-opened-closes closes o e h = refl
+opened-closes closes o e h = record { is = refl; top = ap (λ (x : Opened). x .top) e }
 opened-closes (finds t) o e h = absurd (omega (arith, fate-is (finds t) o e fate.Closes h))
 opened-closes (splits y z) o e h = absurd (omega (arith, fate-is (splits y z) o e fate.Closes h))
 
@@ -124,11 +124,12 @@ pub record Finds (out : M.Opened) (o : Opened) : Type 0 where
   pub tour : List Bool
   pub is : out ≡ finds tour
   pub row : o .row ≡ bestBytes (aTour tour)
+  pub top : o .top ≡ replicate maxEdges 0
 
 pub opened-finds : (out : M.Opened) (o : Opened) → o ≡ openedAs out → o .fate ≡ fate.Finds → Finds out o
 unfolding openedAs
 opened-finds closes o e h = absurd (omega (arith, fate-is closes o e fate.Finds h))
-opened-finds (finds t) o e h = record { tour = t; is = refl; row = ap (λ (x : Opened). x .row) e }
+opened-finds (finds t) o e h = record { tour = t; is = refl; row = ap (λ (x : Opened). x .row) e; top = ap (λ (x : Opened). x .top) e }
 opened-finds (splits y z) o e h = absurd (omega (arith, fate-is (splits y z) o e fate.Finds h))
 
 pub record Splits (out : M.Opened) (o : Opened) : Type 0 where
@@ -154,7 +155,10 @@ bits-back m t few z = same (bits m (bestBytes (aTour t))) t (best-back m (aTour 
     same : (x y : List Bool) → aTour x ≡ aTour y → x ≡ y
     same x y e = cc
 
-module _ (g : Graph) (f : Frame) (l : List ℕ) (o : Opened) (t : Opens g f l o) where
+module _ (m : ℕ) (costs : List ℤ) (f : Frame) (l w : List ℕ) (o : Opened) (t : Opens m costs f l w o) where
+  abbrev g : Graph
+  g = t .graph
+
   s : Progress
   s = t .search
 
@@ -167,19 +171,19 @@ module _ (g : Graph) (f : Frame) (l : List ℕ) (o : Opened) (t : Opens g f l o)
   -- the place of the top node
   pub top-place : length (t .top .rest) ≡ f .depth - 1
   unfolding s
-  top-place = omega (arith, holds-depth g f l s (t .holds), ap {A = List Marks} length (t .top .stack))
+  top-place = omega (arith, holds-depth g f l w s (t .holds), ap {A = List Marks} length (t .top .stack))
 
   pub top-depth : 1 ≤ f .depth
   unfolding s
-  top-depth = omega (arith, holds-depth g f l s (t .holds), ap {A = List Marks} length (t .top .stack))
+  top-depth = omega (arith, holds-depth g f l w s (t .holds), ap {A = List Marks} length (t .top .stack))
 
   pub top-high : f .depth - 1 < maxNodes
   unfolding s
-  top-high = omega (arith, top-depth, holds-deep g f l s (t .holds), holds-valid g f l s (t .holds) .few)
+  top-high = omega (arith, top-depth, holds-deep g f l w s (t .holds), holds-valid g f l w s (t .holds) .few)
 
   pub top-room : f .count < maxCount
   unfolding s
-  top-room = omega (arith, holds-count g f l s (t .holds), t .top .room)
+  top-room = omega (arith, holds-count g f l w s (t .holds), t .top .room)
 
   is-settled : next ≡ settled s (t .top .rest) out
   unfolding s out openTop
@@ -195,14 +199,15 @@ module _ (g : Graph) (f : Frame) (l : List ℕ) (o : Opened) (t : Opens g f l o)
   settles r e = is-settled ∙ ap (settled s (t .top .rest)) e
 
   -- how the frame and the bytes hold what they should
-  holds-next : (r : M.Opened) → out ≡ r → (f′ : Frame) (l′ : List ℕ) → f′ ≡ frameOf (settled s (t .top .rest) r)
-      → l′ ≡ cells (settled s (t .top .rest) r .stack) → Holds g f′ l′ next
+  holds-next : (r : M.Opened) → out ≡ r → (f′ : Frame) (l′ w′ : List ℕ) → f′ ≡ frameOf (settled s (t .top .rest) r)
+      → l′ ≡ cells (settled s (t .top .rest) r .stack) → w′ ≡ bestBytes (settled s (t .top .rest) r .incumbent) → Holds g f′ l′ w′ next
   unfolding s settled
-  holds-next r e f′ l′ a b = record {
+  holds-next r e f′ l′ w′ a b d = record {
     kept = next-kept;
     graph = ap (λ (x : Progress). x .opening .graph) (settles r e) ∙ t .holds .graph;
     frame = a ∙ ap frameOf (sym (settles r e));
     bytes = b ∙ ap (λ (x : Progress). cells (x .stack)) (sym (settles r e));
+    best = d ∙ ap (λ (x : Progress). bestBytes (x .incumbent)) (sym (settles r e));
   }
 
   old-bytes : l ≡ cells (t .top .node ∷ t .top .rest)
@@ -211,39 +216,43 @@ module _ (g : Graph) (f : Frame) (l : List ℕ) (o : Opened) (t : Opens g f l o)
 
   count-next : f .count + 1 ≡ suc (s .count)
   unfolding s
-  count-next = add-one (f .count) ∙ ap suc (holds-count g f l s (t .holds))
+  count-next = add-one (f .count) ∙ ap suc (holds-count g f l w s (t .holds))
 
   -- the node closes
-  pub next-closes : (l′ : List ℕ) → o .fate ≡ fate.Closes → Put (f .depth - 1) maxEdges (replicate maxEdges 0) l l′
-      → Holds g
-      (record { upper = f .upper; depth = f .depth - 1; «has_best» = f .«has_best»; best = f .best; count = f .count + 1 }) l′ next
+  pub next-closes : (l′ : List ℕ) → o .fate ≡ fate.Closes → Put (f .depth - 1) maxEdges (o .top) l l′
+      → Holds g (record { upper = f .upper; depth = f .depth - 1; «has_best» = f .«has_best»; count = f .count + 1 }) l′ w next
   unfolding s out settled frameOf
   next-closes l′ h put =
-      holds-next closes (opened-closes (openNode (s .opening) (s .upper) (t .top .node)) o (t .is) h) _ l′
+      holds-next closes (r .is) _ l′ w
       (λ i. record {
-        upper = holds-upper g f l s (t .holds) i;
+        upper = holds-upper g f l w s (t .holds) i;
         depth = sym top-place i;
         «has_best» = ap (λ (x : Frame). x .«has_best») (t .holds .frame) i;
-        best = ap (λ (x : Frame). x .best) (t .holds .frame) i;
         count = count-next i;
       })
-      (popped (f .depth - 1) l l′ (t .top .rest) top-place (t .top .node) old-bytes put)
+      (popped (f .depth - 1) l l′ (t .top .rest) top-place (t .top .node) old-bytes
+      (subst (λ (x : List ℕ). Put (f .depth - 1) maxEdges x l l′) (r .top) put))
+      (t .holds .best)
+    where
+      r : Closes (openNode (s .opening) (s .upper) (t .top .node)) o
+      r = opened-closes (openNode (s .opening) (s .upper) (t .top .node)) o (t .is) h
 
   -- the tour becomes the incumbent
   pub next-finds : (l′ : List ℕ) (upper : ℤ) → o .fate ≡ fate.Finds → upper ≡ cost (network g) (bytes (o .row)) -ℤ pos 1
-      → Put (f .depth - 1) maxEdges (replicate maxEdges 0) l l′
-      → Holds g (record { upper = upper; depth = f .depth - 1; «has_best» = true; best = o .row; count = f .count + 1 }) l′ next
+      → Put (f .depth - 1) maxEdges (o .top) l l′
+      → Holds g (record { upper = upper; depth = f .depth - 1; «has_best» = true; count = f .count + 1 }) l′ (o .row) next
   unfolding s out settled frameOf lowered costOf hasBest
   next-finds l′ upper h u put =
-      holds-next (finds (r .tour)) (r .is) _ l′
+      holds-next (finds (r .tour)) (r .is) _ l′ (o .row)
       (λ i. record {
         upper = (u ∙ ap (λ (z : ℤ). z -ℤ pos 1) same-cost) i;
         depth = sym top-place i;
         «has_best» = true;
-        best = r .row i;
         count = count-next i;
       })
-      (popped (f .depth - 1) l l′ (t .top .rest) top-place (t .top .node) old-bytes put)
+      (popped (f .depth - 1) l l′ (t .top .rest) top-place (t .top .node) old-bytes
+      (subst (λ (x : List ℕ). Put (f .depth - 1) maxEdges x l l′) (r .top) put))
+      (r .row)
     where
       r : Finds (openNode (s .opening) (s .upper) (t .top .node)) o
       r = opened-finds (openNode (s .opening) (s .upper) (t .top .node)) o (t .is) h
@@ -254,7 +263,7 @@ module _ (g : Graph) (f : Frame) (l : List ℕ) (o : Opened) (t : Opens g f l o)
       same-cost : cost (network g) (bytes (o .row)) ≡ cost (network (s .opening .graph)) (edgesOf (r .tour))
       same-cost =
           sym (cost-bits g (o .row))
-          ∙ ap (λ (w : List ℕ). cost (network g) (edgesOf (bits (g .m) w))) (r .row)
+          ∙ ap (λ (x : List ℕ). cost (network g) (edgesOf (bits (g .m) x))) (r .row)
           ∙ ap (λ (h : Graph). cost (network h) (edgesOf (bits (h .m) (bestBytes (aTour (r .tour)))))) (sym (t .holds .graph))
           ∙ ap (λ (b : List Bool). cost (network (s .opening .graph)) (edgesOf b))
           (bits-back (s .opening .graph .m) (r .tour) (t .holds .kept .opening .valid .few) long)
@@ -279,22 +288,21 @@ module _ (g : Graph) (f : Frame) (l : List ℕ) (o : Opened) (t : Opens g f l o)
 
   pub next-splits : (l₁ l₂ : List ℕ) → o .fate ≡ fate.Splits → Put (f .depth - 1) maxEdges (o .row) l l₁
       → Put (f .depth - 1 + 1) maxEdges (o .top) l₁ l₂
-      → Holds g
-      (record { upper = f .upper; depth = f .depth - 1 + 2; «has_best» = f .«has_best»; best = f .best; count = f .count + 1 }) l₂ next
+      → Holds g (record { upper = f .upper; depth = f .depth - 1 + 2; «has_best» = f .«has_best»; count = f .count + 1 }) l₂ w next
   unfolding s out settled frameOf
   next-splits l₁ l₂ h put₁ put₂ =
-      holds-next (splits (split h .under) (split h .over)) (split h .is) _ l₂
+      holds-next (splits (split h .under) (split h .over)) (split h .is) _ l₂ w
       (λ i. record {
-        upper = holds-upper g f l s (t .holds) i;
+        upper = holds-upper g f l w s (t .holds) i;
         depth = deeper i;
         «has_best» = ap (λ (x : Frame). x .«has_best») (t .holds .frame) i;
-        best = ap (λ (x : Frame). x .best) (t .holds .frame) i;
         count = count-next i;
       })
       (pushed (f .depth - 1 + 1) l₁ l₂ (split h .under ∷ t .top .rest) (omega (arith, top-place)) (split h .over)
       (replaced (f .depth - 1) l l₁ (t .top .rest) top-place (t .top .node) (split h .under) old-bytes
-      (subst (λ (w : List ℕ). Put (f .depth - 1) maxEdges w l l₁) (split h .row) put₁))
-      (subst (λ (w : List ℕ). Put (f .depth - 1 + 1) maxEdges w l₁ l₂) (split h .top) put₂))
+      (subst (λ (x : List ℕ). Put (f .depth - 1) maxEdges x l l₁) (split h .row) put₁))
+      (subst (λ (x : List ℕ). Put (f .depth - 1 + 1) maxEdges x l₁ l₂) (split h .top) put₂))
+      (t .holds .best)
     where
       deeper : f .depth - 1 + 2 ≡ suc (suc (length (t .top .rest)))
       deeper = omega (arith, top-place)

@@ -112,7 +112,7 @@ fresh-canonical = record {
       mark = λ i b c. replicate-at {A = ℕ} maxEdges 0 i;
     };
     multipliers = λ i b c. replicate-at {A = ℤ} maxVertices (pos 0) i;
-    stack = λ p b j d c. replicate-at {A = ℕ} stackSize 0 (190 * p + j);
+    stack = λ p b j d c. replicate-at {A = ℕ} stackSize 0 (maxEdges * p + j);
     best = λ i b c. replicate-at {A = ℕ} maxEdges 0 i;
   };
   stands = record {
@@ -186,12 +186,12 @@ module _ (r : Search) (t : Typed r) (u : Tidy r) where
     count = sym (d .count) i;
   }
     where
-      none : (p : ℕ) → p < maxNodes → (j : ℕ) → j < maxEdges → getD (r .stack) (190 * p + j) 0 ≡ 0
+      none : (p : ℕ) → p < maxNodes → (j : ℕ) → j < maxEdges → getD (r .stack) (maxEdges * p + j) 0 ≡ 0
       none p b j c = u .stack p b j c (rw (le-ltb p (r .depth) (omega (arith, d .depth))) (omega arith))
 
   module _ (w : Fits r) where
     cell-back : (p : ℕ) → p < maxNodes → (j : ℕ) → j < maxEdges
-        → cell (nodes (r .graph .m) (r .stack) (r .depth)) p j ≡ getD (r .stack) (190 * p + j) 0
+        → cell (nodes (r .graph .m) (r .stack) (r .depth)) p j ≡ getD (r .stack) (maxEdges * p + j) 0
     unfolding cell
     cell-back p b j c = go (decLe (suc p) (r .depth)) (decLe (suc j) (r .graph .m))
       where
@@ -200,10 +200,10 @@ module _ (r : Search) (t : Typed r) (u : Tidy r) where
         here d = ap (λ (x : Marks). byteOf (getD x j free)) (nodes-at (r .graph .m) (r .stack) (r .depth) p d)
 
         go : Dec (p < r .depth) → Dec (j < r .graph .m)
-            → byteOf (getD (nodeAt (nodes (r .graph .m) (r .stack) (r .depth)) p) j free) ≡ getD (r .stack) (190 * p + j) 0
+            → byteOf (getD (nodeAt (nodes (r .graph .m) (r .stack) (r .depth)) p) j free) ≡ getD (r .stack) (maxEdges * p + j) 0
         go (yes d) (yes e) =
             here d ∙ ap byteOf (node-at (r .graph .m) (r .stack) p j e)
-            ∙ byte-mark (getD (r .stack) (190 * p + j) 0) (w .stack p d .0 j e)
+            ∙ byte-mark (getD (r .stack) (maxEdges * p + j) 0) (w .stack p d .0 j e)
         go (yes d) (no e) =
             here d ∙ ap byteOf (node-past (r .graph .m) (r .stack) p j (omega arith))
             ∙ sym (u .stack p b j c (rw (lt-ltb p (r .depth) d) (omega arith)))

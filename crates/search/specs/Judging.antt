@@ -14,7 +14,7 @@ use Rattle.lists.specs.Bools.{bit}
 use Rattle.lists.specs.Members.{_∈_}
 use Rattle.lists.specs.Numbers.{upTo, upTo-in, in-upTo}
 use Rattle.lists.specs.Rows.{row, row-at}
-use Rattle.lists.specs.Fill.{fill-at, fill-size}
+use Rattle.lists.specs.Fill.{fill-at}
 use Rattle.graph.specs.declared.Graph.{Graph}
 use Rattle.graph.specs.Limits.{maxEdges}
 use Rattle.graph.specs.Network.{Network, free, network}
@@ -32,7 +32,7 @@ use Rattle.machine.specs.Machine as M
 use Rattle.machine.specs.Machine.{Marks, applied, markBy, degree, shut, found, unclosed, passBy, pass}
 use Rattle.machine.specs.NodeTours.{applied-length}
 use Rattle.machine.specs.Degrees.{degree-agree}
-use Rattle.machine.specs.PassLaws.{test-yes, test-no}
+use Rattle.machine.specs.DegreeTest.{test-yes, test-no}
 use Rattle.search.specs.declared.node.Verdict.{Verdict}
 use Rattle.search.specs.declared.node.Verdict.the-variants as verdict
 use Rattle.search.specs.Record.{byteOf, bestBytes}
@@ -75,10 +75,6 @@ judged-as g d upper w degrees v u e h = subst (λ (x : Verdict). JudgedIs g d up
 -- ---- the bytes of a tree
 
 module _ (m : ℕ) (t : Edges) where
-  pub tree-size : length (treeBytes m t) ≡ maxEdges
-  unfolding treeBytes bestBytes
-  tree-size = fill-size maxEdges (λ i. bit (getD (row m t) i false))
-
   pub tree-at : (k : ℕ) → k < m → k < maxEdges → getD (treeBytes m t) k 0 ≡ bit (t (suc k))
   unfolding treeBytes bestBytes
   tree-at k h b = fill-at maxEdges (λ i. bit (getD (row m t) i false)) k 0 b ∙ ap bit (row-at m t k false h)

@@ -30,3 +30,4 @@ pub mod Running
 pub mod Begun
 pub mod ReplyCases
 pub mod RunCall
+pub mod Refusals

@@ -1,4 +1,4 @@
--- The opening of a node, in bytes (`openedAs`), and the machine's passes turn by turn.
+-- The opening of a node, in bytes (`openedAs`), and its end after the last pass.
 use mathlib.Core.Path.{_≡_, sym, _∙_}
 use mathlib.Core.Bool.{false}
 use mathlib.Core.List.{List}
@@ -13,22 +13,31 @@ use Rattle.machine.specs.Outcomes.{closes, finds, splits, aTour}
 use Rattle.machine.specs.Machine as M
 use Rattle.machine.specs.Machine.{Marks, isFree, firstFree, branch}
 use Rattle.machine.specs.Branching.{free-is, first-is}
-use Rattle.search.specs.declared.node.Opened.{Opened}
+use Rattle.search.specs.declared.node.Fate.{Fate}
 use Rattle.search.specs.declared.node.Fate.the-variants as fate
 use Rattle.search.specs.Record.{bestBytes}
 use Rattle.search.specs.Pushing.{bytesOf, bytes-at}
 use Rattle.search.specs.Marking.{FirstFree, byte-free, free-byte, bytes-set}
 
+-- a node's fate, and the two lists of bytes that go with it
+pub record Opened : Type 0 where
+  pub fate : Fate
+  pub row : List ℕ
+  pub top : List ℕ
+
+abbrev pub opened : Fate → List ℕ → List ℕ → Opened
+opened a w u = record { fate = a; row = w; top = u }
+
 -- a tour is found, and w has its bytes
 abbrev pub foundAs : List ℕ → Opened
-foundAs w = record { fate = fate.Finds; row = w; top = replicate maxEdges 0 }
+foundAs w = opened fate.Finds w (replicate maxEdges 0)
 
 -- what the opening of a node comes to, in bytes
 unfoldable pub openedAs : M.Opened → Opened
 unfolding bestBytes bytesOf
-openedAs closes = record { fate = fate.Closes; row = replicate maxEdges 0; top = replicate maxEdges 0 }
+openedAs closes = opened fate.Closes (replicate maxEdges 0) (replicate maxEdges 0)
 openedAs (finds r) = foundAs (bestBytes (aTour r))
-openedAs (splits out into) = record { fate = fate.Splits; row = bytesOf out; top = bytesOf into }
+openedAs (splits out into) = opened fate.Splits (bytesOf out) (bytesOf into)
 
 -- ---- after the last pass
 
@@ -50,8 +59,7 @@ module _ (x : Marks) (m k : ℕ) (few : m ≤ maxEdges) (long : length x ≡ m) 
   unfolding branch
   branch-closes e = rw (first, le-ltb k (length x) (omega (arith, long)))
 
-  pub branch-splits : k < m
-      → openedAs (branch x) ≡ record { fate = fate.Splits; row = set (bytesOf x) k 2; top = set (bytesOf x) k 1 }
+  pub branch-splits : k < m → openedAs (branch x) ≡ opened fate.Splits (set (bytesOf x) k 2) (set (bytesOf x) k 1)
   unfolding branch openedAs
   branch-splits h =
       let b : k < length x = omega (arith, long) in

@@ -2,11 +2,11 @@
 use mathlib.Core.Path.{_≡_, refl, sym, ap, _∙_}
 use mathlib.Core.Bool.{Bool, true, false, cond, true≢false, false≢true}
 use mathlib.Core.List.{List}
-use Prim.Native.Nat.{ℕ, suc, _<_}
+use Prim.Native.Nat.{ℕ, suc, _≤_, _<_}
 use native.Mathlib.Omega.{arith}
 use native.Mathlib.Decide.{decLe}
 use lib.Dec.{leb}
-use lib.ListN.{length, getD, List·getD-eq-default}
+use lib.ListN.{length, getD, length-replicate, List·getD-eq-default}
 use lib.IntN.{ℤ}
 use lib.Signed.{ltZ}
 use borrow.Author.Tests.{eq-eqb, le-leb, lt-leb}
@@ -23,8 +23,8 @@ use Rattle.onetree.specs.Inputs.{multiplier, multipliersFit, ceilingFits}
 use Rattle.onetree.specs.Enumeration.{Tree, noTree, aTree, leastTree, ruling}
 use Rattle.onetree.specs.declared.RuleAnswer.{RuleAnswer}
 use Rattle.onetree.specs.declared.RuleAnswer.the-variants as answer
-use Rattle.onetree.specs.Answers.{refused, none, bounded, ruleMeaning, inputFault, ruleFault, ruleSays}
-use Rattle.onetree.specs.Answers.{ruleReply, rulingByte, padded, passTree, passRulings}
+use Rattle.onetree.specs.Answers.{Reply, refused, none, bounded, ruleMeaning, inputFault, ruleFault, ruleSays, ruleReply, rulingByte, padded, passTree, passRulings}
+use Rattle.onetree.specs.Looks.{HintAfter}
 use Rattle.machine.specs.Machine.{shut, pass}
 use Rattle.search.specs.Record.{bestBytes}
 use Rattle.search.specs.Judging.{treeBytes, pass-none, pass-above}
@@ -34,6 +34,14 @@ unfoldable pub isBound : RuleAnswer → Bool
 isBound answer.Infeasible = false
 isBound (answer.Bound b) = true
 isBound (answer.Refused n p) = false
+
+-- a hint is never longer than its array
+pub hint-fits : (r : Reply) (marks : List ℕ) (m : ℕ) (out order : List ℕ) (live : ℕ) → HintAfter r marks m out order live
+    → length out ≡ maxEdges → (live ≤ maxEdges) × (length order ≡ maxEdges)
+hint-fits (refused number place) marks m out order live h long = (omega (arith, h .1), ap {A = List ℕ} length (h .0) ∙ long)
+hint-fits none marks m out order live h long =
+    (omega (arith, h .1), ap {A = List ℕ} length (h .0) ∙ length-replicate {A = ℕ} maxEdges 0)
+hint-fits (bounded b) marks m out order live h long = (h .looks .few, h .long)
 
 -- a tree within the ceiling
 pub record Within (g : Graph) (d : List ℤ) (upper b : ℤ) : Type 0 where
@@ -104,9 +112,9 @@ module _ (g : Graph) (d : List ℤ) (upper : ℤ) (valid : value.Valid g) (long 
   answer-within (answer.Refused n p) i e = absurd (false≢true i)
 
   -- the bytes of the tree and of the rulings
-  pub pass-tree : (b : ℤ) (w : Within g d upper b) → passTree g d upper ≡ treeBytes (g .m) (w .tree)
+  pub pass-tree : (out : List ℕ) (b : ℤ) (w : Within g d upper b) → passTree g d upper out ≡ treeBytes (g .m) (w .tree)
   unfolding passTree treeBytes bestBytes padded
-  pass-tree b w =
+  pass-tree out b w =
       rw (no-fault, w .least, w .low)
       (sym (fill-is maxEdges (λ i. bit (getD (row (g .m) t) i false)) (row maxEdges f) 0 (row-size maxEdges f) at))
     where
@@ -125,10 +133,10 @@ module _ (g : Graph) (d : List ℤ) (upper : ℤ) (valid : value.Valid g) (long 
               ap bit (List·getD-eq-default (row (g .m) t) false (omega (arith, row-size (g .m) t)))
               ∙ sym (row-at maxEdges f i 0 b ∙ rw (lt-leb (suc i) (g .m) (omega arith)))
 
-  pub pass-rulings : (b : ℤ) (w : Within g d upper b) (k : ℕ) → k < g .m
-      → getD (passRulings g d upper) k 0 ≡ rulingByte (ruling (network g) (multiplier d) upper (suc k))
+  pub pass-rulings : (out : List ℕ) (b : ℤ) (w : Within g d upper b) (k : ℕ) → k < g .m
+      → getD (passRulings g d upper out) k 0 ≡ rulingByte (ruling (network g) (multiplier d) upper (suc k))
   unfolding passRulings padded
-  pass-rulings b w k h =
+  pass-rulings out b w k h =
       rw (no-fault, w .least, w .low)
       (row-at maxEdges (λ j. cond (leb j (g .m)) (rulingByte (ruling (network g) (multiplier d) upper j)) 0) k 0 (omega (arith, valid .few))
       ∙ rw (le-leb (suc k) (g .m) h))

@@ -5,7 +5,7 @@ use mathlib.Core.List.{List, _∷_}
 use Prim.Native.Nat.{ℕ, suc, _+_, _*_, _≤_, _<_}
 use native.Mathlib.Omega.{arith}
 use native.Mathlib.Decide.{decLe, ℕ-discrete}
-use lib.ListN.{length, getD, set, length-set, replicate}
+use lib.ListN.{length, getD, set, length-set, replicate, List·getD-eq-default}
 use lib.Seq.{getD-set-same, getD-set-other}
 use Rattle.lists.specs.Fill.{fill, fill-size, fill-at, fill-is, fill-same, replicate-at}
 use Rattle.graph.specs.Limits.{maxEdges}
@@ -31,6 +31,13 @@ bytes-at x j h = fill-at maxEdges (λ i. byteOf (getD x i free)) j 0 h
 
 pub bytes-small : (x : Marks) (j : ℕ) → j < maxEdges → getD (bytesOf x) j 0 ≤ 2
 bytes-small x j h = omega (arith, bytes-at x j h, byte-small (getD x j free))
+
+pub bytes-past : (x : Marks) (j : ℕ) → length x ≤ j → getD (bytesOf x) j 0 ≡ 0
+bytes-past x j h = go (decLe (suc j) maxEdges)
+  where
+    go : Dec (j < maxEdges) → getD (bytesOf x) j 0 ≡ 0
+    go (yes b) = bytes-at x j b ∙ ap byteOf (List·getD-eq-default x free h)
+    go (no b) = List·getD-eq-default (bytesOf x) 0 (omega (arith, bytes-size x))
 
 pub marks-size : (m : ℕ) (x : List ℕ) → length (marksIn m x) ≡ m
 unfolding marksIn
@@ -62,20 +69,20 @@ put-none p x l = record { size = refl; new = λ j h. absurd (omega arith); old =
 pub put-more : (p k : ℕ) (x l l′ : List ℕ) → maxEdges * p + k < length l′ → Put p k x l l′
     → Put p (k + 1) x l (set l′ (maxEdges * p + k) (getD x k 0))
 put-more p k x l l′ b h = record {
-  size = length-set l′ (190 * p + k) (getD x k 0) ∙ h .size;
+  size = length-set l′ (maxEdges * p + k) (getD x k 0) ∙ h .size;
   new = λ j i. new j i (ℕ-discrete j k);
-  old = λ i d. getD-set-other l′ (190 * p + k) i (getD x k 0) 0 (off i d) ∙ h .old i (less i d);
+  old = λ i d. getD-set-other l′ (maxEdges * p + k) i (getD x k 0) 0 (off i d) ∙ h .old i (less i d);
 }
   where
-    new : (j : ℕ) → j < k + 1 → Dec (j ≡ k) → getD (set l′ (190 * p + k) (getD x k 0)) (190 * p + j) 0 ≡ getD x j 0
-    new j i (yes e) = rw e (getD-set-same l′ (190 * p + k) (getD x k 0) 0 b)
-    new j i (no e) = getD-set-other l′ (190 * p + k) (190 * p + j) (getD x k 0) 0 (λ d. e (omega arith)) ∙ h .new j (omega arith)
+    new : (j : ℕ) → j < k + 1 → Dec (j ≡ k) → getD (set l′ (maxEdges * p + k) (getD x k 0)) (maxEdges * p + j) 0 ≡ getD x j 0
+    new j i (yes e) = rw e (getD-set-same l′ (maxEdges * p + k) (getD x k 0) 0 b)
+    new j i (no e) = getD-set-other l′ (maxEdges * p + k) (maxEdges * p + j) (getD x k 0) 0 (λ d. e (omega arith)) ∙ h .new j (omega arith)
 
-    off : (i : ℕ) → (i < 190 * p) ⊎ (190 * p + (k + 1) ≤ i) → i ≢ 190 * p + k
+    off : (i : ℕ) → (i < maxEdges * p) ⊎ (maxEdges * p + (k + 1) ≤ i) → i ≢ maxEdges * p + k
     off i (inl d) e = omega arith
     off i (inr d) e = omega arith
 
-    less : (i : ℕ) → (i < 190 * p) ⊎ (190 * p + (k + 1) ≤ i) → (i < 190 * p) ⊎ (190 * p + k ≤ i)
+    less : (i : ℕ) → (i < maxEdges * p) ⊎ (maxEdges * p + (k + 1) ≤ i) → (i < maxEdges * p) ⊎ (maxEdges * p + k ≤ i)
     less i (inl d) = inl d
     less i (inr d) = inr (omega arith)
 
@@ -89,36 +96,36 @@ pub row-top : (x : Marks) (rest : List Marks) (l : List ℕ) (p : ℕ) → l ≡
     → rowAt l p ≡ bytesOf x
 unfolding rowAt bytesOf
 row-top x rest l p e n b =
-    fill-same maxEdges (λ j. getD l (190 * p + j) 0) (λ j. byteOf (getD x j free))
-    (λ j h. ap (λ (y : List ℕ). getD y (190 * p + j) 0) e ∙ cells-at (x ∷ rest) p j b h ∙ cell-top x rest p j n)
+    fill-same maxEdges (λ j. getD l (maxEdges * p + j) 0) (λ j. byteOf (getD x j free))
+    (λ j h. ap (λ (y : List ℕ). getD y (maxEdges * p + j) 0) e ∙ cells-at (x ∷ rest) p j b h ∙ cell-top x rest p j n)
 
 -- the bytes l are those of `rest`, but perhaps at node p, the first above it
 abbrev Below : List Marks → ℕ → List ℕ → Type 0
-Below rest p l = (q : ℕ) → q < 191 → q ≢ p → (j : ℕ) → j < 190 → getD l (190 * q + j) 0 ≡ cell rest q j
+Below rest p l = (q : ℕ) → q < maxNodes → q ≢ p → (j : ℕ) → j < maxEdges → getD l (maxEdges * q + j) 0 ≡ cell rest q j
 
 below-rest : (rest : List Marks) (l : List ℕ) (p : ℕ) → l ≡ cells rest → Below rest p l
-below-rest rest l p e q b d j h = ap (λ (y : List ℕ). getD y (190 * q + j) 0) e ∙ cells-at rest q j b h
+below-rest rest l p e q b d j h = ap (λ (y : List ℕ). getD y (maxEdges * q + j) 0) e ∙ cells-at rest q j b h
 
 below-top : (x : Marks) (rest : List Marks) (l : List ℕ) (p : ℕ) → l ≡ cells (x ∷ rest) → length rest ≡ p → Below rest p l
 below-top x rest l p e n q b d j h =
-    ap (λ (y : List ℕ). getD y (190 * q + j) 0) e
+    ap (λ (y : List ℕ). getD y (maxEdges * q + j) 0) e
     ∙ cells-at (x ∷ rest) q j b h
     ∙ cell-lower x rest q j (λ i. d (i ∙ n))
 
 module _ (p : ℕ) (y l l′ : List ℕ) (size : length l ≡ stackSize) (h : Put p maxEdges y l l′) (rest : List Marks) (n : length rest ≡ p)
     (below : Below rest p l) where
-  elsewhere : (q : ℕ) → q ≢ p → (j : ℕ) → j < 190 → getD l′ (190 * q + j) 0 ≡ getD l (190 * q + j) 0
-  elsewhere q d j b = h .old (190 * q + j) (go (decLe (suc q) p))
+  elsewhere : (q : ℕ) → q ≢ p → (j : ℕ) → j < maxEdges → getD l′ (maxEdges * q + j) 0 ≡ getD l (maxEdges * q + j) 0
+  elsewhere q d j b = h .old (maxEdges * q + j) (go (decLe (suc q) p))
     where
-      go : Dec (q < p) → (190 * q + j < 190 * p) ⊎ (190 * p + 190 ≤ 190 * q + j)
+      go : Dec (q < p) → (maxEdges * q + j < maxEdges * p) ⊎ (maxEdges * p + maxEdges ≤ maxEdges * q + j)
       go (yes i) = inl (omega arith)
       go (no i) = inr (omega arith)
 
   stored : (st : List Marks) → ((q : ℕ) → q ≢ p → (j : ℕ) → cell st q j ≡ cell rest q j)
-      → ((j : ℕ) → j < 190 → cell st p j ≡ getD y j 0) → l′ ≡ cells st
+      → ((j : ℕ) → j < maxEdges → cell st p j ≡ getD y j 0) → l′ ≡ cells st
   stored st others here = sym (cells-is st l′ (h .size ∙ size) (λ q b j d. at q b j d (ℕ-discrete q p)))
     where
-      at : (q : ℕ) → q < 191 → (j : ℕ) → j < 190 → Dec (q ≡ p) → cell st q j ≡ getD l′ (190 * q + j) 0
+      at : (q : ℕ) → q < maxNodes → (j : ℕ) → j < maxEdges → Dec (q ≡ p) → cell st q j ≡ getD l′ (maxEdges * q + j) 0
       at q b j d (yes i) = rw i (here j d ∙ sym (h .new j d))
       at q b j d (no i) = others q i j ∙ sym (below q b i j d) ∙ sym (elsewhere q i j d)
 
@@ -127,7 +134,7 @@ module _ (p : ℕ) (y l l′ : List ℕ) (size : length l ≡ stackSize) (h : Pu
       stored (x ∷ rest) (λ q d j. cell-lower x rest q j (λ i. d (i ∙ n)))
       (λ j b. cell-top x rest p j n ∙ sym (ap (λ (z : List ℕ). getD z j 0) e ∙ bytes-at x j b))
 
-  stored-off : ((j : ℕ) → j < 190 → getD y j 0 ≡ 0) → l′ ≡ cells rest
+  stored-off : ((j : ℕ) → j < maxEdges → getD y j 0 ≡ 0) → l′ ≡ cells rest
   stored-off e = stored rest (λ q d j. refl) (λ j b. cell-none rest p j (omega (arith, n)) ∙ sym (e j b))
 
 module _ (p : ℕ) (l l′ : List ℕ) (rest : List Marks) (n : length rest ≡ p) where

@@ -1,4 +1,4 @@
--- The run call: from the record to the frame and the stack's bytes, and back. What the run leaves, put into a record, is the record that
+-- The run call: from the record to the frame and the lent bytes, and back. What the run leaves, put into a record, is the record that
 -- the contract names.
 use mathlib.Core.Path.{_≡_, refl, sym, ap, _∙_}
 use mathlib.Core.Bool.{Bool, true, false}
@@ -30,13 +30,13 @@ use Rattle.search.specs.Running.{Runs}
 abbrev outcome : Call → State → Outcome
 outcome c q = record { search = encode (step q c .state); answer = said (step q c .answer) }
 
--- the part of a record that the run changes, but for the stack
+-- the part of a record that the run changes, but for the stack and the best tour
 abbrev pub frameIn : Search → Frame
-frameIn s = record { upper = s .upper; depth = s .depth; «has_best» = s .«has_best»; best = s .best; count = s .count }
+frameIn s = record { upper = s .upper; depth = s .depth; «has_best» = s .«has_best»; count = s .count }
 
--- the record with that part and the stack's bytes anew
-abbrev pub withFrame : Search → Frame → List ℕ → Search
-withFrame s f l =
+-- the record with that part, the stack's bytes and the best tour's bytes anew
+abbrev pub withFrame : Search → Frame → List ℕ → List ℕ → Search
+withFrame s f l w =
     record {
       «open» = true;
       graph = s .graph;
@@ -48,7 +48,7 @@ withFrame s f l =
       depth = f .depth;
       stack = l;
       «has_best» = f .«has_best»;
-      best = f .best;
+      best = w;
       count = f .count;
     }
 
@@ -57,7 +57,7 @@ module _ (s : Search) (t : Typed s) (h : check s ≡ true) (e : s .«open» ≡ 
   unfolding encode
   back = ap encode (sym (opened s t h e)) ∙ encode-decode s t (check-is s h)
 
-  pub run-starts : Runs (s .graph) (s .multipliers) (s .sweeps) (s .step) (frameIn s) (s .stack) (progressOf s)
+  pub run-starts : Runs (s .graph) (s .multipliers) (s .sweeps) (s .step) (frameIn s) (s .stack) (s .best) (progressOf s)
   unfolding progressOf openingIn frameOf recordOf
   run-starts = record {
     holds = record {
@@ -65,6 +65,7 @@ module _ (s : Search) (t : Typed s) (h : check s ≡ true) (e : s .«open» ≡ 
       graph = refl;
       frame = ap frameIn (sym back);
       bytes = ap (λ (r : Search). r .stack) (sym back);
+      best = ap (λ (r : Search). r .best) (sym back);
     };
     multipliers = refl;
     sweeps = refl;
@@ -77,8 +78,8 @@ module _ (s : Search) (t : Typed s) (h : check s ≡ true) (e : s .«open» ≡ 
       let r = kept s t h e .opening .ceiling in
       mag-of-parts (s .ceiling) 9223372036854775808 (omega (arith, r .high)) (omega (arith, r .low))
 
-  module _ (budget : ℕ) (f : Frame) (l : List ℕ)
-      (r : Runs (s .graph) (s .multipliers) (s .sweeps) (s .step) f l (ran budget (progressOf s))) where
+  module _ (budget : ℕ) (f : Frame) (l w : List ℕ)
+      (r : Runs (s .graph) (s .multipliers) (s .sweeps) (s .step) f l w (ran budget (progressOf s))) where
     after : Progress
     after = ran budget (progressOf s)
 
@@ -87,7 +88,7 @@ module _ (s : Search) (t : Typed s) (h : check s ≡ true) (e : s .«open» ≡ 
     same-opening =
         ran-keeps (λ q. q .opening ≡ progressOf s .opening) (λ q x rest a b k. unfold openTop settled in k) budget (progressOf s) refl
 
-    leaves : withFrame s f l ≡ recordOf after
+    leaves : withFrame s f l w ≡ recordOf after
     unfolding recordOf after frameOf progressOf openingIn
     leaves = λ i. record {
       «open» = true;
@@ -102,7 +103,7 @@ module _ (s : Search) (t : Typed s) (h : check s ≡ true) (e : s .«open» ≡ 
       depth = ap (λ (x : Frame). x .depth) (r .holds .frame) i;
       stack = r .holds .bytes i;
       «has_best» = ap (λ (x : Frame). x .«has_best») (r .holds .frame) i;
-      best = ap (λ (x : Frame). x .best) (r .holds .frame) i;
+      best = r .holds .best i;
       count = ap (λ (x : Frame). x .count) (r .holds .frame) i;
     }
 
@@ -112,25 +113,25 @@ module _ (s : Search) (t : Typed s) (h : check s ≡ true) (e : s .«open» ≡ 
 
     count-is : f .count ≡ after .count
     unfolding after
-    count-is = holds-count (s .graph) f l (ran budget (progressOf s)) (r .holds)
+    count-is = holds-count (s .graph) f l w (ran budget (progressOf s)) (r .holds)
 
     depth-is : f .depth ≡ length (after .stack)
     unfolding after
-    depth-is = holds-depth (s .graph) f l (ran budget (progressOf s)) (r .holds)
+    depth-is = holds-depth (s .graph) f l w (ran budget (progressOf s)) (r .holds)
 
-    answered : (b : Bool) → finished after ≡ b → record { search = withFrame s f l; answer = saidRun b (f .count) } ≡ reply s (run budget)
+    answered : (b : Bool) → finished after ≡ b → record { search = withFrame s f l w; answer = saidRun b (f .count) } ≡ reply s (run budget)
     answered b q =
         (λ i. record { search = leaves i; answer = saidRun (sym q i) (count-is i) })
         ∙ sym replies
 
-    pub run-finished : f .depth ≡ 0 → record { search = withFrame s f l; answer = Finished (f .count) } ≡ reply s (run budget)
+    pub run-finished : f .depth ≡ 0 → record { search = withFrame s f l w; answer = Finished (f .count) } ≡ reply s (run budget)
     run-finished z = answered true (go (after .stack) refl)
       where
         go : (st : List Marks) → after .stack ≡ st → isEmpty (after .stack) ≡ true
         go [] q = rw q
         go (x ∷ rest) q = absurd (omega (arith, z, depth-is, ap {A = List Marks} length q))
 
-    pub run-going : (f .depth ≡ 0 → ⊥) → record { search = withFrame s f l; answer = GoingOn (f .count) } ≡ reply s (run budget)
+    pub run-going : (f .depth ≡ 0 → ⊥) → record { search = withFrame s f l w; answer = GoingOn (f .count) } ≡ reply s (run budget)
     run-going n = answered false (go (after .stack) refl)
       where
         go : (st : List Marks) → after .stack ≡ st → isEmpty (after .stack) ≡ false

@@ -1,5 +1,5 @@
--- The run loop over the frame and the stack's bytes: the arguments of the opening stay as they are (`Runs`), the node that is read is the
--- machine's top node, and the search that is held runs to what the first one runs to (`RunsTo`).
+-- The run loop over the frame and the bytes of the stack and of the best tour: the arguments of the opening stay as they are (`Runs`),
+-- the node that is read is the machine's top node, and the search that is held runs to what the first one runs to (`RunsTo`).
 use mathlib.Core.Path.{_≡_, refl, sym, ap, _∙_, subst}
 use mathlib.Core.Logic.{_⊎_, inl, inr}
 use mathlib.Core.Bool.{true}
@@ -17,36 +17,38 @@ use Rattle.onetree.specs.Inputs.{multipliersFit, ceilingFits}
 use Rattle.machine.specs.Machine.{Marks, passes, Progress, openNode, settled, openTop, ran}
 use Rattle.machine.specs.Kept.{Nodes, depth}
 use Rattle.machine.specs.Runs.{ran-opens, ran-empty, ran-full}
-use Rattle.search.specs.declared.node.Opened.{Opened}
 use Rattle.search.specs.declared.running.Frame.{Frame}
 use Rattle.search.specs.Record.{marksIn, cells}
 use Rattle.search.specs.Accepted.{range-fits}
 use Rattle.search.specs.Pushing.{bytesOf, bytes-back, rowAt, row-top}
-use Rattle.search.specs.Opening.{openedAs}
+use Rattle.search.specs.Opening.{Opened, openedAs}
 use Rattle.search.specs.Frames.{Holds, Top, holds-upper, holds-depth, holds-count, holds-deep, holds-valid, top-of}
 
-pub record Runs (g : Graph) (d : List ℤ) (passes-left stride : ℕ) (f : Frame) (l : List ℕ) (s : Progress) : Type 0 where
-  pub holds : Holds g f l s
+pub record Runs (g : Graph) (d : List ℤ) (passes-left stride : ℕ) (f : Frame) (l w : List ℕ) (s : Progress) : Type 0 where
+  pub holds : Holds g f l w s
   pub multipliers : s .opening .multipliers ≡ fit (g .n) (pos 0) d
   pub sweeps : s .opening .sweeps ≡ passes-left
   pub step : s .opening .step ≡ stride
 
-module _ (g : Graph) (d : List ℤ) (sweeps step : ℕ) (f : Frame) (l : List ℕ) (s : Progress) (h : Runs g d sweeps step f l s) where
+module _ (g : Graph) (d : List ℤ) (sweeps step : ℕ) (f : Frame) (l w : List ℕ) (s : Progress) (h : Runs g d sweeps step f l w s) where
   pub runs-fits : multipliersFit (fit (g .n) (pos 0) d) ≡ true
   runs-fits = ap multipliersFit (sym (h .multipliers)) ∙ h .holds .kept .opening .multipliers
 
   pub runs-ceiling : ceilingFits (f .upper) ≡ true
-  runs-ceiling = ap ceilingFits (holds-upper g f l s (h .holds)) ∙ range-fits (s .upper) (h .holds .kept .upper)
+  runs-ceiling = ap ceilingFits (holds-upper g f l w s (h .holds)) ∙ range-fits (s .upper) (h .holds .kept .upper)
 
   pub runs-step : step ≤ maxStep
   runs-step = subst (λ (k : ℕ). k ≤ maxStep) (h .step) (h .holds .kept .opening .step)
 
   module _ (t : Top s) where
     few : g .m ≤ maxEdges
-    few = holds-valid g f l s (h .holds) .few
+    few = holds-valid g f l w s (h .holds) .few
+
+    top-there : f .depth ≡ suc (length (t .rest))
+    top-there = holds-depth g f l w s (h .holds) ∙ ap {A = List Marks} length (t .stack)
 
     place : length (t .rest) ≡ f .depth - 1
-    place = omega (arith, holds-depth g f l s (h .holds), ap {A = List Marks} length (t .stack))
+    place = omega (arith, top-there)
 
     long : length (t .node) ≡ g .m
     long = subst (Nodes (s .opening .graph .m)) (t .stack) (h .holds .kept .nodes) .0 ∙ ap (λ (x : Graph). x .m) (h .holds .graph)
@@ -54,7 +56,7 @@ module _ (g : Graph) (d : List ℤ) (sweeps step : ℕ) (f : Frame) (l : List �
     pub top-row : rowAt l (f .depth - 1) ≡ bytesOf (t .node)
     top-row =
         row-top (t .node) (t .rest) l (f .depth - 1) (h .holds .bytes ∙ ap cells (t .stack)) place
-        (omega (arith, holds-deep g f l s (h .holds), few, place, holds-depth g f l s (h .holds), ap {A = List Marks} length (t .stack)))
+        (omega (arith, holds-deep g f l w s (h .holds), few, place, top-there))
 
     row-marks : marksIn (g .m) (rowAt l (f .depth - 1)) ≡ t .node
     row-marks = ap (marksIn (g .m)) top-row ∙ bytes-back (g .m) (t .node) few long
@@ -63,23 +65,24 @@ module _ (g : Graph) (d : List ℤ) (sweeps step : ℕ) (f : Frame) (l : List �
     row-bytes = top-row ∙ ap bytesOf (sym row-marks)
 
     -- the passes that the code makes are the machine's opening of the node
-    pub top-is : (o : Opened)
-        → o ≡ openedAs (passes (network g) step (f .upper) sweeps (fit (g .n) (pos 0) d) (marksIn (g .m) (rowAt l (f .depth - 1))))
+    pub top-is : (o : Opened) (u : ℤ) (x : List ℕ) → u ≡ f .upper → x ≡ rowAt l (f .depth - 1)
+        → o ≡ openedAs (passes (network g) step u sweeps (fit (g .n) (pos 0) d) (marksIn (g .m) x))
         → o ≡ openedAs (openNode (s .opening) (s .upper) (t .node))
     unfolding openNode
-    top-is o e = e ∙ ap openedAs same
+    top-is o u x a b e = e ∙ ap openedAs same
       where
-        same : passes (network g) step (f .upper) sweeps (fit (g .n) (pos 0) d) (marksIn (g .m) (rowAt l (f .depth - 1)))
+        same : passes (network g) step u sweeps (fit (g .n) (pos 0) d) (marksIn (g .m) x)
             ≡ passes (network (s .opening .graph)) (s .opening .step) (s .upper) (s .opening .sweeps) (s .opening .multipliers) (t .node)
         same =
             λ i.
-            passes (network (sym (h .holds .graph) i)) (sym (h .step) i) (holds-upper g f l s (h .holds) i) (sym (h .sweeps) i)
-            (sym (h .multipliers) i) (row-marks i)
+            passes (network (sym (h .holds .graph) i)) (sym (h .step) i) ((a ∙ holds-upper g f l w s (h .holds)) i) (sym (h .sweeps) i)
+            (sym (h .multipliers) i) ((ap (marksIn (g .m)) b ∙ row-marks) i)
 
     -- and the arguments are those that they were
-    pub runs-next : (f′ : Frame) (l′ : List ℕ) → Holds g f′ l′ (openTop s (s .stack)) → Runs g d sweeps step f′ l′ (openTop s (s .stack))
+    pub runs-next : (f′ : Frame) (l′ w′ : List ℕ) → Holds g f′ l′ w′ (openTop s (s .stack))
+        → Runs g d sweeps step f′ l′ w′ (openTop s (s .stack))
     unfolding openTop settled
-    runs-next f′ l′ k = record {
+    runs-next f′ l′ w′ k = record {
       holds = k;
       multipliers = ap (λ (x : Progress). x .opening .multipliers) same ∙ h .multipliers;
       sweeps = ap (λ (x : Progress). x .opening .sweeps) same ∙ h .sweeps;
@@ -101,38 +104,38 @@ module _ (g : Graph) (d : List ℤ) (sweeps step : ℕ) (f : Frame) (l : List �
     where
       go : (st : List Marks) → s .stack ≡ st → ran budget s ≡ s
       go [] q = ran-empty budget s q
-      go (x ∷ rest) q = absurd (omega (arith, e, holds-depth g f l s (h .holds), ap {A = List Marks} length q))
-  ran-stops budget (inr b) = ran-full budget s (omega (arith, holds-count g f l s (h .holds)))
+      go (x ∷ rest) q = absurd (omega (arith, e, holds-depth g f l w s (h .holds), ap {A = List Marks} length q))
+  ran-stops budget (inr b) = ran-full budget s (omega (arith, holds-count g f l w s (h .holds)))
 
 -- ---- the loop
 
--- the search that f and l hold, with `left` of the budget, runs to `goal`
-pub record RunsTo (g : Graph) (d : List ℤ) (sweeps step : ℕ) (f : Frame) (l : List ℕ) (left : ℕ) (goal : Progress) : Type 0 where
+-- the search that f, l and w hold, with `left` of the budget, runs to `goal`
+pub record RunsTo (g : Graph) (d : List ℤ) (sweeps step : ℕ) (f : Frame) (l w : List ℕ) (left : ℕ) (goal : Progress) : Type 0 where
   pub search : Progress
-  pub runs : Runs g d sweeps step f l search
+  pub runs : Runs g d sweeps step f l w search
   pub comes : ran left search ≡ goal
 
-module _ (g : Graph) (d : List ℤ) (sweeps step : ℕ) (f : Frame) (l : List ℕ) (left : ℕ) (goal : Progress)
-    (k : RunsTo g d sweeps step f l left goal) where
-  there : ran left (k .search) ≡ k .search → Runs g d sweeps step f l goal
-  there e = subst (Runs g d sweeps step f l) (sym e ∙ k .comes) (k .runs)
+module _ (g : Graph) (d : List ℤ) (sweeps step : ℕ) (f : Frame) (l w : List ℕ) (left : ℕ) (goal : Progress)
+    (k : RunsTo g d sweeps step f l w left goal) where
+  there : ran left (k .search) ≡ k .search → Runs g d sweeps step f l w goal
+  there e = subst (Runs g d sweeps step f l w) (sym e ∙ k .comes) (k .runs)
 
   -- it is there: nothing waits, or the count is at its limit, or no budget is left
-  pub run-stops : (f .depth ≡ 0) ⊎ (maxCount ≤ f .count) → Runs g d sweeps step f l goal
-  run-stops e = there (ran-stops g d sweeps step f l (k .search) (k .runs) left e)
+  pub run-stops : (f .depth ≡ 0) ⊎ (maxCount ≤ f .count) → Runs g d sweeps step f l w goal
+  run-stops e = there (ran-stops g d sweeps step f l w (k .search) (k .runs) left e)
 
-  pub run-spent : left ≡ 0 → Runs g d sweeps step f l goal
+  pub run-spent : left ≡ 0 → Runs g d sweeps step f l w goal
   run-spent e = there (ap (λ (n : ℕ). ran n (k .search)) e ∙ unfold ran in refl)
 
   -- one node more
-  pub run-turn : (less : ℕ) → left ≡ suc less → 0 < f .depth → f .count < maxCount → (f′ : Frame) (l′ : List ℕ)
-      → ((s : Progress) → Runs g d sweeps step f l s → Runs g d sweeps step f′ l′ (openTop s (s .stack)))
-      → RunsTo g d sweeps step f′ l′ less goal
-  run-turn less e deep room f′ l′ opened = record {
+  pub run-turn : (less : ℕ) → left ≡ suc less → 0 < f .depth → f .count < maxCount → (f′ : Frame) (l′ w′ : List ℕ)
+      → ((s : Progress) → Runs g d sweeps step f l w s → Runs g d sweeps step f′ l′ w′ (openTop s (s .stack)))
+      → RunsTo g d sweeps step f′ l′ w′ less goal
+  run-turn less e deep room f′ l′ w′ opened = record {
     search = openTop (k .search) (k .search .stack);
     runs = opened (k .search) (k .runs);
     comes =
-        sym (ran-next g d sweeps step f l (k .search) (k .runs) (top-of g f l (k .search) (k .runs .holds) deep room) less)
+        sym (ran-next g d sweeps step f l w (k .search) (k .runs) (top-of g f l w (k .search) (k .runs .holds) deep room) less)
         ∙ ap (λ (n : ℕ). ran n (k .search)) (sym e)
         ∙ k .comes;
   }

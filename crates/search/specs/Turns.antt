@@ -1,6 +1,6 @@
--- The passes of a node, turn by turn, over the graph with the node's marks and the multipliers so far (`AtPass`): each of the four ends of
+-- The passes of a node, turn by turn, over the bytes of the node's marks and the multipliers so far (`AtPass`): each of the four ends of
 -- a turn, as the code comes to them. Rests on the passes' definition alone.
-use mathlib.Core.Path.{_≡_, refl, sym, ap, _∙_, subst}
+use mathlib.Core.Path.{_≡_, refl, sym, ap, _∙_}
 use mathlib.Core.Bool.{true}
 use mathlib.Core.List.{List, _∷_}
 use Prim.Native.Nat.{ℕ, zero, suc, _≤_, _<_}
@@ -10,7 +10,7 @@ use lib.ListN.{length, getD, List·getD-eq-default}
 use lib.IntN.{ℤ, pos}
 use Rattle.lists.specs.Fill.{fit}
 use Rattle.graph.specs.declared.Graph.{Graph}
-use Rattle.graph.specs.Limits.{maxVertices, maxEdges}
+use Rattle.graph.specs.Limits.{maxEdges}
 use Rattle.graph.specs.Network.{Network, free, markOf, place, network}
 use Rattle.graph.specs.Places.{place-at, place-zero, place-past}
 use Rattle.graph.specs.Valid.{Valid}
@@ -83,12 +83,11 @@ unfolding passes
 turn g step upper zero d x = refl
 turn g step upper (suc left) d x = refl
 
--- the passes that are left, of a node with the graph h and the multipliers d, come to `out`
-pub record AtPass (g : Graph) (step : ℕ) (upper : ℤ) (out : M.Opened) (left : ℕ) (h : Graph) (d : List ℤ) : Type 0 where
+-- the passes that are left, of a node with the marks' bytes x and the multipliers d, come to `out`
+pub record AtPass (g : Graph) (step : ℕ) (upper : ℤ) (out : M.Opened) (left : ℕ) (x : List ℕ) (d : List ℤ) : Type 0 where
   pub marks : Marks
   pub long : length marks ≡ g .m
-  pub graph : h ≡ withBytes g (bytesOf marks)
-  pub size : length d ≡ maxVertices
+  pub bytes : x ≡ bytesOf marks
   pub fits : multipliersFit (fit (g .n) (pos 0) d) ≡ true
   pub comes : passes (network g) step upper left (fit (g .n) (pos 0) d) marks ≡ out
 
@@ -97,12 +96,11 @@ abbrev pub passesFrom : Graph → List ℤ → ℕ → ℤ → ℕ → M.Opened
 passesFrom h d step upper left = passes (network h) step upper left (fit (h .n) (pos 0) d) (marksIn (h .m) (h .mark))
 
 pub at-first : (h : Graph) (d : List ℤ) (step : ℕ) (upper : ℤ) (left : ℕ) → h .mark ≡ bytesOf (marksIn (h .m) (h .mark))
-    → length d ≡ maxVertices → multipliersFit (fit (h .n) (pos 0) d) ≡ true → AtPass h step upper (passesFrom h d step upper left) left h d
-at-first h d step upper left e size fits = record {
+    → multipliersFit (fit (h .n) (pos 0) d) ≡ true → AtPass h step upper (passesFrom h d step upper left) left (h .mark) d
+at-first h d step upper left e fits = record {
   marks = marksIn (h .m) (h .mark);
   long = marks-size (h .m) (h .mark);
-  graph = ap (withBytes h) e;
-  size = size;
+  bytes = e;
   fits = fits;
   comes = refl;
 }
@@ -123,22 +121,21 @@ passes-from g x d step upper left few e =
     (ap (λ (y : List ℕ). network (withBytes g y)) e ∙ network-marks g (marksIn (g .m) x) few (marks-size (g .m) x))
     ∙ passes-marks (network g) (marksIn (g .m) x) step upper left (fit (g .n) (pos 0) d) (marksIn (g .m) x)
 
-module _ (g : Graph) (valid : Valid g) (step : ℕ) (upper : ℤ) (out : M.Opened) (left : ℕ) (h : Graph) (d : List ℤ)
-    (s : AtPass g step upper out left h d) where
-  pub at-n : h .n ≡ g .n
-  at-n = ap (λ (f : Graph). f .n) (s .graph)
-
-  pub at-m : h .m ≡ g .m
-  at-m = ap (λ (f : Graph). f .m) (s .graph)
+module _ (g : Graph) (valid : Valid g) (step : ℕ) (upper : ℤ) (out : M.Opened) (left : ℕ) (x : List ℕ) (d : List ℤ)
+    (s : AtPass g step upper out left x d) where
+  abbrev h : Graph
+  h = withBytes g x
 
   pub at-valid : Valid h
-  at-valid = rw (s .graph) (valid-bytes g (s .marks) valid)
+  at-valid = rw (s .bytes) (valid-bytes g (s .marks) valid)
 
-  pub at-fits : multipliersFit (fit (h .n) (pos 0) d) ≡ true
-  at-fits = rw at-n (s .fits)
+  pub at-marks : x ≡ bytesOf (marksIn (g .m) x)
+  at-marks =
+      s .bytes
+      ∙ ap bytesOf (sym (ap (marksIn (g .m)) (s .bytes) ∙ bytes-back (g .m) (s .marks) (valid .few) (s .long)))
 
   -- the machine's pass is the one that the code makes
-  pass-is : (p : Pass) → pass (network h) (multiplier (fit (h .n) (pos 0) d)) upper ≡ p
+  pass-is : (p : Pass) → pass (network h) (multiplier (fit (g .n) (pos 0) d)) upper ≡ p
       → out ≡ concluded (g .m) p (later (network g) step upper left (fit (g .n) (pos 0) d))
   unfolding network
   pass-is p e =
@@ -149,31 +146,26 @@ module _ (g : Graph) (valid : Valid g) (step : ℕ) (upper : ℤ) (out : M.Opene
       same : pass (withMarks (network g) (s .marks)) (multiplier (fit (g .n) (pos 0) d)) upper ≡ p
       same =
           ap (λ (f : Network). pass f (multiplier (fit (g .n) (pos 0) d)) upper)
-          (sym (network-marks g (s .marks) (valid .few) (s .long)) ∙ ap network (sym (s .graph)))
-          ∙ ap (λ (n : ℕ). pass (network h) (multiplier (fit n (pos 0) d)) upper) (sym at-n)
+          (sym (network-marks g (s .marks) (valid .few) (s .long)) ∙ ap (λ (y : List ℕ). network (withBytes g y)) (sym (s .bytes)))
           ∙ e
 
-  pub turn-shut : pass (network h) (multiplier (fit (h .n) (pos 0) d)) upper ≡ shut → openedAs closes ≡ openedAs out
+  pub turn-shut : pass (network h) (multiplier (fit (g .n) (pos 0) d)) upper ≡ shut → openedAs closes ≡ openedAs out
   turn-shut e = ap openedAs (sym (pass-is shut e))
 
-  pub turn-found : (w : List ℕ) → FoundAs h (fit (h .n) (pos 0) d) upper w
+  pub turn-found : (w : List ℕ) → FoundAs h (fit (g .n) (pos 0) d) upper w
       → foundAs w ≡ openedAs out
   unfolding openedAs treeBytes
   turn-found w f =
-      ap foundAs
-      (f .bytes ∙ ap (λ (m : ℕ). treeBytes m (f .tour)) at-m)
+      ap foundAs (f .bytes)
       ∙ ap openedAs (sym (pass-is (found (f .tour)) (f .is)))
 
-  module _ (w degrees : List ℕ) (r : RuledAs h (fit (h .n) (pos 0) d) upper w degrees) where
+  module _ (w degrees : List ℕ) (r : RuledAs h (fit (g .n) (pos 0) d) upper w degrees) where
     goes-on : out ≡ later (network g) step upper left (fit (g .n) (pos 0) d) (r .tree) (r .marks)
     goes-on = pass-is (unclosed (r .tree) (r .marks)) (r .is)
 
-    new-long : length (r .marks) ≡ g .m
-    new-long = r .long ∙ at-m
-
     -- the marks that the code now has
     marks-now : marksIn (g .m) w ≡ r .marks
-    marks-now = ap (marksIn (g .m)) (r .bytes) ∙ bytes-back (g .m) (r .marks) (valid .few) new-long
+    marks-now = ap (marksIn (g .m)) (r .bytes) ∙ bytes-back (g .m) (r .marks) (valid .few) (r .long)
 
     pub turn-marks : w ≡ bytesOf (marksIn (g .m) w)
     turn-marks = r .bytes ∙ ap bytesOf (sym marks-now)
@@ -183,27 +175,21 @@ module _ (g : Graph) (valid : Valid g) (step : ℕ) (upper : ℤ) (out : M.Opene
         ap (λ (y : Marks). openedAs (branch y)) marks-now
         ∙ ap openedAs (sym (goes-on ∙ ap (λ (i : ℕ). later (network g) step upper i (fit (g .n) (pos 0) d) (r .tree) (r .marks)) z))
 
-    module _ (next : List ℤ) (gains : GainsTo (h .n) step degrees d next) (less : ℕ) (e : left ≡ suc less) where
-      gains-now : GainsTo (g .n) step degrees d next
-      gains-now = subst (λ (n : ℕ). GainsTo n step degrees d next) at-n gains
-
+    module _ (next : List ℤ) (gains : GainsTo (g .n) step degrees d next) (less : ℕ) (e : left ≡ suc less) where
       degree-now : (v : ℕ) → 1 ≤ v → v ≤ g .n → getD degrees v 0 ≡ M.degree (network g) (r .tree) v
-      degree-now v a b = r .degree v a (omega (arith, at-n)) ∙ same
-        where
-          same : M.degree (network h) (r .tree) v ≡ M.degree (network g) (r .tree) v
-          same = unfold M.degree network in ap (λ (f : Graph). M.degree (network f) (r .tree) v) (s .graph)
+      unfolding M.degree network
+      degree-now v a b = r .degree v a b
 
-      pub turn-next : AtPass g step upper out less (withBytes h w) next
+      pub turn-next : AtPass g step upper out less w next
       turn-next = record {
         marks = r .marks;
-        long = new-long;
-        graph = ap (λ (f : Graph). withBytes f w) (s .graph) ∙ ap (withBytes g) (r .bytes);
-        size = gains-now .size;
-        fits = gains-fit (g .n) step degrees d next (omega (arith, valid .low)) gains-now (s .fits);
+        long = r .long;
+        bytes = r .bytes;
+        fits = gains-fit (g .n) step degrees d next (omega (arith, valid .low)) gains (s .fits);
         comes =
             ap (λ (l : List ℤ). passes (network g) step upper less l (r .marks)) gained-now
             ∙ sym (goes-on ∙ ap (λ (i : ℕ). later (network g) step upper i (fit (g .n) (pos 0) d) (r .tree) (r .marks)) e);
       }
         where
           gained-now : fit (g .n) (pos 0) next ≡ gained (network g) step (r .tree) (fit (g .n) (pos 0) d)
-          gained-now = unfold network in gains-is (network g) step (r .tree) degrees d next gains-now degree-now
+          gained-now = unfold network in gains-is (network g) step (r .tree) degrees d next gains degree-now

@@ -22,15 +22,15 @@ fn tick(b: u8, x: i32, sum: i64) -> i64
 }
 
 // The sum of the costs of the edges that are in.
-pub(crate) fn tour_cost(g: Graph, w: [u8; 190]) -> i64
-    requires { ⌜ Valid g ⌝ }
-    ensures { λ r. ⌜ (r ≡ cost (network g) (bytes w)) × InRange (maxCost * maxEdges) r ⌝ }
+pub(crate) fn tour_cost<'a>(m: usize, costs: &'a [i32; 190], w: &'a [u8; 190]) -> i64
+    requires { ⌜ ((g : Graph) × Valid g × (g .m ≡ m) × (g .cost ≡ now costs)) ⌝ }
+    ensures { λ r. ⌜ ((g : Graph) → Valid g → g .m ≡ m → g .cost ≡ now (costs .entry) → r ≡ cost (network g) (bytes (now (w .entry))))
+        × InRange (maxCost * maxEdges) r ⌝ }
 {
-    let m = g.m;
     let mut sum: i64 = 0;
     let mut k = 0;
     while k < m {
-        sum = tick(w[k], g.cost[k], sum);
+        sum = tick(w[k], costs[k], sum);
         k = k + 1;
     }
     sum

@@ -165,7 +165,7 @@ pub fn tell_core(s: Search) -> Outcome
     }
     let g = s.graph;
     let best = s.best;
-    let c = tour_cost(g, best);
+    let c = tour_cost(g.m, &g.cost, &best);
     Outcome {
         search: s,
         answer: Answer::Best(c, k),
@@ -217,7 +217,7 @@ pub fn close_core(s: Search) -> Outcome
     }
 }
 
-// The calls on a record that the caller lends: each is its core, and the record is then core's.
+// The calls on a record that the caller lends: each is its core, and the record is then the core's.
 
 pub fn open(
     s: &mut Search,

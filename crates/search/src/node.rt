@@ -1,13 +1,13 @@
 // The opening of a node: document 01's passes. Arrays of an edge's byte have 190 places, zero past m.
 ghost use mathlib.Core.Path.{_≡_};
 ghost use Prim.Native.Nat.{ℕ, _+_, _<_, _≤_};
-ghost use lib.ListN.{getD};
+ghost use lib.ListN.{length, getD};
 ghost use lib.IntN.{pos, _+ℤ_};
 ghost use mathlib.Core.Bool.{true};
 ghost use Rattle.lists.specs.Fill.{fit};
 ghost use Rattle.integers.specs.Range.{InRange, clamp};
 ghost use Rattle.graph.specs.Limits.{maxVertices, maxEdges, maxMultiplier, maxStep};
-ghost use Rattle.graph.specs.Valid.{Valid};
+ghost use Rattle.graph.specs.Valid.{Valid, graphOf};
 ghost use Rattle.onetree.specs.Inputs.{multipliersFit, ceilingFits};
 ghost use Rattle.machine.specs.Outcomes.{closes};
 ghost use Rattle.graph.specs.Network.{network};
@@ -16,12 +16,12 @@ ghost use Rattle.search.specs.Record.{marksIn};
 ghost use Rattle.search.specs.Pushing.{bytesOf};
 ghost use Rattle.search.specs.Judging.{JudgedIs};
 ghost use Rattle.search.specs.Passing.{isBound};
-ghost use Rattle.search.specs.Opening.{openedAs, foundAs};
+ghost use Rattle.search.specs.Opening.{opened, openedAs};
 ghost use Rattle.search.specs.Filling.{Filling};
 ghost use Rattle.search.specs.Counting.{Ends, edged, DegreesTo, allTwo};
 ghost use Rattle.search.specs.Gains.{gainOf, maxGain, GainsTo};
 ghost use Rattle.search.specs.Marking.{markByte, FirstFree};
-use graph::Graph;
+use onetree::BAR;
 use onetree::RuleAnswer;
 
 pub(crate) fn wide(x: u8) -> usize
@@ -101,34 +101,33 @@ fn gains(degrees: [u8; 21], d: [i32; 20], n: usize, step: u32) -> [i32; 20]
     r
 }
 
-// The mark of an edge once its ruling is applied.
+// The mark of an edge once its ruling is applied: keep, force and bar have the numbers of free, required and excluded, and what an edge was
+// before has its mark's number two higher.
 fn mark_by(ruling: u8) -> u8
     ensures { λ r. ⌜ r ≡ markByte ruling ⌝ }
 {
-    if ruling > 2 {
-        return ruling - 2;
+    if ruling > BAR {
+        return ruling - BAR;
     }
     ruling
 }
 
-// The marks once the rulings are applied.
-fn applied(rulings: [u8; 190], m: usize) -> [u8; 190]
-    requires { ⌜ m ≤ maxEdges ⌝ }
-    ensures { λ r. ⌜ Filling 0 maxEdges m (λ k. markByte (getD rulings k 0)) r ⌝ }
+// The marks, once the rulings are applied; zero past m before and after.
+fn apply(rulings: &[u8; 190], m: usize, marks: &mut [u8; 190])
+    requires { ⌜ (m ≤ maxEdges) × (now marks ≡ bytesOf (marksIn m (now marks))) ⌝ }
+    ensures { λ _. ⌜ Filling 0 maxEdges m (λ k. markByte (getD (now (rulings .entry)) k 0)) (now (marks .exit)) ⌝ }
 {
-    let mut x = [0u8; 190];
     let mut k = 0;
     while k < m {
-        x[k] = mark_by(rulings[k]);
+        marks[k] = mark_by(rulings[k]);
         k = k + 1;
     }
-    x
 }
 
 // The place of the lowest-numbered free edge, or m.
-fn first_free(x: [u8; 190], m: usize) -> usize
+fn first_free(x: &[u8; 190], m: usize) -> usize
     requires { ⌜ m ≤ maxEdges ⌝ }
-    ensures { λ r. ⌜ FirstFree x m r ⌝ }
+    ensures { λ r. ⌜ FirstFree (now (x .entry)) m r ⌝ }
 {
     let mut k = 0;
     while k < m {
@@ -140,50 +139,36 @@ fn first_free(x: [u8; 190], m: usize) -> usize
     k
 }
 
-// What the opening of a node comes to.
+// What the opening of a node comes to. With it go two lists of bytes for each edge: a found tour in `row`; or of the two nodes of a split
+// the lower one in `row`, with the edge excluded, and the upper one in `top`, with the edge required. Zero where there is nothing to tell.
 pub(crate) enum Fate {
     Closes,
     Finds,
     Splits,
 }
 
-// The fate of a node, and bytes for each edge: a found tour in `row`; or of the two nodes of a split the lower one in `row`, with the
-// edge excluded, and the upper one in `top`, with the edge required. Zero where there is nothing to tell.
-pub(crate) struct Opened {
-    pub fate: Fate,
-    pub row: [u8; 190],
-    pub top: [u8; 190],
-}
-
 // A node that closes.
-fn closed() -> Opened
-    ensures { λ r. ⌜ r ≡ openedAs closes ⌝ }
+fn close(row: &mut [u8; 190], top: &mut [u8; 190]) -> Fate
+    ensures { λ r. ⌜ opened r (now (row .exit)) (now (top .exit)) ≡ openedAs closes ⌝ }
 {
-    Opened {
-        fate: Fate::Closes,
-        row: [0; 190],
-        top: [0; 190],
-    }
+    *row = [0; 190];
+    *top = [0; 190];
+    Fate::Closes
 }
 
-// After the last pass: the node splits at its lowest free edge, or closes.
-fn branched(x: [u8; 190], m: usize) -> Opened
-    requires { ⌜ (m ≤ maxEdges) × (x ≡ bytesOf (marksIn m x)) ⌝ }
-    ensures { λ r. ⌜ r ≡ openedAs (branch (marksIn m x)) ⌝ }
+// After the last pass: the node whose marks are in row splits at its lowest free edge, or closes.
+fn split(m: usize, row: &mut [u8; 190], top: &mut [u8; 190]) -> Fate
+    requires { ⌜ (m ≤ maxEdges) × (now row ≡ bytesOf (marksIn m (now row))) ⌝ }
+    ensures { λ r. ⌜ opened r (now (row .exit)) (now (top .exit)) ≡ openedAs (branch (marksIn m (now (row .entry)))) ⌝ }
 {
-    let k = first_free(x, m);
+    let k = first_free(row, m);
     if k == m {
-        return closed();
+        return close(row, top);
     }
-    let mut row = x;
+    *top = *row;
     row[k] = graph::EXCLUDED;
-    let mut top = x;
     top[k] = graph::REQUIRED;
-    Opened {
-        fate: Fate::Splits,
-        row: row,
-        top: top,
-    }
+    Fate::Splits
 }
 
 // What a pass makes of a node: it is shut, a tour is found, or the rulings are applied.
@@ -193,13 +178,10 @@ pub(crate) enum Verdict {
     Ruled,
 }
 
-// The verdict; the tour or the marks after the rulings; the degrees of the tree; and in the first `live` bytes of `order` a hint for the
-// next pass.
+// The verdict; the degrees of the tree; and in how many bytes of its order a pass hands on a hint.
 pub(crate) struct Judged {
     pub verdict: Verdict,
-    pub row: [u8; 190],
     pub degrees: [u8; 21],
-    pub order: [u8; 190],
     pub live: usize,
 }
 
@@ -214,123 +196,113 @@ fn is_bound(answer: RuleAnswer) -> bool
     }
 }
 
-// One pass, by one call of the tree part. The hint is for it alone.
-fn judge(g: Graph, d: [i32; 20], upper: i64, hint: &[u8]) -> Judged
-    requires { ⌜ Valid g × (multipliersFit (fit (g .n) (pos 0) d) ≡ true) × (ceilingFits upper ≡ true) ⌝ }
-    ensures { λ r. ⌜ JudgedIs g (fit (g .n) (pos 0) d) upper (r .verdict) (r .row) (r .degrees) × (r .live ≤ maxEdges) ⌝ }
+// One pass, by one call of the tree part, on the marks in row, which then has the tour or the marks after the rulings. The hint is for the
+// tree part alone.
+fn judge<'a>(
+    n: usize,
+    m: usize,
+    a: &'a [u8; 190],
+    b: &'a [u8; 190],
+    cost: &'a [i32; 190],
+    d: [i32; 20],
+    upper: i64,
+    hint: &'a [u8],
+    row: &mut [u8; 190],
+    order: &mut [u8; 190],
+) -> Judged
+    requires { ⌜ Valid (graphOf n m (now a) (now b) (now cost) (now row)) × (multipliersFit (fit n (pos 0) d) ≡ true)
+        × (ceilingFits upper ≡ true) × (now row ≡ bytesOf (marksIn m (now row)))
+        × (length (now order) ≡ maxEdges) ⌝ }
+    ensures { λ r. ⌜ JudgedIs (graphOf n m (now (a .entry)) (now (b .entry)) (now (cost .entry)) (now (row .entry)))
+        (fit n (pos 0) d) upper (r .verdict) (now (row .exit)) (r .degrees) × (r .live ≤ maxEdges)
+        × (length (now (order .exit)) ≡ maxEdges) ⌝ }
 {
-    let n = g.n;
-    let m = g.m;
-    let p = onetree::pass(g, &d[..n], upper, hint);
+    let mut tree = [0u8; 190];
+    let mut rulings = [0u8; 190];
+    let p = onetree::pass(
+        n,
+        m,
+        a,
+        b,
+        cost,
+        row,
+        &d[..n],
+        upper,
+        hint,
+        &mut tree,
+        &mut rulings,
+        order,
+    );
     let answer = p.answer;
-    let tree = p.tree;
-    let order = p.order;
-    let live = p.live;
     if !is_bound(answer) {
         return Judged {
             verdict: Verdict::Shut,
-            row: tree,
             degrees: [0; 21],
-            order: order,
-            live: live,
+            live: 0,
         };
     }
-    let degrees = degrees(&g.a, &g.b, m, &tree);
+    let degrees = degrees(a, b, m, &tree);
     if two_each(degrees, n) {
+        *row = tree;
         return Judged {
             verdict: Verdict::Found,
-            row: tree,
             degrees: degrees,
-            order: order,
-            live: live,
+            live: 0,
         };
     }
-    let rulings = p.rulings;
-    let marks = applied(rulings, m);
+    apply(&rulings, m, row);
     Judged {
         verdict: Verdict::Ruled,
-        row: marks,
         degrees: degrees,
-        order: order,
-        live: live,
+        live: p.live,
     }
 }
 
-// A node that found a tour.
-fn found(tour: [u8; 190]) -> Opened
-    ensures { λ r. ⌜ r ≡ foundAs tour ⌝ }
-{
-    Opened {
-        fate: Fate::Finds,
-        row: tour,
-        top: [0; 190],
-    }
-}
-
-// What a pass starts from besides the graph with the node's marks: the multipliers, and the last pass's hint.
-struct Turn {
-    pub multipliers: [i32; 20],
-    pub order: [u8; 190],
-    pub live: usize,
-}
-
-// After a pass that is not the last: the multipliers with their gains, and its hint.
-fn advanced(t: Turn, j: Judged, n: usize, step: u32) -> Turn
-    requires { ⌜ (1 ≤ n) × (n ≤ maxVertices) × (multipliersFit (fit n (pos 0) (t .multipliers)) ≡ true) × (step ≤ maxStep) ⌝ }
-    ensures { λ r. ⌜ GainsTo n step (j .degrees) (t .multipliers) (r .multipliers) × (r .live ≡ j .live) ⌝ }
-{
-    let degrees = j.degrees;
-    let d = t.multipliers;
-    let next = gains(degrees, d, n, step);
-    let order = j.order;
-    Turn {
-        multipliers: next,
-        order: order,
-        live: j.live,
-    }
-}
-
-// A node with the graph's marks is opened: multipliers set to the opening ones, then passes 0 to `sweeps`.
-pub(crate) fn open_node(
-    g: Graph,
+// The node with the marks in row is opened: multipliers set to the opening ones, then passes 0 to `sweeps`.
+pub(crate) fn open_node<'a>(
+    n: usize,
+    m: usize,
+    a: &'a [u8; 190],
+    b: &'a [u8; 190],
+    cost: &'a [i32; 190],
     multipliers: [i32; 20],
     upper: i64,
     sweeps: u32,
     step: u32,
-) -> Opened
-    requires { ⌜ Valid g × (multipliersFit (fit (g .n) (pos 0) multipliers) ≡ true) × (ceilingFits upper ≡ true) × (step ≤ maxStep)
-        × (g .mark ≡ bytesOf (marksIn (g .m) (g .mark))) ⌝ }
-    ensures { λ r. ⌜ r ≡ openedAs (passes (network g) step upper sweeps (fit (g .n) (pos 0) multipliers) (marksIn (g .m) (g .mark))) ⌝ }
+    row: &mut [u8; 190],
+    top: &mut [u8; 190],
+) -> Fate
+    requires { ⌜ Valid (graphOf n m (now a) (now b) (now cost) (now row)) × (multipliersFit (fit n (pos 0) multipliers) ≡ true)
+        × (ceilingFits upper ≡ true) × (step ≤ maxStep) × (now row ≡ bytesOf (marksIn m (now row))) ⌝ }
+    ensures { λ r. ⌜ opened r (now (row .exit)) (now (top .exit))
+        ≡ openedAs (passes (network (graphOf n m (now (a .entry)) (now (b .entry)) (now (cost .entry)) (now (row .entry)))) step upper
+        sweeps (fit n (pos 0) multipliers) (marksIn m (now (row .entry)))) ⌝ }
 {
-    let m = g.m;
-    let mut h = g;
-    let mut t = Turn {
-        multipliers: multipliers,
-        order: [0; 190],
-        live: 0,
-    };
+    let mut d = multipliers;
+    let mut order = [0u8; 190];
+    let mut live: usize = 0;
     let mut left = sweeps;
     loop {
-        let d = t.multipliers;
-        let order = t.order;
-        let live = t.live;
-        let j = judge(h, d, upper, &order[..live]);
+        let hint = order;
+        let j = judge(n, m, a, b, cost, d, upper, &hint[..live], row, &mut order);
         let verdict = j.verdict;
-        let row = j.row;
         match verdict {
             Verdict::Shut => {
-                return closed();
+                return close(row, top);
             }
             Verdict::Found => {
-                return found(row);
+                *top = [0; 190];
+                return Fate::Finds;
             }
             Verdict::Ruled => {}
         }
         if left == 0 {
-            return branched(row, m);
+            return split(m, row, top);
         }
-        t = advanced(t, j, h.n, step);
-        h.mark = row;
+        let degrees = j.degrees;
+        let next = gains(degrees, d, n, step);
+        d = next;
+        live = j.live;
         left = left - 1;
     }
 }

@@ -79,7 +79,7 @@ pub(crate) fn begin(g: Graph, multipliers: &[i32], ceiling: i64, sweeps: u32, st
     let d = padded(multipliers);
     let marks = t.mark;
     let mut nodes = [0u8; 36290];
-    stack::put(&mut nodes, 0, marks);
+    stack::put(&mut nodes, 0, &marks);
     Search {
         open: true,
         graph: t,

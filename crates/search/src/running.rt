@@ -1,16 +1,15 @@
 // Running: the top node is opened while one waits, budget is left and the count is below its limit. What changes is a small frame by
-// value beside the stack's bytes, which are lent: nothing copies the record for a node.
+// value beside the bytes of the stack and of the best tour, which are lent: nothing copies the record for a node.
 ghost use mathlib.Core.Path.{_≡_};
 ghost use mathlib.Core.Bool.{true};
-ghost use lib.IntN.{pos, _-ℤ_};
-ghost use Rattle.graph.specs.Network.{network};
-ghost use Rattle.graph.specs.Valid.{Valid};
-ghost use Rattle.onetree.specs.Arrays.{bytes};
-ghost use Rattle.machine.specs.Tours.{cost};
+ghost use mathlib.Core.List.{List};
+ghost use Prim.Native.Nat.{ℕ};
+ghost use Rattle.graph.specs.Valid.{graphOf};
 ghost use Rattle.machine.specs.Machine.{Progress, openTop, ran};
 ghost use Rattle.machine.specs.Calls as Calls;
 ghost use Rattle.search.specs.Check.{check};
 ghost use Rattle.search.specs.Replies.{reply};
+ghost use Rattle.search.specs.Opening.{opened};
 ghost use Rattle.search.specs.Frames.{Holds, Opens};
 ghost use Rattle.search.specs.Running.{Runs};
 use crate::Answer;
@@ -19,69 +18,63 @@ use crate::Search;
 use crate::compact::open_compact;
 use crate::cost::tour_cost;
 use crate::node::Fate;
-use crate::node::Opened;
 use crate::stack::node;
 use crate::stack::put;
-use graph::Graph;
 
-// What changes of a search while it runs, but for the stack.
+// What changes of a search while it runs, but for the stack and the best tour.
 pub(crate) struct Frame {
     pub upper: i64,
     pub depth: usize,
     pub has_best: bool,
-    pub best: [u8; 190],
     pub count: u64,
 }
 
-// The upper bound once a tour is found: its cost, less 1.
-fn lowered(g: Graph, tour: [u8; 190]) -> i64
-    requires { ⌜ Valid g ⌝ }
-    ensures { λ r. ⌜ r ≡ cost (network g) (bytes tour) -ℤ pos 1 ⌝ }
-{
-    tour_cost(g, tour) - 1
-}
-
 // What the opening of the top node makes of a search.
-fn settle(g: Graph, f: Frame, o: Opened, stack: &mut [u8; 36290]) -> Frame
-    requires { ⌜ Opens g f (now stack) o ⌝ }
-    ensures { λ r. ⌜ ((t : Opens g f (now (stack .entry)) o) → Holds g r (now (stack .exit)) (openTop (t .search) (t .search .stack))) ⌝ }
+fn settle<'a>(
+    m: usize,
+    cost: &'a [i32; 190],
+    f: Frame,
+    fate: Fate,
+    row: &'a [u8; 190],
+    top: &'a [u8; 190],
+    stack: &mut [u8; 36290],
+    best: &mut [u8; 190],
+) -> Frame
+    requires { ⌜ Opens m (now cost) f (now stack) (now best) (opened fate (now row) (now top)) ⌝ }
+    ensures { λ r. ⌜ ((t : Opens m (now (cost .entry)) f (now (stack .entry)) (now (best .entry))
+        (opened fate (now (row .entry)) (now (top .entry))))
+        → Holds (t .graph) r (now (stack .exit)) (now (best .exit)) (openTop (t .search) (t .search .stack))) ⌝ }
 {
     let p = f.depth - 1;
     let k = f.count + 1;
-    let row = o.row;
-    let best = f.best;
-    let fate = o.fate;
     match fate {
         Fate::Closes => {
-            put(stack, p, [0; 190]);
+            put(stack, p, top);
             Frame {
                 upper: f.upper,
                 depth: p,
                 has_best: f.has_best,
-                best: best,
                 count: k,
             }
         }
         Fate::Finds => {
-            put(stack, p, [0; 190]);
-            let u = lowered(g, row);
+            put(stack, p, top);
+            *best = *row;
+            let u = tour_cost(m, cost, row) - 1;
             Frame {
                 upper: u,
                 depth: p,
                 has_best: true,
-                best: row,
                 count: k,
             }
         }
         Fate::Splits => {
-            let top = o.top;
             put(stack, p, row);
             put(stack, p + 1, top);
             Frame {
                 upper: f.upper,
                 depth: p + 2,
                 has_best: f.has_best,
-                best: best,
                 count: k,
             }
         }
@@ -89,21 +82,31 @@ fn settle(g: Graph, f: Frame, o: Opened, stack: &mut [u8; 36290]) -> Frame
 }
 
 // The run: the top node is opened, again and again.
-fn run_frame(
-    g: Graph,
+fn run_frame<'a>(
+    n: usize,
+    m: usize,
+    a: &'a [u8; 190],
+    b: &'a [u8; 190],
+    cost: &'a [i32; 190],
     multipliers: [i32; 20],
     sweeps: u32,
     step: u32,
     f: Frame,
     stack: &mut [u8; 36290],
+    best: &mut [u8; 190],
     budget: u64,
 ) -> Frame
-    requires { ⌜ ((s : Progress) × Runs g multipliers sweeps step f (now stack) s) ⌝ }
-    ensures { λ r. ⌜ ((s : Progress) → Runs g multipliers sweeps step f (now (stack .entry)) s
-        → Runs g multipliers sweeps step r (now (stack .exit)) (ran budget s)) ⌝ }
+    requires { ⌜ ((x : List ℕ) × (s : Progress)
+        × Runs (graphOf n m (now a) (now b) (now cost) x) multipliers sweeps step f (now stack) (now best) s) ⌝ }
+    ensures { λ r. ⌜ ((x : List ℕ) (s : Progress)
+        → Runs (graphOf n m (now (a .entry)) (now (b .entry)) (now (cost .entry)) x) multipliers sweeps step f (now (stack .entry))
+        (now (best .entry)) s
+        → Runs (graphOf n m (now (a .entry)) (now (b .entry)) (now (cost .entry)) x) multipliers sweeps step r (now (stack .exit))
+        (now (best .exit)) (ran budget s)) ⌝ }
 {
     let mut t = f;
     let mut left = budget;
+    let mut top = [0u8; 190];
     while left > 0 {
         if t.depth == 0 {
             return t;
@@ -111,21 +114,21 @@ fn run_frame(
         if t.count >= crate::MAX_COUNT {
             return t;
         }
-        let p = t.depth - 1;
-        let x = node(stack, p);
-        let o = open_compact(
-            g.n,
-            g.m,
-            &g.a,
-            &g.b,
-            &g.cost,
+        let mut row = node(stack, t.depth - 1);
+        let fate = open_compact(
+            n,
+            m,
+            a,
+            b,
+            cost,
             multipliers,
             t.upper,
             sweeps,
             step,
-            x,
+            &mut row,
+            &mut top,
         );
-        t = settle(g, t, o, stack);
+        t = settle(m, cost, t, fate, &row, &top, stack, best);
         left = left - 1;
     }
     t
@@ -138,17 +141,28 @@ pub(crate) fn run_open(s: Search, budget: u64) -> Outcome
 {
     let g = s.graph;
     let d = s.multipliers;
-    let best = s.best;
+    let mut best = s.best;
     let f = Frame {
         upper: s.upper,
         depth: s.depth,
         has_best: s.has_best,
-        best: best,
         count: s.count,
     };
     let mut stack = s.stack;
-    let t = run_frame(g, d, s.sweeps, s.step, f, &mut stack, budget);
-    let best = t.best;
+    let t = run_frame(
+        g.n,
+        g.m,
+        &g.a,
+        &g.b,
+        &g.cost,
+        d,
+        s.sweeps,
+        s.step,
+        f,
+        &mut stack,
+        &mut best,
+        budget,
+    );
     let k = t.count;
     let r = Search {
         open: true,

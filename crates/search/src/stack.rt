@@ -21,9 +21,9 @@ pub(crate) fn node(stack: &[u8; 36290], p: usize) -> [u8; 190]
 }
 
 // The bytes x are stored as node p.
-pub(crate) fn put(stack: &mut [u8; 36290], p: usize, x: [u8; 190])
+pub(crate) fn put(stack: &mut [u8; 36290], p: usize, x: &[u8; 190])
     requires { ⌜ (p < maxNodes) × (length (now stack) ≡ stackSize) ⌝ }
-    ensures { λ _. ⌜ Put p maxEdges x (now (stack .entry)) (now (stack .exit)) ⌝ }
+    ensures { λ _. ⌜ Put p maxEdges (now (x .entry)) (now (stack .entry)) (now (stack .exit)) ⌝ }
 {
     let mut j = 0;
     while j < 190 {

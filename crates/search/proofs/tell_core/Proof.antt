@@ -1,5 +1,5 @@
 -- The cases of `reply` at tell, one for each return.
-use mathlib.Core.Path.{_≡_, sym, _∙_}
+use mathlib.Core.Path.{_≡_, refl, sym, _∙_}
 use mathlib.Core.Bool.{true}
 use borrow.Author.Needs.{needs}
 use borrow.Author.Tests.{not-true, not-false}
@@ -56,20 +56,21 @@ returns-4 c =
 
 tour-cost-requires : tie.Need-tour-cost-requires
 tour-cost-requires c κs =
-    let c2 = c .before .before .before .before .before .before in
+    let c2 = c .before .before .before .before .before .before .before .before .before in
     let c1 = c2 .before .before in
     let start = c1 .before .before in
-    graph-valid (start .args .s) (typed start) (passed c1) (not-false _ (c2 .if2 .left))
+    (start .args .s .graph, graph-valid (start .args .s) (typed start) (passed c1) (not-false _ (c2 .if2 .left)), refl, refl)
 
 returns-5 : tie.Need-returns-5
 returns-5 c =
-    let c4 = c .before .before .before in
+    let c4 = c .before .before .before .before .before .before in
     let c3 = c4 .before .before in
     let c2 = c3 .before .before in
     let c1 = c2 .before .before in
     let start = c1 .before .before in
     let s = start .args .s in
-    let paid = back64 (c .tour-cost .result) (c .tour-cost .ok) ∙ c .tour-cost .ensures .0 in
+    let valid = graph-valid s (typed start) (passed c1) (not-false _ (c2 .if2 .left)) in
+    let paid = back64 (c .tour-cost .result) (c .tour-cost .ok) ∙ c .tour-cost .ensures .0 (s .graph) valid refl refl in
     (λ i. record { search = s; answer = Best (paid i) (s .count) })
     ∙ sym (tell-best s (typed start) (passed c1) (not-false _ (c2 .if2 .left)) (c3 .if3 .left) (not-false _ (c4 .if4 .left)))
 

@@ -1,9 +1,6 @@
 -- Five pieces, appended. A signed number comes to a call as its bits, and fits them.
 use borrow.Author.Needs.{needs}
 use native.Mathlib.Omega.{arith}
-use Prim.Native.Nat.{ℕ}
-use lib.ListN.{length}
-use denote.Ref.{now}
 use mir.Facts.{toZ-ofZ}
 use Rattle.reports.specs.Decimal.{signedDecimal}
 use Rattle.reports.specs.Text.{boundLine}

@@ -1,47 +1,54 @@
 -- The loop keeps: the sum is that of the first k edges that are in.
 use Prim.Native.Nat.{_≤_, _-_}
-use mathlib.Core.Path.{_≡_, refl, sym, _∙_}
+use mathlib.Core.Path.{_≡_, sym, _∙_, subst}
+use mathlib.Core.List.{List}
 use native.Mathlib.Omega.{arith}
 use borrow.Author.Needs.{needs}
 use lib.ListN.{getD}
-use lib.IntN.{pos}
+use lib.IntN.{ℤ, pos}
 use mir.Val.{toZ}
 use mir.Syntax.{w64}
 use Rattle.integers.specs.Words.{back32, back64}
-use Rattle.search.specs.Costs.{CostTo, cost-none, cost-all, ticked}
+use Rattle.integers.specs.Range.{InRange}
+use Rattle.graph.specs.declared.Graph.{Graph}
+use Rattle.graph.specs.Valid.{Valid}
+use Rattle.search.specs.Costs.{CostTo, Ticked, cost-none, cost-all, ticked}
 use Rattle.search.proofs.cost.tour_cost.Statement.{statement}
 use Rattle.search.proofs.cost.tour_cost.Tie as tie
 
 abbrev Inv-loop : tie.InvT-loop
-Inv-loop g w m sum₀ k₀ sum k = (m ≡ g .m) × (k ≤ m) × (m ≤ 190) × CostTo k g w (toZ w64 sum)
+Inv-loop m costs w sum₀ k₀ sum k =
+    (k ≤ m) × (m ≤ 190) × ((g : Graph) → Valid g → g .m ≡ m → g .cost ≡ costs → CostTo k g w (toZ w64 sum))
 
 abbrev μ-loop : tie.MeasureT-loop
-μ-loop g w m sum₀ k₀ sum k = m - k
+μ-loop m costs w sum₀ k₀ sum k = m - k
 
 loop-holds : tie.Need-loop-holds Inv-loop μ-loop
 loop-holds c = (
-  refl,
   omega arith,
-  c .pre .few,
-  record { is = sym (cost-none (c .args .t1) (c .args .t2)); high = omega arith; low = omega arith },
+  omega (arith, c .pre .1 .few, c .pre .2),
+  λ g v e q. record { is = sym (cost-none g (c .args .w .now)); high = omega arith; low = omega arith },
 )
-
-array-read-tick : tie.Need-array-read-tick Inv-loop μ-loop
-array-read-tick c = search needs
-
-mul-tick : tie.Need-mul-tick Inv-loop μ-loop
-mul-tick c = search needs
 
 element-copy-out-tick : tie.Need-element-copy-out-tick Inv-loop μ-loop
 element-copy-out-tick c = search needs
 
+mul-tick : tie.Need-mul-tick Inv-loop μ-loop
+mul-tick c = search needs
+
+element-copy-out-tick-2 : tie.Need-element-copy-out-tick-2 Inv-loop μ-loop
+element-copy-out-tick-2 c = search needs
+
 tick-requires : tie.Need-tick-requires Inv-loop μ-loop
 tick-requires c κs =
-    let l = c .before .before .loop in
-    let s = c .before .before .before in
-    rw (back32 (getD (s .args .t1 .cost) (l .k) (pos 0)) (c .tick-arg .given)) (
-      s .pre .each (l .k) (omega arith) .range,
-      record { high = omega (arith, l .inv .3 .high); low = omega (arith, l .inv .3 .low) },
+    let l = c .before .before .before .loop in
+    let s = c .before .before .before .before in
+    let g = s .pre .0 in
+    let sum = l .inv .2 g (s .pre .1) (s .pre .2) (s .pre .3) in
+    rw (back32 (getD (s .args .costs .now) (l .k) (pos 0)) (c .tick-arg2 .given)) (
+      subst (λ (x : List ℤ). InRange 1000000 (getD x (l .k) (pos 0))) (s .pre .3)
+          (s .pre .1 .each (l .k) (omega (arith, s .pre .2)) .range),
+      record { high = omega (arith, sum .high); low = omega (arith, sum .low) },
     )
 
 add-k : tie.Need-add-k Inv-loop μ-loop
@@ -52,25 +59,28 @@ loop-less c = search needs
 
 loop-again : tie.Need-loop-again Inv-loop μ-loop
 loop-again c =
-    let l = c .before .before .before .loop in
-    let s = c .before .before .before .before in
-    let t = rw (back32 (getD (s .args .t1 .cost) (l .k) (pos 0)) (c .before .tick-arg .given)) at (c .tick .ensures) in
+    let l = c .before .before .before .before .loop in
+    let s = c .before .before .before .before .before in
+    let w = s .args .w .now in
+    let t = rw (back32 (getD (s .args .costs .now) (l .k) (pos 0)) (c .before .tick-arg2 .given)) at (c .tick .ensures) in
     rw (back64 (c .tick .result) (c .tick .ok)) (
-      l .inv .0,
       omega arith,
-      l .inv .2,
-      ticked (l .k) (s .args .t1) (s .args .t2) (toZ w64 (l .sum)) (c .tick .result) (omega arith)
-          (s .pre .each (l .k) (omega arith) .range)
-          (l .inv .3) t,
+      l .inv .1,
+      λ g v e q.
+          ticked (l .k) g w (toZ w64 (l .sum)) (c .tick .result) (omega (arith, e)) (v .each (l .k) (omega (arith, e)) .range)
+          (l .inv .2 g v e q)
+          (subst (λ (x : List ℤ). Ticked (getD w (l .k) 0) (getD x (l .k) (pos 0)) (toZ w64 (l .sum)) (c .tick .result)) (sym q) t),
     )
 
 returns : tie.Need-returns Inv-loop μ-loop
 returns c =
     let l = c .before .loop in
     let s = c .before .before in
-    let e : l .k ≡ s .args .t1 .m = omega arith in
-    let sum = rw e at (l .inv .3) in
-    (sum .is ∙ cost-all (s .args .t1) (s .args .t2), record { high = omega (arith, sum .high); low = omega (arith, sum .low) })
+    let all : l .k ≡ s .args .m = omega arith in
+    let sum = l .inv .2 (s .pre .0) (s .pre .1) (s .pre .2) (s .pre .3) in (
+      λ g v e q. rw (all ∙ sym e) at (l .inv .2 g v e q) .is ∙ cost-all g (s .args .w .now),
+      record { high = omega (arith, sum .high); low = omega (arith, sum .low) },
+    )
 
 pub tour-cost-spec : {M : Type 1} → statement M
 tour-cost-spec =
@@ -79,9 +89,9 @@ tour-cost-spec =
     Inv-loop
     μ-loop
     loop-holds
-    array-read-tick
-    mul-tick
     element-copy-out-tick
+    mul-tick
+    element-copy-out-tick-2
     tick-requires
     add-k
     loop-less

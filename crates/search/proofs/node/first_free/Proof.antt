@@ -9,19 +9,19 @@ use Rattle.search.proofs.node.first_free.Statement.{statement}
 use Rattle.search.proofs.node.first_free.Tie as tie
 
 abbrev Inv-loop : tie.InvT-loop
-Inv-loop m x k₀ k = (k ≤ m) × (m ≤ 190) × ((j : ℕ) → j < k → getD x j 0 ≢ 0)
+Inv-loop x m k₀ k = (k ≤ m) × (m ≤ 190) × ((j : ℕ) → j < k → getD x j 0 ≢ 0)
 
 abbrev μ-loop : tie.MeasureT-loop
-μ-loop m x k₀ k = m - k
+μ-loop x m k₀ k = m - k
 
 loop-holds : tie.Need-loop-holds Inv-loop μ-loop
 loop-holds c = (omega arith, c .pre, λ j h. absurd (omega arith))
 
-array-read-if1 : tie.Need-array-read-if1 Inv-loop μ-loop
-array-read-if1 c = search needs
+element-copy-out-if1 : tie.Need-element-copy-out-if1 Inv-loop μ-loop
+element-copy-out-if1 c = search needs
 
 returns : tie.Need-returns Inv-loop μ-loop
-returns c = let l = c .before .before .loop in record { most = omega arith; below = l .inv .2; here = λ h. c .if1 .taken }
+returns c = let l = c .before .before .before .loop in record { most = omega arith; below = l .inv .2; here = λ h. c .if1 .taken }
 
 add-k : tie.Need-add-k Inv-loop μ-loop
 add-k c = search needs
@@ -31,7 +31,7 @@ loop-less c = search needs
 
 loop-again : tie.Need-loop-again Inv-loop μ-loop
 loop-again c =
-    let l = c .before .before .loop in
+    let l = c .before .before .before .loop in
     (omega arith, l .inv .1, below-more _ _ (l .inv .2) (c .if1 .left))
 
 returns-2 : tie.Need-returns-2 Inv-loop μ-loop
@@ -44,7 +44,7 @@ first-free-spec =
     Inv-loop
     μ-loop
     loop-holds
-    array-read-if1
+    element-copy-out-if1
     returns
     add-k
     loop-less

@@ -1,6 +1,6 @@
 -- The sum fits, and each arm is one of the clamp's.
 use Prim.Native.Nat.{_+_, _-_}
-use lib.IntN.{ℤ, _+ℤ_}
+use lib.IntN.{_+ℤ_}
 use mir.Facts.{toZ-ofZ}
 use Rattle.search.specs.Gains.{sum-fits, held-low, held-high, held-same}
 use Rattle.search.proofs.node.gained.Statement.{statement}

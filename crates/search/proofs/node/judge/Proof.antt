@@ -1,66 +1,84 @@
 -- The tree part's promise, by the cases of its answer.
-use Prim.Native.Nat.{_-_}
-use mathlib.Core.Path.{_≡_, sym, _∙_}
+use Prim.Native.Nat.{ℕ, _≤_}
+use mathlib.Core.Path.{_≡_, sym, ap, _∙_}
+use mathlib.Core.List.{List}
 use native.Mathlib.Omega.{arith}
 use borrow.Author.Needs.{needs}
-use mathlib.Core.Bool.{true}
-use mathlib.Core.List.{List}
-use lib.ListN.{length, length-take}
+use lib.ListN.{length, getD, length-take}
 use lib.IntN.{ℤ, pos}
 use mir.Facts.{toZ-ofZ}
 use borrow.Author.Tests.{not-true, not-false}
 use Rattle.lists.specs.Fill.{fit, fit-size}
-use Rattle.onetree.specs.declared.Passed.{Passed}
-use Rattle.onetree.specs.Answers.{ruleMeaning, ruleReply, passTree, passRulings}
+use Rattle.graph.specs.declared.Graph.{Graph}
+use Rattle.graph.specs.Valid.{graphOf}
+use Rattle.onetree.specs.Answers.{ruleMeaning, ruleReply, blank, passTree, passRulings}
 use Rattle.search.specs.Filling.{take-fit}
 use Rattle.search.specs.Judging.{treeBytes, judged-found, judged-ruled}
 use Rattle.search.specs.Counting.{ends-of, degrees-edged}
-use Rattle.search.specs.Passing.{isBound, Within, answer-shut, answer-within, pass-tree, pass-rulings}
+use Rattle.search.specs.Passing.{Within, hint-fits, answer-shut, answer-within, pass-tree, pass-rulings}
 use Rattle.search.proofs.node.judge.Statement.{statement}
 use Rattle.search.proofs.node.judge.Tie as tie
 
-typed : (c : tie.Start) → length (c .args .t2) ≡ 20
-typed c = omega arith
+-- the graph with the node's marks
+abbrev given : tie.Start → Graph
+given s = graphOf (s .args .n) (s .args .m) (s .args .a .now) (s .args .b .now) (s .args .cost .now) (s .args .row .now)
 
--- the multipliers, as the machine lists them
+-- the first n multipliers
 abbrev used : tie.Start → List ℤ
-used s = fit (s .args .t1 .n) (pos 0) (s .args .t2)
+used s = fit (s .args .n) (pos 0) (s .args .t6)
 
--- the tree part's promise of what it returns
-abbrev Told : tie.Start → Passed → Type 0
-Told s p =
-    (ruleMeaning (p .answer) ≡ ruleReply (s .args .t1) (used s) (s .args .upper) (s .args .t1 .m))
-    × (p .tree ≡ passTree (s .args .t1) (used s) (s .args .upper))
-    × (p .rulings ≡ passRulings (s .args .t1) (used s) (s .args .upper))
+used-size : (s : tie.Start) → length (used s) ≡ s .args .n
+used-size s = fit-size (s .args .n) (pos 0) (s .args .t6)
 
-within : (s : tie.Start) (p : Passed) → Told s p → isBound (p .answer) ≡ true → (b : ℤ) × Within (s .args .t1) (used s) (s .args .upper) b
-within s p t h =
-    answer-within (s .args .t1) (used s) (s .args .upper) (s .pre .0) (fit-size (s .args .t1 .n) (pos 0) (s .args .t2)) (s .pre .1)
-    (s .pre .2) (p .answer) h (t .0)
+-- the array has n of them
+enough : (s : tie.Start) → s .args .n ≤ length (s .args .t6)
+enough s = omega (arith, s .pre .0 .high)
 
-tree-bytes : (s : tie.Start) (p : Passed) → Told s p → (b : ℤ) (w : Within (s .args .t1) (used s) (s .args .upper) b)
-    → p .tree ≡ treeBytes (s .args .t1 .m) (w .tree)
-tree-bytes s p t b w =
-    t .1
-    ∙ pass-tree (s .args .t1) (used s) (s .args .upper) (s .pre .0) (fit-size (s .args .t1 .n) (pos 0) (s .args .t2)) (s .pre .1)
-    (s .pre .2) b w
+-- where the function starts
+abbrev start : tie.After-pass → tie.Start
+start p = p .before .before .before .before .before .before .before
 
-said : (c : tie.After-pass) → Told (c .before .before .before) (c .pass .result)
-said c =
-    let s = c .before .before .before in
-    let t =
-    rw (toZ-ofZ (s .fits .upper), take-fit (s .args .t1 .n) (pos 0) (s .args .t2) (omega (arith, typed s, s .pre .0 .high)))
-    at (c .pass .ensures)
-    in
+-- the tree part's promise, with the upper bound read back from its word and the slice as the first n multipliers
+said : (p : tie.After-pass) → let s = start p in
+    (ruleMeaning (p .pass .result .answer) ≡ ruleReply (given s) (used s) (s .args .upper) (s .args .m))
+    × (p .pass .last .1 .1 .1 .1 .1 .1 .1 .1 .1 .0 ≡ passTree (given s) (used s) (s .args .upper) blank)
+    × (p .pass .last .1 .1 .1 .1 .1 .1 .1 .1 .1 .1 .0 ≡ passRulings (given s) (used s) (s .args .upper) blank)
+said p =
+    let s = start p in
+    let t = rw (toZ-ofZ (s .fits .upper), take-fit (s .args .n) (pos 0) (s .args .t6) (enough s)) at (p .pass .ensures) in
     (t .0, t .1, t .2)
+
+-- the hint for the next pass
+handed : (p : tie.After-pass) → (p .pass .result .live ≤ 190) × (length (p .pass .last .1 .1 .1 .1 .1 .1 .1 .1 .1 .1 .1 .0) ≡ 190)
+handed p =
+    let a = start p .args in
+    hint-fits (ruleMeaning (p .pass .result .answer)) (a .row .now) (a .m) (a .order .now)
+    (p .pass .last .1 .1 .1 .1 .1 .1 .1 .1 .1 .1 .1 .0) (p .pass .result .live) (p .pass .ensures .3) (start p .pre .4)
+
+-- where there is a tree within the ceiling: that tree
+within : (c : tie.Else1) → let s = start (c .before .before) in (b : ℤ) × Within (given s) (used s) (s .args .upper) b
+within c =
+    let p = c .before .before in
+    let s = start p in
+    answer-within (given s) (used s) (s .args .upper) (s .pre .0) (used-size s) (s .pre .1) (s .pre .2) _
+    (sym (c .before .is-bound .ensures) ∙ not-false _ (c .if1 .left)) (said p .0)
+
+-- and its bytes
+tree-bytes : (c : tie.Else1)
+    → let p = c .before .before in p .pass .last .1 .1 .1 .1 .1 .1 .1 .1 .1 .0 ≡ treeBytes (start p .args .m) (within c .1 .tree)
+tree-bytes c =
+    let p = c .before .before in
+    let s = start p in
+    said p .1
+    ∙ pass-tree (given s) (used s) (s .args .upper) (s .pre .0) (used-size s) (s .pre .1) (s .pre .2) _ (within c .0) (within c .1)
 
 array-share-prefix-d : tie.Need-array-share-prefix-d
 array-share-prefix-d c = search needs
 
 slice-aggregate-pass : tie.Need-slice-aggregate-pass
 slice-aggregate-pass c =
-    let s = c .before .before in
-    omega (arith, length-take (s .args .t1 .n) (s .args .t2), typed s, s .pre .0 .high)
+    let s = c .before .before .before in
+    omega (arith, length-take (s .args .n) (s .args .t6), s .pre .0 .high)
 
 pass-requires : tie.Need-pass-requires
 pass-requires c κs = search needs
@@ -70,58 +88,52 @@ is-bound-requires c κs = search needs
 
 returns : tie.Need-returns
 returns c =
-    let told = c .before .before .before .before in
-    let s = told .before .before .before in
-    let p = told .pass .result in
-    let t = said told in (
-      answer-shut (s .args .t1) (used s) (s .args .upper) (s .pre .0) (fit-size (s .args .t1 .n) (pos 0) (s .args .t2)) (s .pre .1)
-          (s .pre .2) (p .answer) (sym (c .before .is-bound .ensures) ∙ not-true _ (c .if1 .taken)) (t .0),
-      told .pass .ensures .3,
+    let p = c .before .before in
+    let s = start p in (
+      answer-shut (given s) (used s) (s .args .upper) (s .pre .0) (used-size s) (s .pre .1) (s .pre .2) _
+          (sym (c .before .is-bound .ensures) ∙ not-true _ (c .if1 .taken)) (said p .0),
+      omega arith,
+      handed p .1,
     )
 
 degrees-requires : tie.Need-degrees-requires
 degrees-requires c κs =
-    let s = c .before .before .before .before .before .before .before .before .before .before .before in
-    (s .pre .0 .few, λ k h. let e = ends-of (s .args .t1) (s .pre .0) k h in record { less = e .less; high = e .high })
+    let s = start (c .before .before .before) in
+    (s .pre .0 .few, λ k h. let e = ends-of (given s) (s .pre .0) k h in record { less = e .less; high = e .high })
 
 two-each-requires : tie.Need-two-each-requires
 two-each-requires c κs = search needs
 
 returns-2 : tie.Need-returns-2
 returns-2 c =
-    let told = c .before .before .before .before .before .before .before .before .before .before .before in
-    let s = told .before .before .before in
-    let p = told .pass .result in
-    let t = said told in
-    let bounded = c .before .before .before .before .before .before .before in
-    let w = within s p t (sym (bounded .before .is-bound .ensures) ∙ not-false _ (bounded .if1 .left)) in
-    let counted = c .before .before .degrees in (
-      judged-found (s .args .t1) (s .pre .0) (used s) (s .args .upper) (w .0) (w .1 .tree) (w .1 .least) (w .1 .low) (p .tree)
-          (counted .result) (tree-bytes s p t (w .0) (w .1)) (degrees-edged (s .args .t1) _ _ (counted .ensures)) (sym (c .before .two-each .ensures) ∙ c .if2 .taken),
-      told .pass .ensures .3,
+    let b = c .before .before .before .before in
+    let s = start (b .before .before) in
+    let w = within b .1 in (
+      judged-found (given s) (s .pre .0) (used s) (s .args .upper) (within b .0) (w .tree) (w .least) (w .low) _ _ (tree-bytes b)
+          (degrees-edged (given s) _ _ (c .before .before .degrees .ensures)) (sym (c .before .two-each .ensures) ∙ c .if2 .taken),
+      omega arith,
+      handed (b .before .before) .1,
     )
 
-applied-requires : tie.Need-applied-requires
-applied-requires c κs = search needs
+apply-requires : tie.Need-apply-requires
+apply-requires c κs = search needs
 
 returns-3 : tie.Need-returns-3
 returns-3 c =
-    let told = c .before .before .before .before .before .before .before .before .before .before .before .before .before in
-    let s = told .before .before .before in
-    let p = told .pass .result in
-    let t = said told in
-    let bounded = c .before .before .before .before .before .before .before .before .before in
-    let w = within s p t (sym (bounded .before .is-bound .ensures) ∙ not-false _ (bounded .if1 .left)) in
-    let counted = c .before .before .before .before .degrees in
-    let ruled =
-    pass-rulings (s .args .t1) (used s) (s .args .upper) (s .pre .0) (fit-size (s .args .t1 .n) (pos 0) (s .args .t2))
-    (s .pre .1) (s .pre .2) (w .0) (w .1)
-    in (
-      judged-ruled (s .args .t1) (s .pre .0) (used s) (s .args .upper) (w .0) (w .1 .tree) (w .1 .least) (w .1 .low) (p .tree)
-          (counted .result) (tree-bytes s p t (w .0) (w .1)) (degrees-edged (s .args .t1) _ _ (counted .ensures)) (p .rulings) (c .applied .result)
-          (λ k h. rw (t .2) (ruled k h)) (c .applied .ensures)
-          (sym (c .before .before .before .two-each .ensures) ∙ c .before .before .if2 .left),
-      told .pass .ensures .3,
+    let b = c .before .before .before .before .before .before .before in
+    let p = b .before .before in
+    let s = start p in
+    let d = used s in
+    let u = s .args .upper in
+    let w = within b .1 in
+    let ruled = pass-rulings (given s) d u (s .pre .0) (used-size s) (s .pre .1) (s .pre .2) _ (within b .0) w in (
+      judged-ruled (given s) (s .pre .0) d u (within b .0) (w .tree) (w .least) (w .low) _ _ (tree-bytes b)
+          (degrees-edged (given s) _ _ (c .before .before .before .before .before .degrees .ensures))
+          (p .pass .last .1 .1 .1 .1 .1 .1 .1 .1 .1 .1 .0) _
+          (λ k h. ap (λ (l : List ℕ). getD l k 0) (said p .2) ∙ ruled k h) (c .apply .ensures)
+          (sym (c .before .before .before .before .two-each .ensures) ∙ c .before .before .before .if2 .left),
+      handed p .0,
+      handed p .1,
     )
 
 pub judge-spec : {M : Type 1} → statement M
@@ -136,5 +148,5 @@ judge-spec =
     degrees-requires
     two-each-requires
     returns-2
-    applied-requires
+    apply-requires
     returns-3)

@@ -1,176 +1,145 @@
 -- The loop keeps: the passes that are left come to what all of them come to.
-use Prim.Native.Nat.{ℕ, _≤_, _-_}
+use Prim.Native.Nat.{ℕ, _≤_, _<_, _-_}
 use mathlib.Core.Path.{_≡_, refl, ap, _∙_}
 use native.Mathlib.Omega.{arith}
 use borrow.Author.Needs.{needs}
 use mathlib.Core.Bool.{true}
 use mathlib.Core.List.{List}
-use lib.ListN.{length, length-take}
+use lib.ListN.{length, getD, length-take}
 use lib.IntN.{ℤ, pos}
 use mir.Facts.{toZ-ofZ}
 use mir.Val.{toZ, ofZ}
 use mir.Syntax.{w64}
-use Rattle.lists.specs.Fill.{fit}
+use Rattle.lists.specs.Fill.{fit, fit-size, fit-at}
+use Rattle.integers.specs.Range.{InRange}
 use Rattle.graph.specs.declared.Graph.{Graph}
-use Rattle.graph.specs.Valid.{Valid}
-use Rattle.onetree.specs.Inputs.{ceilingFits}
+use Rattle.graph.specs.Limits.{maxMultiplier}
+use Rattle.graph.specs.Valid.{Valid, graphOf}
+use Rattle.onetree.specs.Inputs.{multipliersFit, ceilingFits}
+use Rattle.onetree.specs.Multipliers.{fit-ranged}
+use Rattle.search.specs.declared.node.Verdict.{Verdict}
 use Rattle.search.specs.declared.node.Verdict.the-variants as verdict
-use Rattle.search.specs.Judging.{judged-as}
+use Rattle.search.specs.Judging.{JudgedIs, judged-as}
 use Rattle.search.specs.Opening.{openedAs}
-use Rattle.search.specs.Turns.{AtPass, passesFrom, at-first, at-valid, at-fits}
+use Rattle.search.specs.Turns.{AtPass, withBytes, passesFrom, at-first, at-valid, at-marks}
 use Rattle.search.specs.Turns.{turn-shut, turn-found, turn-marks, turn-last, turn-next}
 use Rattle.search.proofs.node.open_node.Statement.{statement}
 use Rattle.search.proofs.node.open_node.Tie as tie
 
--- the upper bound is read back from its word
-come : (g : Graph) (d : List ℤ) (step sweeps : ℕ) {u v : ℤ} → u ≡ v → openedAs (passesFrom g d step u sweeps) ≡ openedAs (passesFrom g d step v sweeps)
-come g d step sweeps e = ap (λ (z : ℤ). openedAs (passesFrom g d step z sweeps)) e
+-- multipliers that fit are in their range
+ranged : (n : ℕ) (d : List ℤ) → multipliersFit (fit n (pos 0) d) ≡ true → (i : ℕ) → i < n → InRange maxMultiplier (getD d i (pos 0))
+ranged n d h i b = rw (← fit-at n (pos 0) d i b) (fit-ranged (fit n (pos 0) d) h i (omega (arith, fit-size n (pos 0) d)))
 
 abbrev Inv-loop : tie.InvT-loop
-Inv-loop upper sweeps step m h₀ t₀ left₀ h t left =
-    (m ≡ h₀ .m) × Valid h₀ × (ceilingFits (toZ w64 upper) ≡ true) × (step ≤ 10000)
-    × AtPass h₀ step (toZ w64 upper) (passesFrom h₀ (t₀ .multipliers) step (toZ w64 upper) left₀) left h (t .multipliers)
-    × (t .live ≤ 190) × (length (t .order) ≡ 190)
+Inv-loop n m a b cost upper sweeps step row₀ top₀ d₀ order₀ live₀ left₀ row top d order live left =
+    Valid (graphOf n m a b cost row₀) × (ceilingFits (toZ w64 upper) ≡ true) × (step ≤ 10000)
+    × AtPass (graphOf n m a b cost row₀) step (toZ w64 upper)
+    (passesFrom (graphOf n m a b cost row₀) d₀ step (toZ w64 upper) left₀) left row d
+    × (live ≤ 190) × (length order ≡ 190)
 
 abbrev μ-loop : tie.MeasureT-loop
-μ-loop upper sweeps step m h₀ t₀ left₀ h t left = left
+μ-loop n m a b cost upper sweeps step row₀ top₀ d₀ order₀ live₀ left₀ row top d order live left =
+    left
+
+-- the graph with the node's marks at first
+abbrev given : tie.Start Inv-loop μ-loop → Graph
+given s = graphOf (s .args .n) (s .args .m) (s .args .a .now) (s .args .b .now) (s .args .cost .now) (s .args .row .now)
 
 loop-holds : tie.Need-loop-holds Inv-loop μ-loop
-loop-holds c = (
-  refl,
-  c .pre .0,
-  rw (toZ-ofZ (c .fits .upper)) (c .pre .2),
-  c .pre .3,
-  at-first (c .args .g) (c .args .multipliers) (c .args .step) (toZ w64 (ofZ w64 (c .args .upper))) (c .args .sweeps) (c .pre .4) (omega arith)
-      (c .pre .1),
-  omega arith,
-  refl,
-)
+loop-holds c =
+    let u = toZ w64 (ofZ w64 (c .args .upper)) in (
+      c .pre .0,
+      rw (toZ-ofZ (c .fits .upper)) (c .pre .2),
+      c .pre .3,
+      at-first (given c) (c .args .multipliers) (c .args .step) u (c .args .sweeps) (c .pre .4) (c .pre .1),
+      omega arith,
+      refl,
+    )
 
-array-share-prefix-order : tie.Need-array-share-prefix-order Inv-loop μ-loop
-array-share-prefix-order c = search needs
+array-share-prefix-hint : tie.Need-array-share-prefix-hint Inv-loop μ-loop
+array-share-prefix-hint c = search needs
 
 slice-aggregate-judge : tie.Need-slice-aggregate-judge Inv-loop μ-loop
 slice-aggregate-judge c =
-    let l = c .before .before .before .loop in
-    omega (arith, length-take (l .t .live) (l .t .order), l .inv .5, l .inv .6)
+    let l = c .before .loop in
+    omega (arith, length-take (l .live) (l .order), l .inv .4, l .inv .5)
 
 judge-requires : tie.Need-judge-requires Inv-loop μ-loop
 judge-requires c κs =
-    let at = c .before .before .before in
-    let s = at .before in
-    let w = s .args .g in
-    let l = at .loop in
-    let u = toZ w64 (ofZ w64 (s .args .upper)) in
-    let out = passesFrom w (s .args .multipliers) (s .args .step) u (s .args .sweeps) in (
-      at-valid w (l .inv .1) (s .args .step) u out (l .left) (l .h) (l .t .multipliers) (l .inv .4),
-      at-fits w (l .inv .1) (s .args .step) u out (l .left) (l .h) (l .t .multipliers) (l .inv .4),
-      l .inv .2,
+    let l = c .before .before .before .loop in (
+      at-valid _ (l .inv .0) _ _ _ _ _ _ (l .inv .3),
+      l .inv .3 .fits,
+      l .inv .1,
+      at-marks _ (l .inv .0) _ _ _ _ _ _ (l .inv .3),
+      l .inv .5,
     )
+
+-- the turn that a pass is in
+abbrev turn : tie.After-judge Inv-loop μ-loop → tie.At-loop Inv-loop μ-loop
+turn j = j .before .before .before .before
+
+-- where the function starts
+abbrev start : tie.After-judge Inv-loop μ-loop → tie.Start Inv-loop μ-loop
+start j = turn j .before
+
+-- what a pass comes to, by its verdict
+judged : (j : tie.After-judge Inv-loop μ-loop) (v : Verdict) → j .judge .result .verdict ≡ v
+    → JudgedIs (withBytes (given (start j)) (turn j .loop .row)) (fit (start j .args .n) (pos 0) (turn j .loop .d))
+    (toZ w64 (ofZ w64 (start j .args .upper))) v (j .judge .last .1 .1 .1 .1 .1 .1 .1 .1 .0) (j .judge .result .degrees)
+judged j v e = judged-as _ _ _ _ _ _ _ e (j .judge .ensures .0)
+
+-- what all passes come to, with the upper bound read back from its word
+back : (s : tie.Start Inv-loop μ-loop) → let a = s .args in
+    openedAs (passesFrom (given s) (a .multipliers) (a .step) (toZ w64 (ofZ w64 (a .upper))) (a .sweeps))
+    ≡ openedAs (passesFrom (given s) (a .multipliers) (a .step) (a .upper) (a .sweeps))
+back s =
+    let a = s .args in
+    ap (λ (z : ℤ). openedAs (passesFrom (given s) (a .multipliers) (a .step) z (a .sweeps))) (toZ-ofZ (s .fits .upper))
 
 enum-told : tie.Need-enum-told Inv-loop μ-loop
 enum-told c = search needs
 
-closed-requires : tie.Need-closed-requires Inv-loop μ-loop
-closed-requires c κs = search needs
+close-requires : tie.Need-close-requires Inv-loop μ-loop
+close-requires c κs = search needs
 
 returns : tie.Need-returns Inv-loop μ-loop
 returns c =
-    let at = c .before .before .before .before .before .before .before .before in
-    let s = at .before in
-    let w = s .args .g in
-    let l = at .loop in
-    let u = toZ w64 (ofZ w64 (s .args .upper)) in
-    let out = passesFrom w (s .args .multipliers) (s .args .step) u (s .args .sweeps) in
-    let j = c .before .before .before .before .judge in
-    let e =
-    judged-as (l .h) (fit (l .h .n) (pos 0) (l .t .multipliers)) u (j .result .row) (j .result .degrees)
-    (j .result .verdict) verdict.Shut (c .before .enum-told .given .1) (j .ensures .0)
-    in
-    c .closed .ensures
-    ∙ turn-shut w (l .inv .1) (s .args .step) u out (l .left) (l .h) (l .t .multipliers) (l .inv .4) e
-    ∙ come w (s .args .multipliers) (s .args .step) (s .args .sweeps) (toZ-ofZ (s .fits .upper))
+    let j = c .before .before .before .before .before in
+    let l = turn j .loop in
+    let e = judged j verdict.Shut (c .before .before .before .enum-told .given .1) in
+    c .close .ensures ∙ turn-shut _ (l .inv .0) _ _ _ _ _ _ (l .inv .3) e ∙ back (start j)
 
 enum-told-2 : tie.Need-enum-told-2 Inv-loop μ-loop
 enum-told-2 c = search needs
 
-found-requires : tie.Need-found-requires Inv-loop μ-loop
-found-requires c κs = search needs
-
 returns-2 : tie.Need-returns-2 Inv-loop μ-loop
 returns-2 c =
-    let at = c .before .before .before .before .before .before .before .before in
-    let s = at .before in
-    let w = s .args .g in
-    let l = at .loop in
-    let u = toZ w64 (ofZ w64 (s .args .upper)) in
-    let out = passesFrom w (s .args .multipliers) (s .args .step) u (s .args .sweeps) in
-    let j = c .before .before .before .before .judge in
-    let e =
-    judged-as (l .h) (fit (l .h .n) (pos 0) (l .t .multipliers)) u (j .result .row) (j .result .degrees)
-    (j .result .verdict) verdict.Found (c .before .enum-told2 .given .1) (j .ensures .0)
-    in
-    c .found .ensures
-    ∙ turn-found w (l .inv .1) (s .args .step) u out (l .left) (l .h) (l .t .multipliers) (l .inv .4) (j .result .row) e
-    ∙ come w (s .args .multipliers) (s .args .step) (s .args .sweeps) (toZ-ofZ (s .fits .upper))
+    let j = c .before .before .before in
+    let l = turn j .loop in
+    let e = judged j verdict.Found (c .before .enum-told2 .given .1) in
+    turn-found _ (l .inv .0) _ _ _ _ _ _ (l .inv .3) _ e ∙ back (start j)
 
 enum-told-3 : tie.Need-enum-told-3 Inv-loop μ-loop
 enum-told-3 c = search needs
 
-branched-requires : tie.Need-branched-requires Inv-loop μ-loop
-branched-requires c κs =
-    let at = c .before .before .before .before .before .before .before .before in
-    let s = at .before in
-    let w = s .args .g in
-    let l = at .loop in
-    let u = toZ w64 (ofZ w64 (s .args .upper)) in
-    let out = passesFrom w (s .args .multipliers) (s .args .step) u (s .args .sweeps) in
-    let j = c .before .before .before .before .judge in
-    let e =
-    judged-as (l .h) (fit (l .h .n) (pos 0) (l .t .multipliers)) u (j .result .row) (j .result .degrees)
-    (j .result .verdict) verdict.Ruled (c .before .enum-told3 .given .1) (j .ensures .0)
-    in
-    let marks =
-    turn-marks w (l .inv .1) (s .args .step) u out (l .left) (l .h) (l .t .multipliers) (l .inv .4)
-    (j .result .row) (j .result .degrees) e
-    in
-    (s .pre .0 .few, rw (l .inv .0) marks)
+split-requires : tie.Need-split-requires Inv-loop μ-loop
+split-requires c κs =
+    let j = c .before .before .before .before .before in
+    let l = turn j .loop in
+    let e = judged j verdict.Ruled (c .before .before .before .enum-told3 .given .1) in
+    (l .inv .0 .few, turn-marks _ (l .inv .0) _ _ _ _ _ _ (l .inv .3) _ _ e)
 
 returns-3 : tie.Need-returns-3 Inv-loop μ-loop
 returns-3 c =
-    let at = c .before .before .before .before .before .before .before .before .before in
-    let s = at .before in
-    let w = s .args .g in
-    let l = at .loop in
-    let u = toZ w64 (ofZ w64 (s .args .upper)) in
-    let out = passesFrom w (s .args .multipliers) (s .args .step) u (s .args .sweeps) in
-    let j = c .before .before .before .before .before .judge in
-    let e =
-    judged-as (l .h) (fit (l .h .n) (pos 0) (l .t .multipliers)) u (j .result .row) (j .result .degrees)
-    (j .result .verdict) verdict.Ruled (c .before .before .enum-told3 .given .1) (j .ensures .0)
-    in
-    let last =
-    turn-last w (l .inv .1) (s .args .step) u out (l .left) (l .h) (l .t .multipliers) (l .inv .4)
-    (j .result .row) (j .result .degrees) e (c .before .if1 .taken)
-    in
-    c .branched .ensures
-    ∙ rw (l .inv .0) last
-    ∙ come w (s .args .multipliers) (s .args .step) (s .args .sweeps) (toZ-ofZ (s .fits .upper))
+    let j = c .before .before .before .before .before .before in
+    let l = turn j .loop in
+    let e = judged j verdict.Ruled (c .before .before .before .before .enum-told3 .given .1) in
+    c .split .ensures ∙ turn-last _ (l .inv .0) _ _ _ _ _ _ (l .inv .3) _ _ e (c .before .before .before .if1 .taken) ∙ back (start j)
 
-advanced-requires : tie.Need-advanced-requires Inv-loop μ-loop
-advanced-requires c κs =
-    let at = c .before .before .before .before .before .before .before .before in
-    let s = at .before in
-    let w = s .args .g in
-    let l = at .loop in
-    let u = toZ w64 (ofZ w64 (s .args .upper)) in
-    let out = passesFrom w (s .args .multipliers) (s .args .step) u (s .args .sweeps) in
-    let v = at-valid w (l .inv .1) (s .args .step) u out (l .left) (l .h) (l .t .multipliers) (l .inv .4) in (
-      omega (arith, v .low),
-      v .high,
-      at-fits w (l .inv .1) (s .args .step) u out (l .left) (l .h) (l .t .multipliers) (l .inv .4),
-      l .inv .3,
-    )
+gains-requires : tie.Need-gains-requires Inv-loop μ-loop
+gains-requires c κs =
+    let l = turn (c .before .before .before .before) .loop in
+    (omega (arith, l .inv .0 .low), l .inv .0 .high, l .inv .2, ranged _ (l .d) (l .inv .3 .fits))
 
 sub-left : tie.Need-sub-left Inv-loop μ-loop
 sub-left c = search needs
@@ -178,29 +147,16 @@ sub-left c = search needs
 loop-less : tie.Need-loop-less Inv-loop μ-loop
 loop-less c = search needs
 
--- the next hint has 190 places
-long : (c : tie.After-advanced Inv-loop μ-loop) → length (c .advanced .result .order) ≡ 190
-long c = search needs
-
 loop-again : tie.Need-loop-again Inv-loop μ-loop
 loop-again c =
-    let at = c .before .before .before .before .before .before .before .before .before in
-    let s = at .before in
-    let w = s .args .g in
-    let l = at .loop in
-    let u = toZ w64 (ofZ w64 (s .args .upper)) in
-    let out = passesFrom w (s .args .multipliers) (s .args .step) u (s .args .sweeps) in
-    let j = c .before .before .before .before .before .judge in
-    let e =
-    judged-as (l .h) (fit (l .h .n) (pos 0) (l .t .multipliers)) u (j .result .row) (j .result .degrees)
-    (j .result .verdict) verdict.Ruled (c .before .before .enum-told3 .given .1) (j .ensures .0)
-    in
+    let j = c .before .before .before .before .before in
+    let l = turn j .loop in
+    let e = judged j verdict.Ruled (c .before .before .before .enum-told3 .given .1) in
     let next =
-    turn-next w (l .inv .1) (s .args .step) u out (l .left) (l .h) (l .t .multipliers) (l .inv .4)
-    (j .result .row) (j .result .degrees) e (c .advanced .result .multipliers) (c .advanced .ensures .0) (l .left - 1)
-    (omega (arith, c .before .if1 .left))
+    turn-next _ (l .inv .0) _ _ _ _ _ _ (l .inv .3) _ _ e (c .gains .result) (c .gains .ensures) (l .left - 1)
+    (omega (arith, c .before .before .if1 .left))
     in
-    (l .inv .0, l .inv .1, l .inv .2, l .inv .3, next, omega (arith, c .advanced .ensures .1, j .ensures .1), long c)
+    (l .inv .0, l .inv .1, l .inv .2, next, j .judge .ensures .1, j .judge .ensures .2)
 
 pub open-node-spec : {M : Type 1} → statement M
 open-node-spec =
@@ -209,19 +165,18 @@ open-node-spec =
     Inv-loop
     μ-loop
     loop-holds
-    array-share-prefix-order
+    array-share-prefix-hint
     slice-aggregate-judge
     judge-requires
     enum-told
-    closed-requires
+    close-requires
     returns
     enum-told-2
-    found-requires
     returns-2
     enum-told-3
-    branched-requires
+    split-requires
     returns-3
-    advanced-requires
+    gains-requires
     sub-left
     loop-less
     loop-again)

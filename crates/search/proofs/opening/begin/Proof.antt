@@ -24,8 +24,9 @@ put-requires c κs = search needs
 
 returns : tie.Need-returns
 returns c =
-    let start = c .before .before .before .before .before in
-    begun (asked start) (start .pre) _ (c .before .before .before .before .trim .ensures) _ (c .before .before .before .padded .ensures)
+    let trimmed = c .before .before .before .before .before in
+    let start = trimmed .before in
+    begun (asked start) (start .pre) _ (trimmed .trim .ensures) _ (c .before .before .before .before .padded .ensures)
     _ (toZ-ofZ (start .fits .ceiling)) _ (c .put .ensures)
 
 pub begin-spec : {M : Type 1} → statement M

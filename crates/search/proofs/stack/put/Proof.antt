@@ -17,8 +17,8 @@ abbrev μ-loop : tie.MeasureT-loop
 loop-holds : tie.Need-loop-holds Inv-loop μ-loop
 loop-holds c = (omega arith, c .pre .0, c .pre .1, put-none (c .args .p) _ _)
 
-array-read-stack : tie.Need-array-read-stack Inv-loop μ-loop
-array-read-stack c = search needs
+element-copy-out-stack : tie.Need-element-copy-out-stack Inv-loop μ-loop
+element-copy-out-stack c = search needs
 
 mul-stack : tie.Need-mul-stack Inv-loop μ-loop
 mul-stack c = search needs
@@ -27,7 +27,7 @@ add-stack : tie.Need-add-stack Inv-loop μ-loop
 add-stack c = search needs
 
 element-write-stack : tie.Need-element-write-stack Inv-loop μ-loop
-element-write-stack c = let l = c .before .loop in omega (arith, l .inv .3 .size)
+element-write-stack c = let l = c .before .before .loop in omega (arith, l .inv .3 .size)
 
 add-j : tie.Need-add-j Inv-loop μ-loop
 add-j c = search needs
@@ -37,7 +37,7 @@ loop-less c = search needs
 
 loop-again : tie.Need-loop-again Inv-loop μ-loop
 loop-again c =
-    let l = c .before .loop in
+    let l = c .before .before .loop in
     (omega arith, l .inv .1, l .inv .2, put-more _ (l .j) _ _ _ (omega (arith, l .inv .3 .size)) (l .inv .3))
 
 returns : tie.Need-returns Inv-loop μ-loop
@@ -50,7 +50,7 @@ put-spec =
     Inv-loop
     μ-loop
     loop-holds
-    array-read-stack
+    element-copy-out-stack
     mul-stack
     add-stack
     element-write-stack

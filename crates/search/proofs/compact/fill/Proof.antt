@@ -4,8 +4,8 @@ use mathlib.Core.Path.{refl}
 use native.Mathlib.Omega.{arith}
 use borrow.Author.Needs.{needs}
 use Rattle.search.specs.Filling.{Filling, filling-none, filling-more, filling-to}
-use Rattle.search.proofs.compact.filled.Statement.{statement}
-use Rattle.search.proofs.compact.filled.Tie as tie
+use Rattle.search.proofs.compact.fill.Statement.{statement}
+use Rattle.search.proofs.compact.fill.Tie as tie
 
 abbrev Inv-loop : tie.InvT-loop
 Inv-loop m x r₀ k₀ r k = (k ≤ m) × (m ≤ 190) × Filling 0 190 k (λ j. x) r
@@ -14,10 +14,10 @@ abbrev μ-loop : tie.MeasureT-loop
 μ-loop m x r₀ k₀ r k = m - k
 
 loop-holds : tie.Need-loop-holds Inv-loop μ-loop
-loop-holds c = (omega arith, c .pre, filling-none 0 190 _)
+loop-holds c = (omega arith, c .before .pre, filling-none 0 190 _)
 
-array-write-r : tie.Need-array-write-r Inv-loop μ-loop
-array-write-r c = search needs
+element-write-r : tie.Need-element-write-r Inv-loop μ-loop
+element-write-r c = search needs
 
 add-k : tie.Need-add-k Inv-loop μ-loop
 add-k c = search needs
@@ -33,7 +33,7 @@ loop-again c =
 returns : tie.Need-returns Inv-loop μ-loop
 returns c = let l = c .before .loop in filling-to 0 190 _ (l .k) _ (l .r) (omega arith) (l .inv .2)
 
-pub filled-spec : {M : Type 1} → statement M
-filled-spec =
+pub fill-spec : {M : Type 1} → statement M
+fill-spec =
     tie.close
-    (tie.spec Inv-loop μ-loop loop-holds array-write-r add-k loop-less loop-again returns)
+    (tie.spec Inv-loop μ-loop loop-holds element-write-r add-k loop-less loop-again returns)

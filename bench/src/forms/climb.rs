@@ -1,8 +1,9 @@
 //! The rulings, by swapping each edge outside the tree with edges on the circle that it closes.
 
-use super::contract::relabel;
-use super::edges::{number, LANES, WIDEST};
-use super::grow::{parts, Grown, Rooted};
+use super::grow::Grown;
+use super::hang::Hung;
+use super::keys::{ends, limit, number, Key, LANES, WIDEST};
+use super::order::Order;
 use super::Marks;
 use crate::inputs::{Graph, FREE, PLACES};
 
@@ -10,46 +11,29 @@ const KEEP: u8 = 0;
 const FORCE: u8 = 1;
 const BAR: u8 = 2;
 
-/// The tree as the circles are walked. Edges outside come in ascending order of keys, so a tree edge
-/// that is too cheap for one of them is so for all that follow.
-struct Circles<'a> {
-    rooted: &'a Rooted,
-    /// the dearest key that each tree edge can be swapped with, ascending, and the edge's place
-    limits: [u32; LANES],
-    places: [u8; LANES],
-    /// the same by place
-    limit: [u32; LANES],
-    /// highest place that each part hangs together with over edges that are too cheap
-    joined: [u8; LANES],
-    /// the same, over edges that a circle had before as well
-    walked: [u8; LANES],
-    /// places whose edge was swapped, a bit each
-    swapped: u32,
-}
-
-/// Rules every edge, of a tree whose bound is `slack` below the ceiling. `keys` are the free ones
-/// beside vertex 1, ascending.
+/// Rules every edge, of a tree whose bound is `slack` below the ceiling.
 pub fn rule(
     graph: &Graph,
     grown: &Grown,
-    rooted: &mut Rooted,
-    keys: &[u32],
+    order: &Order,
+    hung: &mut Hung,
     slack: i64,
     rulings: &mut Marks,
 ) {
-    let slack = (slack.min(WIDEST + 1) as u32) << 8;
+    let slack = (slack.min(WIDEST + 1) as Key) << 32;
     begin(graph, rulings);
     rule_first(grown, slack, rulings);
-    if grown.frees == 0 {
-        return;
+    let inside = &grown.edges[grown.required..graph.n - 2];
+    let [refused, rest] = grown.outside(order);
+    if inside.is_empty() || refused.is_empty() && rest.is_empty() {
+        // Nothing can be swapped.
+        return inside.iter().for_each(|k| rulings[*k as usize] = FORCE);
     }
-    rooted.hang(graph, grown);
-    let mut circles = Circles::of(graph, grown, rooted, slack);
-    circles.swap_all(graph, grown, &keys[grown.looked_at..], rulings);
-    for place in 1..=grown.frees {
-        let kept = (circles.swapped >> place & 1) as u8;
-        rulings[circles.rooted.edge[place % LANES] as usize] = FORCE - kept;
-    }
+    hung.hang(grown, graph.n, slack);
+    // In descending order, so that the last offer to a tree edge is the least.
+    rule_outside(hung, rest, rulings);
+    rule_outside(hung, refused, rulings);
+    rule_inside(hung, grown, inside, rulings);
 }
 
 /// Bars every free edge, sixteen at a time; the last ones may come twice.
@@ -65,114 +49,69 @@ fn begin(graph: &Graph, rulings: &mut Marks) {
 }
 
 /// At vertex 1: swaps with the dearest free tree edge there, and with the cheapest outside.
-fn rule_first(grown: &Grown, slack: u32, rulings: &mut Marks) {
-    let raise = |key: u32| (key | 255) + slack;
+fn rule_first(grown: &Grown, slack: Key, rulings: &mut Marks) {
     let taken = grown.taken;
     if taken == 0 {
         return;
     }
-    let limit = raise(grown.least[taken - 1]);
+    let highest = limit(grown.least[taken - 1], slack);
     for key in &grown.first[..grown.firsts] {
-        if *key <= limit {
+        if *key <= highest {
             rulings[number(*key)] = KEEP;
         }
     }
     let next = grown.least[taken];
     for key in &grown.least[..taken] {
-        let forced = next > raise(*key);
+        let forced = next > limit(*key, slack);
         rulings[number(*key)] = if forced { FORCE } else { KEEP };
     }
 }
 
-impl Circles<'_> {
-    fn of<'a>(graph: &Graph, grown: &Grown, rooted: &'a Rooted, slack: u32) -> Circles<'a> {
-        let mut circles = Circles {
-            rooted,
-            limits: [u32::MAX; LANES],
-            places: [0; LANES],
-            limit: [0; LANES],
-            joined: rooted.place,
-            walked: rooted.place,
-            swapped: 0,
-        };
-        for (i, key) in grown.free[..grown.frees].iter().enumerate() {
-            let (a, b) = parts(graph, grown, number(*key));
-            // The lower end's.
-            let place = rooted.place[a].max(rooted.place[b]);
-            circles.limits[i] = (key | 255) + slack;
-            circles.places[i] = place;
-            circles.limit[place as usize % LANES] = circles.limits[i];
-        }
-        circles
+/// Swaps edges outside the tree, from the dearest down.
+fn rule_outside(hung: &mut Hung, keys: &[Key], rulings: &mut Marks) {
+    for key in keys.iter().rev() {
+        let barred = hung.walk(*key) < *key;
+        rulings[number(*key)] = if barred { BAR } else { KEEP };
     }
+}
 
-    /// Swaps every edge outside, in ascending order, and keeps those that can be.
-    fn swap_all(&mut self, graph: &Graph, grown: &Grown, rest: &[u32], rulings: &mut Marks) {
-        let refused = &grown.refused[..grown.refusals];
-        let mut cheap = 0;
-        if self.swap(graph, grown, refused, &mut cheap, rulings) {
-            self.swap(graph, grown, rest, &mut cheap, rulings);
-        }
+/// A free tree edge is forced if the least key that was offered for it is too dear.
+fn rule_inside(hung: &Hung, grown: &Grown, inside: &[u8], rulings: &mut Marks) {
+    for k in inside.iter().map(|k| *k as usize) {
+        let (a, b) = ends(grown.key[k]);
+        // The lower end's.
+        let place = hung.place[a].max(hung.place[b]) as usize % LANES;
+        let forced = hung.offer[place] > hung.step[place] | 255;
+        rulings[k] = if forced { FORCE } else { KEEP };
     }
+}
 
-    /// Swaps these edges; false as soon as all tree edges are too cheap.
-    fn swap(
-        &mut self,
-        graph: &Graph,
-        grown: &Grown,
-        keys: &[u32],
-        cheap: &mut usize,
-        rulings: &mut Marks,
-    ) -> bool {
-        for key in keys {
-            while self.limits[*cheap % LANES] < *key {
-                self.contract(self.places[*cheap % LANES] as usize % LANES);
-                *cheap += 1;
-            }
-            if *cheap == grown.frees {
-                return false;
-            }
-            let (a, b) = parts(graph, grown, number(*key));
-            if self.joined[a] != self.joined[b] {
-                rulings[number(*key)] = KEEP;
-                self.walk(a, b, *key);
-            }
-        }
-        true
-    }
-
-    /// The tree edge at this place is too cheap from now on.
-    fn contract(&mut self, place: usize) {
-        let above = self.rooted.above[place] as usize % LANES;
-        let up = self.joined[above];
-        relabel(&mut self.joined, place as u8, up);
-    }
-
-    /// Walks the circle that an edge between parts a and b closes: the end at the higher place climbs until
-    /// it is above the other, then the other climbs, until both meet.
+impl Hung {
+    /// Walks the circle that an edge closes and offers it to each tree edge there; the dearest key that
+    /// one of them can be swapped with. The end at the higher place climbs until it is no longer the
+    /// higher, then the other, until they meet.
     #[inline(always)]
-    fn walk(&mut self, a: usize, b: usize, key: u32) {
-        let (mut x, mut y) = (self.walked[a], self.walked[b]);
+    fn walk(&mut self, key: Key) -> Key {
+        let (a, b) = ends(key);
+        let (a, b) = (self.place[a] as usize, self.place[b] as usize);
+        let (mut x, mut y) = (a.max(b), a.min(b));
+        let mut dearest = 0;
         'circle: loop {
             loop {
+                let step = self.step[x % LANES];
+                self.offer[x % LANES] = key;
+                dearest = step.max(dearest);
+                x = step as usize % LANES;
+                if x > y {
+                    continue;
+                }
                 if x == y {
                     break 'circle;
                 }
-                if x < y {
-                    break;
-                }
-                x = self.cross(x, key);
+                break;
             }
             (x, y) = (y, x);
         }
-    }
-
-    /// Goes over the tree edge at this place; no circle need go over it again.
-    fn cross(&mut self, place: u8, key: u32) -> u8 {
-        let at = place as usize % LANES;
-        self.swapped |= ((self.limit[at] >= key) as u32) << at;
-        let up = self.walked[self.rooted.above[at] as usize % LANES];
-        relabel(&mut self.walked, place, up);
-        up
+        dearest | 255
     }
 }

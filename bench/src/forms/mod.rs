@@ -8,17 +8,19 @@
 //! labelled break; one record that the caller lends and that every call checks (docs/RECORD.md);
 //! thin functions over it, above a core by value.
 //!
-//! Liberties inside these forms: within one run the search lends the tree part a work area (`Work`)
-//! with the last order of the edges and the last contractions of required ones, and keeps the node
-//! on top in hand. Circles are walked through the tree with required edges contracted; a walk skips
-//! what walks before went over, and an edge whose ends hang together over edges that are too cheap
-//! is barred without one.
+//! A pass computes tree and rulings from the node's marks, the multipliers and the ceiling alone.
+//! From pass to pass of one node goes only the order of its edges, as a start for the sort, and from node
+//! to node nothing. Kruskal goes through one sorted list of keys, the required edges first, with
+//! a label for each vertex; each free edge outside the tree walks the whole circle that it closes, unless
+//! the tree has no free edge to be swapped.
 
 mod check;
 mod climb;
-mod contract;
-mod edges;
 mod grow;
+mod hang;
+mod keys;
+mod live;
+mod order;
 mod planner;
 mod record;
 mod search;

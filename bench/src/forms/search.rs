@@ -131,7 +131,6 @@ fn open_nodes(record: &mut Record, mut left: u64) {
         work: Work::blank(),
         rulings: [0; PLACES],
     };
-    node.work.begin(&record.graph, &record.multipliers);
     let (mut highest, mut in_hand) = (record.depth, false);
     while left > 0 && (in_hand || record.depth > 0) {
         left -= 1;
@@ -140,10 +139,7 @@ fn open_nodes(record: &mut Record, mut left: u64) {
             record.depth -= 1;
             node.graph.mark = record.stack[record.depth];
         }
-        // A node in hand has the free edges of the last pass; without sweeps, in the same order.
-        if !in_hand || record.sweeps > 0 {
-            node.work.order.restart();
-        }
+        node.work.order.list(&node.graph);
         in_hand = node.passes(record) && split(record, &mut node.graph);
         highest = highest.max(record.depth);
     }
@@ -219,7 +215,7 @@ fn improve(record: &mut Record, tree: &Tree) {
 
 /// "each d(i), i ≥ 2, gains step × (g − 2) [..] and is held to its range"
 fn adjust(d: &mut Multipliers, tree: &Tree, n: usize, step: i32) {
-    for (d, degree) in d.iter_mut().zip(&tree.degree[1..]).take(n).skip(1) {
+    for (d, degree) in d[1..n].iter_mut().zip(&tree.degree[2..=n]) {
         *d = (*d + step * (*degree as i32 - 2)).clamp(-1_000_000, 1_000_000);
     }
 }

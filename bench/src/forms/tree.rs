@@ -2,9 +2,10 @@
 
 use super::check::{ceiling_fits, graph_fits, multipliers_fit};
 use super::climb;
-use super::contract::{Contractions, Parts};
-use super::edges::{lanes, sets, Lanes, Order, LANES};
-use super::grow::{Grown, Rooted};
+use super::grow::Grown;
+use super::hang::Hung;
+use super::keys::{lanes, Lanes, LANES};
+use super::order::Order;
 use super::{Marks, Multipliers};
 use crate::inputs::{Graph, PLACES};
 
@@ -24,31 +25,22 @@ pub enum Answer {
     Within(Tree),
 }
 
-/// What the caller lends for calls on one graph, its marks and the multipliers being any: room, and
-/// what calls before found. It changes no answer, if the caller restarts the order wherever an edge
-/// may be free again.
+/// What the caller lends for passes on one graph: the order of the edges in the pass before, on which
+/// no answer depends, and room. Where an edge may no longer be excluded, the caller lists them anew.
 pub struct Work {
     pub order: Order,
-    contractions: Contractions,
     grown: Grown,
-    rooted: Rooted,
+    hung: Hung,
 }
 
 impl Work {
-    /// Nothing of a graph yet.
     #[inline(always)]
     pub fn blank() -> Work {
         Work {
             order: Order::blank(),
-            contractions: Contractions::none(),
             grown: Grown::blank(),
-            rooted: Rooted::blank(),
+            hung: Hung::blank(),
         }
-    }
-
-    /// Ranks the edges of the graph that the calls will be about by these multipliers.
-    pub fn begin(&mut self, graph: &Graph, d: &Multipliers) {
-        self.order.rank(graph, &lanes(d));
     }
 }
 
@@ -60,17 +52,15 @@ pub fn pass(
     work: &mut Work,
     rulings: &mut Marks,
 ) -> Answer {
-    let (free, required) = sets(&graph.mark, graph.m);
-    let Some(parts) = work.contractions.of(graph, &required) else {
-        return Answer::Infeasible;
-    };
+    let d = &lanes(d);
     let (order, grown) = (&mut work.order, &mut work.grown);
-    let bound = match grown.grow(graph, &lanes(d), parts, &free, order) {
+    order.sort(graph, d);
+    let bound = match grown.grow(graph, d, order) {
         Some(bound) if bound <= ceiling => bound,
         _ => return Answer::Infeasible,
     };
-    let (keys, slack) = (order.keys(), ceiling - bound);
-    climb::rule(graph, grown, &mut work.rooted, keys, slack, rulings);
+    let slack = ceiling - bound;
+    climb::rule(graph, grown, order, &mut work.hung, slack, rulings);
     Answer::Within(Tree {
         bound,
         edges: grown.edges,
@@ -90,10 +80,9 @@ fn fit(graph: &Graph, d: &[i32], length: usize) -> Option<Lanes> {
 
 /// One graph by itself: the bound of its least 1-tree.
 fn alone(graph: &Graph, d: &Lanes, grown: &mut Grown, order: &mut Order) -> Option<i64> {
-    let (free, required) = sets(&graph.mark, graph.m);
-    let parts = Parts::of(graph, &required)?;
-    order.begin(graph, d, &free);
-    grown.grow(graph, d, &parts, &free, order)
+    order.list(graph);
+    order.sort(graph, d);
+    grown.grow(graph, d, order)
 }
 
 /// The bound of the least 1-tree, whose bytes are then in `out`; none is 'no tree'.
@@ -112,12 +101,12 @@ pub fn tree(graph: &Graph, d: &[i32], out: &mut [u8]) -> Option<i64> {
 pub fn rule(graph: &Graph, d: &[i32], ceiling: i64, out: &mut [u8]) -> Option<i64> {
     let d = fit(graph, d, out.len()).expect("unfit");
     assert!(ceiling_fits(ceiling), "unfit");
-    let (mut grown, mut rooted) = (Grown::blank(), Rooted::blank());
+    let (mut grown, mut hung) = (Grown::blank(), Hung::blank());
     let mut order = Order::blank();
     let bound = alone(graph, &d, &mut grown, &mut order).filter(|bound| *bound <= ceiling)?;
-    let (keys, slack) = (order.keys(), ceiling - bound);
+    let slack = ceiling - bound;
     let mut rulings = [0; PLACES];
-    climb::rule(graph, &grown, &mut rooted, keys, slack, &mut rulings);
+    climb::rule(graph, &grown, &order, &mut hung, slack, &mut rulings);
     out.copy_from_slice(&rulings[..graph.m]);
     Some(bound)
 }

@@ -1,7 +1,9 @@
 /* The route planner for C. Link target/staticlib/libffi.a, which `rt staticlib ffi` writes.
  *
- * Every call takes any input, answers and ends. It returns 0 where it is accepted, a code from 1000 on, or the number of a refusal, and on a
- * refusal leaves everything lent as it was, but for *place. What each call promises is proved: see crates/ffi/specs.
+ * Every call takes any values, answers and ends. It returns 0 where it is accepted, a code from 1000 on, or the number of a refusal, and on a
+ * refusal leaves everything lent as it was, but for *place. What each call promises is proved: see crates/ffi/specs. The proofs take for
+ * granted what C cannot check: no pointer is null, not even with length 0, each leads to as much memory as the call is told, and no part
+ * that is written overlaps another.
  *
  * Refusals. Reading: 1 under 8 bytes; 2 n not 3 to 20; 3 a header zero byte not zero; 4 r over 1,000 or a wrong length; 5 head or next above
  * r; 6 record met before; 7 not 1 <= a < b <= n; 8 mark above 2 or a zero byte not zero; 9 cost out of range; 10 pair met before.
@@ -63,19 +65,20 @@ typedef struct {
 /* 0 where the graph keeps to the rules, else 15. */
 uint32_t planner_check(PLANNER_GRAPH_PARTS);
 
-/* The graph in the bytes of a chart file; 0, or 1 to 10 with *place. */
+/* The graph in the bytes of a chart file, zero at the places past its edges; 0, or 1 to 10 with *place. */
 uint32_t planner_read(const uint8_t *bytes, size_t length, size_t *n, size_t *m, uint8_t a[190], uint8_t b[190], int32_t cost[190],
                       uint8_t mark[190], uint64_t *place);
 
 /* The chart file of a graph into out, of 8 + 12 * m bytes; 0, 15 or 11. */
 uint32_t planner_write(PLANNER_GRAPH_PARTS, uint8_t *out, size_t length, uint64_t *place);
 
-/* The least 1-tree: its bound, and in out a byte for each edge, 1 in, 0 out; 0, PLANNER_NONE, 15, 11 or 12. */
+/* The least 1-tree: its bound, and in out a byte for each edge, 1 in, 0 out; 0, PLANNER_NONE, which leaves *bound and out as they were, 15,
+ * 11 or 12. */
 uint32_t planner_tree(PLANNER_GRAPH_PARTS, const int32_t *multipliers, size_t multipliers_length, uint8_t *out, size_t length,
                       int64_t *bound);
 
-/* The rulings: the bound, and in out a byte for each edge, 0 keep, 1 force, 2 bar, 3 already required, 4 already struck; 0, PLANNER_NONE,
- * 15, 11, 12 or 13. */
+/* The rulings: the bound, and in out a byte for each edge, 0 keep, 1 force, 2 bar, 3 already required, 4 already excluded; 0, PLANNER_NONE,
+ * which leaves *bound and out as they were, 15, 11, 12 or 13. */
 uint32_t planner_rule(PLANNER_GRAPH_PARTS, const int32_t *multipliers, size_t multipliers_length, int64_t ceiling, uint8_t *out,
                       size_t length, int64_t *bound);
 

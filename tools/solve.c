@@ -1,14 +1,14 @@
-/* The cheapest round of a sea and its legs, for seas that are too large for the program `hunt`. Build: see docs/USING.md.
+/* The cheapest tour of a graph and its edges, for graphs that are too large for the program `hunt`. Build: see docs/USING.md.
  *
  * Usage: solve [NODES]. Reads from standard input what `hunt` reads, a ceiling and a chart, and prints what `hunt` prints; where there is a
- * round also a third line, `legs` and the numbers of its legs. It opens at most NODES nodes, 1,000,000 if not said.
+ * tour also a third line, `legs` and the numbers of its edges. It opens at most NODES nodes, 1,000,000 if not said.
  *
  * `hunt` makes no sweeps, as document 01 has it. This program opens the library's search with 15 sweeps and with multipliers that fit the
- * sea; 20 buoys then take 1 to 150 nodes, as a rule, at a ceiling near the least cost, where `hunt` is going on after 1,000,000.
+ * graph; 20 vertices then take 1 to 150 nodes, as a rule, at a ceiling near the least cost, where `hunt` is going on after 1,000,000.
  *
  * Every number that it prints comes from a proved call of the library: number and place of a refusal (planner_read, planner_open), the cost
- * and the count of nodes (planner_tell), the legs (planner_show). What it chooses itself, multipliers, sweeps and step, decides how long a
- * search takes and which of several cheapest rounds it finds; that the cost is the least is proved for every choice. These lines of C are
+ * and the count of nodes (planner_tell), the edges (planner_show). What it chooses itself, multipliers, sweeps and step, decides how long a
+ * search takes and which of several cheapest tours it finds; that the cost is the least is proved for every choice. These lines of C are
  * not proved; tools/test holds them to `hunt`.
  */
 #include "planner.h"
@@ -18,19 +18,19 @@
 #include <string.h>
 
 enum {
-    LIMIT = 1000000, /* nodes: at 20 buoys some 50 microseconds each, so about a minute */
+    LIMIT = 1000000, /* nodes: at 20 vertices some 50 microseconds each, so about a minute */
     INPUT = 12013,   /* bytes: one more than the longest input has, 4 + 8 + 12 * 1,000 */
     SWEEPS = 15,
-    TREES = 1000, /* of the ascent; some 2 milliseconds at 20 buoys */
+    TREES = 1000, /* of the ascent; some 2 milliseconds at 20 vertices */
     MOST_STEP = 10000,
     MOST_MULTIPLIER = 1000000
 };
 
-/* Steps are shares of the costs' spread. Tried on seas of 20 buoys, all legs, costs up to 1,000 and up to 1,000,000, at the cost of a tour
+/* Steps are shares of the costs' spread. Tried on complete graphs of 20 vertices, costs up to 1,000 and up to 1,000,000, at the cost of a tour
  * found by 2-opt: random costs, distances in a square, distances with clusters. Zero multipliers and a step of spread / 10 (about a
  * twentieth of the mean) took up to 1,700 nodes, and more than 20,000 with clusters, because 15 sweeps are too few to bring the multipliers
- * near their best values. After an ascent 420 such seas took at most 141 nodes, most of them 1; first steps of spread / 4 to spread / 8 did
- * alike, and sweeps of spread / 15 to spread / 30 did better than spread / 60. Slow are full seas with few different costs, since
+ * near their best values. After an ascent 420 such graphs took at most 141 nodes, most of them 1; first steps of spread / 4 to spread / 8 did
+ * alike, and sweeps of spread / 15 to spread / 30 did better than spread / 60. Slow are complete graphs with few different costs, since
  * multipliers are whole numbers: random costs from 1 to 5 took up to 400,000 nodes. A first step of 64 or more helps where all costs are
  * equal. */
 enum { FIRST_SHARE = 4, LEAST_FIRST = 64, SWEEP_SHARE = 20 };

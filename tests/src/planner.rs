@@ -337,7 +337,7 @@ struct Said {
     nodes: u64,
 }
 
-/// A search for the cheapest tour. It owns its record, some 39 KB on the heap.
+/// A search for the cheapest tour. It owns its record, some 38 KB on the heap.
 #[derive(Clone)]
 pub struct Search {
     record: Box<Record>,

@@ -34,7 +34,7 @@ pub struct Law {
     pub value_before_length: bool,
     /// the writer's form has its head at 1, or 0 where m = 0
     pub form_wants_head: bool,
-    /// the writer's form has leg k in record k
+    /// the writer's form has edge k in record k
     pub form_wants_order: bool,
 
     /// "whole numbers, −1,000,000 to 1,000,000"
@@ -52,7 +52,7 @@ pub struct Law {
     pub max_ceiling: i64,
     /// "at or below the ceiling": a bound equal to it is within
     pub ceiling_within: bool,
-    /// a required leg is not swapped out
+    /// a required edge is not swapped out
     pub required_stay: bool,
 
     /// "sweeps (0 to 15)"
@@ -69,7 +69,7 @@ pub struct Law {
     pub multipliers_held: bool,
     /// "on top, that leg required"
     pub required_on_top: bool,
-    /// the struck node has the marks that its parent had
+    /// the excluded node has the marks that its parent had
     pub marks_apart: bool,
     /// 22 and 23 come before 11
     pub record_before_length: bool,

@@ -85,7 +85,11 @@ fn one(
     let mut machine = Machine::new(law, Method::Kruskal);
     machine.call(&open);
     machine.call(&Call::Run { budget });
-    let reference = machine.search.as_ref().map(|search| search.verdict());
-    let wanted = Some(expected.map_or(Verdict::None, Verdict::Cost));
-    tally.compare("the machine's verdict", input, &wanted, &reference)
+    let verdict = match machine.search.as_ref().map(|search| search.verdict()) {
+        Some(Verdict::Cost(cost)) => Some((BEST, Some(cost))),
+        Some(Verdict::None) => Some((NO_TOUR, None)),
+        _ => None,
+    };
+    let told = Some((told.number, told.value));
+    tally.compare("the machine's verdict", input, &verdict, &told)
 }

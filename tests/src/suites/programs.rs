@@ -54,10 +54,15 @@ pub fn output(command: &mut Command, input: &[u8]) -> io::Result<Output> {
     child.wait_with_output()
 }
 
-/// What a program prints when it is given these bytes.
+/// What a program prints when it is given these bytes; and how it ended, where it did not end well.
 fn printed(name: &str, input: &[u8]) -> io::Result<String> {
     let output = output(&mut Command::new(path(name)), input)?;
-    Ok(String::from_utf8_lossy(&output.stdout).into_owned())
+    let mut text = String::from_utf8_lossy(&output.stdout).into_owned();
+    if !output.status.success() || !output.stderr.is_empty() {
+        let complaint = String::from_utf8_lossy(&output.stderr);
+        text.push_str(&format!("-- {}: {complaint}", output.status));
+    }
+    Ok(text)
 }
 
 /// A ceiling and a chart; now and then damaged, cut short or with a ceiling out of range.

@@ -10,13 +10,13 @@ use crate::planner::{Job, Ours, Planner, Reference};
 const CASES: u64 = 3_000;
 
 /// A graph that lacks some edges, in an order of its own.
-fn sparse(random: &mut Random) -> Graph {
+pub fn sparse(random: &mut Random) -> Graph {
     let n = random.between(3, VERTICES as i64) as usize;
     let (lacking, highest) = (
-        random.between(0, 60),
+        random.between(0, 70),
         [1, 3, 50, 1_000_000][random.below(4)],
     );
-    let (required, excluded) = (random.between(0, 12), random.between(0, 30));
+    let (required, excluded) = ([0, 2, 8, 25][random.below(4)], random.between(0, 40));
     let mut pairs: Vec<(u8, u8)> = Vec::new();
     for a in 1..n as u8 {
         for b in a + 1..=n as u8 {

@@ -3,38 +3,12 @@
 
 use super::check::record_fits;
 use super::{Answer, Forms, Record};
-use crate::inputs::{Graph, Random, EXCLUDED, FREE, PLACES, REQUIRED, VERTICES};
+use crate::agree::sparse;
+use crate::inputs::{Random, PLACES, VERTICES};
 use crate::planner::{Job, Planner, Reference};
 
-fn random_graph(random: &mut Random) -> Graph {
-    let mut graph = Graph::empty(random.between(3, VERTICES as i64) as usize);
-    let n = graph.n as u8;
-    let (present, highest) = (
-        random.between(30, 100),
-        [1, 4, 60, 1_000_000][random.below(4)],
-    );
-    let (required, excluded) = ([0, 2, 8, 25][random.below(4)], random.between(0, 40));
-    let mut pairs: Vec<(u8, u8)> = Vec::new();
-    for a in 1..n {
-        for b in a + 1..=n {
-            if random.between(1, 100) <= present {
-                pairs.insert(random.below(pairs.len() + 1), (a, b));
-            }
-        }
-    }
-    for (a, b) in pairs {
-        let mark = match random.between(0, 99) {
-            x if x < required => REQUIRED,
-            x if x < required + excluded => EXCLUDED,
-            _ => FREE,
-        };
-        graph.add(a, b, random.between(-highest, highest) as i32, mark);
-    }
-    graph
-}
-
 fn random_job(random: &mut Random) -> Job {
-    let graph = random_graph(random);
+    let graph = sparse(random);
     let highest = [0, 3, 50, 1_000_000][random.below(4)];
     let mut d: Vec<i32> = (0..graph.n)
         .map(|_| random.between(-highest, highest) as i32)

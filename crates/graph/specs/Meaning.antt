@@ -18,31 +18,30 @@ use Rattle.graph.specs.Valid.{EdgeValid, EdgeAt, SamePair, Valid, endsOk
 
 -- ---- one edge
 
-pub edge-of : (n x y : ℕ) (z : ℤ) (w : ℕ) → endsOk n x y ≡ true → within maxCost z ≡ true → w ≤ maxMark → EdgeValid n x y z w
+pub ends-true : (n x y : ℕ) → endsOk n x y ≡ true → (1 ≤ x) × (x < y) × (y ≤ n)
 unfolding endsOk
-edge-of n x y z w h r k =
+ends-true n x y h =
     let p = and-both (leb 1 x) (ltb x y && leb y n) h in
     let q = and-both (ltb x y) (leb y n) (p .1) in
-    record {
-      from = leb-true 1 x (p .0);
-      less = ltb-true x y (q .0);
-      to = leb-true y n (q .1);
-      range = within-range maxCost z r;
-      known = k;
-    }
+    (leb-true 1 x (p .0), ltb-true x y (q .0), leb-true y n (q .1))
+
+pub edge-of : (n x y : ℕ) (z : ℤ) (w : ℕ) → endsOk n x y ≡ true → within maxCost z ≡ true → w ≤ maxMark → EdgeValid n x y z w
+edge-of n x y z w h r k =
+    let p = ends-true n x y h in
+    record { from = p .0; less = p .1; to = p .2; range = within-range maxCost z r; known = k }
 
 pub ends-of : (n x y : ℕ) (z : ℤ) (w : ℕ) → EdgeValid n x y z w → endsOk n x y ≡ true
 unfolding endsOk
 ends-of n x y z w e = rw (le-leb 1 x (e .from), lt-ltb x y (e .less), le-leb y n (e .to))
 
-pub edge-true : (n x y : ℕ) (z : ℤ) (w : ℕ) → edgeOk n x y z w ≡ true → EdgeValid n x y z w
+edge-true : (n x y : ℕ) (z : ℤ) (w : ℕ) → edgeOk n x y z w ≡ true → EdgeValid n x y z w
 unfolding edgeOk
 edge-true n x y z w h =
     let p = and-both (endsOk n x y) (within maxCost z && leb w maxMark) h in
     let q = and-both (within maxCost z) (leb w maxMark) (p .1) in
     edge-of n x y z w (p .0) (q .0) (leb-true w maxMark (q .1))
 
-pub true-edge : (n x y : ℕ) (z : ℤ) (w : ℕ) → EdgeValid n x y z w → edgeOk n x y z w ≡ true
+true-edge : (n x y : ℕ) (z : ℤ) (w : ℕ) → EdgeValid n x y z w → edgeOk n x y z w ≡ true
 unfolding edgeOk
 true-edge n x y z w e =
     rw (ends-of n x y z w e, range-within maxCost z (e .range), le-leb w maxMark (e .known))
@@ -76,14 +75,14 @@ new-pair a b (suc k) x y h =
 
 -- ---- the first k edges
 
-pub record First (g : Graph) (k : ℕ) : Type 0 where
-  pub each : (j : ℕ) → j < k → EdgeAt g j
-  pub once : (j : ℕ) → j < k → (i : ℕ) → i < j → SamePair g i j → ⊥
+record First (g : Graph) (k : ℕ) : Type 0 where
+  each : (j : ℕ) → j < k → EdgeAt g j
+  once : (j : ℕ) → j < k → (i : ℕ) → i < j → SamePair g i j → ⊥
 
-pub first-none : (g : Graph) → First g 0
+first-none : (g : Graph) → First g 0
 first-none g = record { each = λ j l. absurd (omega arith); once = λ j l. absurd (omega arith) }
 
-pub first-more : (g : Graph) (k : ℕ) → First g k → EdgeAt g k → pairMet (g .a) (g .b) k (getD (g .a) k 0) (getD (g .b) k 0) ≡ false
+first-more : (g : Graph) (k : ℕ) → First g k → EdgeAt g k → pairMet (g .a) (g .b) k (getD (g .a) k 0) (getD (g .b) k 0) ≡ false
     → First g (k + 1)
 first-more g k f e n =
     record {
@@ -119,10 +118,10 @@ first-edges g (suc k) f =
 
 -- ---- a graph
 
-pub valid-first : (g : Graph) → Valid g → First g (g .m)
+valid-first : (g : Graph) → Valid g → First g (g .m)
 valid-first g v = record { each = v .each; once = λ j l i h. v .once i j h l }
 
-pub first-valid : (g : Graph) → minVertices ≤ g .n → g .n ≤ maxVertices → g .m ≤ maxEdges → First g (g .m) → Valid g
+first-valid : (g : Graph) → minVertices ≤ g .n → g .n ≤ maxVertices → g .m ≤ maxEdges → First g (g .m) → Valid g
 first-valid g low high few f =
     record { low = low; high = high; few = few; each = f .each; once = λ i j h l. f .once j l i h }
 

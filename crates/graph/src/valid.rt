@@ -1,10 +1,13 @@
-// Refusal 15: 'Legs and marks'. Each pair of ends has a place in one table, so that the whole check is one pass over the edges.
+// Refusal 15: 'Legs and marks'. Each pair of ends has a place in one table, so that three passes over the edges are the whole check.
 ghost use mathlib.Core.Path.{_≡_};
-ghost use Prim.Native.Nat.{_+_, _*_};
+ghost use Prim.Native.Nat.{_+_, _*_, _≤_};
+ghost use Rattle.lists.specs.Bools.{Says, bit};
+ghost use Rattle.lists.specs.Hits.{Nowhere};
 ghost use Rattle.integers.specs.Range.{within};
-ghost use Rattle.graph.specs.Limits.{maxCost};
-ghost use Rattle.graph.specs.Valid.{graphOf, endsOk, edgeOk, valid};
+ghost use Rattle.graph.specs.Limits.{maxCost, maxEdges};
+ghost use Rattle.graph.specs.Valid.{graphOf, endsOk, valid};
 ghost use Rattle.graph.specs.PairTable.{placeOf};
+ghost use Rattle.graph.specs.CheckLoop.{unfit, costUnfit, unfitAt, costUnfitAt, pairAgain, InPairs};
 use crate::EXCLUDED;
 use crate::Graph;
 use crate::MAX_COST;
@@ -34,16 +37,63 @@ pub(crate) fn cost_ok(z: i32) -> bool
     z <= MAX_COST
 }
 
-fn edge_ok(n: usize, x: u8, y: u8, z: i32, w: u8) -> bool
-    ensures { λ r. ⌜ r ≡ edgeOk n x y z w ⌝ }
+// 1 where the ends x, y or the mark w of an edge are not as they must be, else 0.
+fn unfit(n: u8, x: u8, y: u8, w: u8) -> u8
+    ensures { λ r. ⌜ r ≡ bit (unfit n x y w) ⌝ }
 {
-    if !ends_ok(n, x, y) {
-        return false;
+    if x < 1 {
+        return 1;
     }
-    if !cost_ok(z) {
-        return false;
+    if y <= x {
+        return 1;
     }
-    w <= EXCLUDED
+    if y > n {
+        return 1;
+    }
+    if w > EXCLUDED {
+        return 1;
+    }
+    0
+}
+
+// The same of a cost, as wide as the costs are.
+fn cost_unfit(z: i32) -> u32
+    ensures { λ r. ⌜ r ≡ bit (costUnfit z) ⌝ }
+{
+    if cost_ok(z) {
+        return 0;
+    }
+    1
+}
+
+// Each loop counts what is wrong and looks at the count once, at the end: a loop with no way out in the middle takes many edges at a time.
+
+// Are the ends and the marks of all edges as they must be?
+fn ends_fit<'a>(n: u8, m: usize, a: &'a [u8; 190], b: &'a [u8; 190], mark: &'a [u8; 190]) -> bool
+    requires { ⌜ m ≤ maxEdges ⌝ }
+    ensures { λ r. ⌜ Says r (Nowhere (unfitAt n (now (a .entry)) (now (b .entry)) (now (mark .entry))) m) ⌝ }
+{
+    let mut bad: u8 = 0;
+    let mut k = 0;
+    while k < m {
+        bad = bad + unfit(n, a[k], b[k], mark[k]);
+        k = k + 1;
+    }
+    bad == 0
+}
+
+// Are all costs within their range?
+fn costs_fit(m: usize, cost: &[i32; 190]) -> bool
+    requires { ⌜ m ≤ maxEdges ⌝ }
+    ensures { λ r. ⌜ Says r (Nowhere (costUnfitAt (now (cost .entry))) m) ⌝ }
+{
+    let mut bad: u32 = 0;
+    let mut k = 0;
+    while k < m {
+        bad = bad + cost_unfit(cost[k]);
+        k = k + 1;
+    }
+    bad == 0
 }
 
 // The place of the pair x, y in the table of pairs met.
@@ -51,6 +101,23 @@ fn place_of(x: u8, y: u8) -> usize
     ensures { λ r. ⌜ r ≡ placeOf x y ⌝ }
 {
     wide(x) * 21 + wide(y)
+}
+
+// Is each pair of ends there once?
+fn pairs_fit<'a>(m: usize, a: &'a [u8; 190], b: &'a [u8; 190]) -> bool
+    requires { ⌜ (m ≤ maxEdges) × InPairs (now a) (now b) m ⌝ }
+    ensures { λ r. ⌜ Says r (Nowhere (pairAgain (now (a .entry)) (now (b .entry))) m) ⌝ }
+{
+    let mut met = [0u8; 441];
+    let mut again: u8 = 0;
+    let mut k = 0;
+    while k < m {
+        let p = place_of(a[k], b[k]);
+        again = again + met[p];
+        met[p] = 1;
+        k = k + 1;
+    }
+    again == 0
 }
 
 // Do these parts of a graph keep to 'Legs and marks'? What stands past m counts for nothing.
@@ -74,18 +141,13 @@ pub fn check_parts<'a>(
     if m > MAX_EDGES {
         return false;
     }
-    let mut met = [false; 441];
-    for k in 0..m {
-        if !edge_ok(n, a[k], b[k], cost[k], mark[k]) {
-            return false;
-        }
-        let p = place_of(a[k], b[k]);
-        if met[p] {
-            return false;
-        }
-        met[p] = true;
+    if !ends_fit(n as u8, m, a, b, mark) {
+        return false;
     }
-    true
+    if !costs_fit(m, cost) {
+        return false;
+    }
+    pairs_fit(m, a, b)
 }
 
 // Does the graph keep to 'Legs and marks'?

@@ -77,8 +77,3 @@ says-yes false s e = absurd (false≢true e)
 pub says-no : (b : Bool) {P : Type 0} → Says b P → b ≡ false → P → ⊥
 says-no false s e = s
 says-no true s e = absurd (true≢false e)
-
--- of a claim with two more parts that hold
-pub says-also : (b : Bool) (C : Type 0) {A B : Type 0} → A → B → Says b C → Says b (A × B × C)
-says-also true C x y s = (x, y, s)
-says-also false C x y s = λ t. s (t .2)

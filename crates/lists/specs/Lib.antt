@@ -8,4 +8,5 @@ pub mod Rows
 pub mod Weights
 pub mod Same
 pub mod Fill
+pub mod Hits
 pub mod Sets

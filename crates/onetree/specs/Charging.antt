@@ -1,7 +1,6 @@
--- Code's sums over charges: the array of charges place by place, what the edges that are in add up to, the sum of the multipliers, and
--- the bound that these stand for. Assumes nothing.
+-- Code's sums over charges: the array of charges place by place, the sum of the multipliers, and the bound that these stand for. Assumes
+-- nothing.
 use mathlib.Core.Path.{_≡_, refl}
-use mathlib.Core.Logic.{_≢_}
 use mathlib.Core.List.{List}
 use Prim.Native.Nat.{ℕ, _+_, _*_, _<_, _≤_}
 use native.Mathlib.Omega.{arith}
@@ -10,7 +9,6 @@ use native.Mathlib.Decide.{ℕ-discrete}
 use lib.ListN.{length, getD, set}
 use lib.Seq.{getD-set-same, getD-set-other}
 use lib.IntN.{ℤ, pos, _+ℤ_, _*ℤ_}
-use borrow.Author.Tests.{eq-eqb, ne-eqb}
 use Rattle.lists.specs.Select.{select}
 use Rattle.lists.specs.Numbers.{upTo}
 use Rattle.lists.specs.Weights.{weight}
@@ -68,18 +66,6 @@ pub chargeable : (g : Graph) (n : ℕ) → value.Valid g → n ≡ g .n
 chargeable g n v e k h =
     let x = v .each k h in
     (x .from, omega (arith, x .less, x .to), omega (arith, x .from, x .less), omega (arith, x .to), x .range)
-
--- ---- the edges that are in, one more
-
-pub weight-more : (c w : List ℕ) (k : ℕ) → getD w k 0 ≡ 1
-    → weight (entry c) (select (bytes w) (upTo (k + 1))) ≡ weight (entry c) (select (bytes w) (upTo k)) + getD c k 0
-unfolding upTo select weight
-weight-more c w k e = rw (add-one, eq-eqb (getD w k 0) 1 e) (omega arith)
-
-pub weight-same : (c w : List ℕ) (k : ℕ) → getD w k 0 ≢ 1
-    → weight (entry c) (select (bytes w) (upTo (k + 1))) ≡ weight (entry c) (select (bytes w) (upTo k))
-unfolding upTo select weight
-weight-same c w k e = rw (add-one, ne-eqb (getD w k 0) 1 e)
 
 -- ---- the sum of the multipliers
 

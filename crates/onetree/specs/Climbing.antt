@@ -31,20 +31,18 @@ pub record Offered (old : List ℕ) (c x : ℕ) (rep : List ℕ) : Type 0 where
   pub less : getD rep x 0 ≤ getD old x 0
   pub long : length rep ≡ length old
 
-pub offered-set : (old : List ℕ) (c x : ℕ) → x < length old → c < getD old x 0 → Offered old c x (set old x c)
-offered-set old c x h l = record {
+pub offered-lesser : (old : List ℕ) (c x y : ℕ) → x < length old → y ≤ getD old x 0 → y ≤ c → (y ≡ getD old x 0) ⊎ (y ≡ c)
+    → Offered old c x (set old x y)
+offered-lesser old c x y h l m w = record {
   here = omega (arith, at);
-  same = λ v f. getD-set-other old x v c 0 f;
-  what = inr at;
+  same = λ v f. getD-set-other old x v y 0 f;
+  what = rw at w;
   less = omega (arith, at);
-  long = length-set old x c;
+  long = length-set old x y;
 }
   where
-    at : getD (set old x c) x 0 ≡ c
-    at = getD-set-same old x c 0 h
-
-pub offered-keep : (old : List ℕ) (c x : ℕ) → getD old x 0 ≤ c → Offered old c x old
-offered-keep old c x l = record { here = l; same = λ v f. refl; what = inl refl; less = omega arith; long = refl }
+    at : getD (set old x y) x 0 ≡ y
+    at = getD-set-same old x y 0 h
 
 -- top is 0, or the weight of a vertex on the circle of p and q
 abbrev pub Reached : Shape → (ℕ → ℕ) → ℕ → ℕ → ℕ → Type 0

@@ -12,6 +12,7 @@ use lib.Dec.{eqb, ltb}
 use borrow.Author.Tests.{eq-eqb, ne-eqb, lt-ltb, le-ltb}
 use Rattle.lists.specs.Members.{_∈_}
 use Rattle.lists.specs.Select.{select}
+use Rattle.lists.specs.Weights.{weight}
 use Rattle.graph.specs.Network.{Network}
 use Rattle.spanning.specs.Walks.{label, relabel}
 use Rattle.spanning.specs.Components.{joins, rank}
@@ -20,6 +21,7 @@ use Rattle.spanning.specs.FirstTwo.{fewer}
 use Rattle.spanning.specs.Forests.{greedy}
 use Rattle.spanning.specs.Held.{Holds, holds-join, holds-idle}
 use Rattle.onetree.specs.Valid.{isNear}
+use Rattle.onetree.specs.Arrays.{entry}
 
 -- w has a 1 at each edge of xs and of ys, and 0 elsewhere
 pub record Took (w xs ys : List ℕ) : Type 0 where
@@ -72,21 +74,24 @@ nearTaken G es = choose fewer (nearOf G es)
 abbrev pub farTaken : Network → List ℕ → List ℕ
 farTaken G es = greedy (G .a) (G .b) (farOf G es)
 
--- what was chosen of the edges es: the set w; near counts the edges at vertex 1 met, far the others taken
-pub record Grew (G : Network) (es w : List ℕ) (near far : ℕ) : Type 0 where
+-- what was chosen of the edges es: the set w; near counts the edges at vertex 1 met, far the others taken; sum adds up the charges c of
+-- those taken
+pub record Grew (G : Network) (c es w : List ℕ) (near far sum : ℕ) : Type 0 where
   pub met : near ≡ length (nearOf G es)
   pub joined : far ≡ rank (G .a) (G .b) (farOf G es)
   pub took : Took w (nearTaken G es) (farTaken G es)
+  pub weighed : sum ≡ weight (entry c) (nearTaken G es) + weight (entry c) (farTaken G es)
 
-pub grew-none : (G : Network) (w : List ℕ) → ((k : ℕ) → getD w k 0 ≡ 0) → Grew G [] w 0 0
-unfolding select rank choose greedy
-grew-none G w h = record { met = refl; joined = refl; took = record { on = λ k m. no k m; off = λ k. inl (h k) } }
+pub grew-none : (G : Network) (c w : List ℕ) → ((k : ℕ) → getD w k 0 ≡ 0) → Grew G c [] w 0 0 0
+unfolding select rank choose greedy weight
+grew-none G c w h =
+    record { met = refl; joined = refl; took = record { on = λ k m. no k m; off = λ k. inl (h k) }; weighed = refl }
   where
     no : (k : ℕ) → (suc k ∈ nearTaken G []) ⊎ (suc k ∈ farTaken G []) → getD w k 0 ≡ 1
     no k (inl m) = absurd m
     no k (inr m) = absurd m
 
-module _ (G : Network) (es w : List ℕ) (near far k : ℕ) (room : k < length w) (s : Grew G es w near far) where
+module _ (G : Network) (c es w : List ℕ) (near far sum k : ℕ) (room : k < length w) (s : Grew G c es w near far sum) where
   at-near : G .a (suc k) ≡ 1 → (nearOf G (suc k ∷ es) ≡ suc k ∷ nearOf G es) × (farOf G (suc k ∷ es) ≡ farOf G es)
   unfolding select
   at-near h = (rw (eq-eqb (G .a (suc k)) 1 h), rw (eq-eqb (G .a (suc k)) 1 h))
@@ -96,8 +101,8 @@ module _ (G : Network) (es w : List ℕ) (near far k : ℕ) (room : k < length w
   at-far h = (rw (ne-eqb (G .a (suc k)) 1 h), rw (ne-eqb (G .a (suc k)) 1 h))
 
   -- one of the first two at vertex 1
-  pub grow-near : G .a (suc k) ≡ 1 → near < 2 → Grew G (suc k ∷ es) (set w k 1) (near + 1) far
-  unfolding choose fewer
+  pub grow-near : G .a (suc k) ≡ 1 → near < 2 → Grew G c (suc k ∷ es) (set w k 1) (near + 1) far (sum + getD c k 0)
+  unfolding choose fewer weight
   grow-near h o =
       let e = at-near h in
       let b : ltb (length (nearOf G es)) 2 ≡ true = lt-ltb (length (nearOf G es)) 2 (omega (arith, s .met)) in
@@ -105,10 +110,11 @@ module _ (G : Network) (es w : List ℕ) (near far k : ℕ) (room : k < length w
         met = rw (e .0) (omega (arith, s .met));
         joined = rw (e .1) (s .joined);
         took = rw (e .0, e .1, b) (took-first w (nearTaken G es) (farTaken G es) k room (s .took));
+        weighed = rw (e .0, e .1, b) (omega (arith, s .weighed));
       }
 
   -- a third at vertex 1
-  pub grow-spare : G .a (suc k) ≡ 1 → 2 ≤ near → Grew G (suc k ∷ es) w (near + 1) far
+  pub grow-spare : G .a (suc k) ≡ 1 → 2 ≤ near → Grew G c (suc k ∷ es) w (near + 1) far sum
   unfolding choose fewer
   grow-spare h o =
       let e = at-near h in
@@ -117,6 +123,7 @@ module _ (G : Network) (es w : List ℕ) (near far k : ℕ) (room : k < length w
         met = rw (e .0) (omega (arith, s .met));
         joined = rw (e .1) (s .joined);
         took = rw (e .0, e .1, b) (s .took);
+        weighed = rw (e .0, e .1, b) (s .weighed);
       }
 
   -- one that is not at vertex 1, by the labels l of the components
@@ -126,8 +133,9 @@ module _ (G : Network) (es w : List ℕ) (near far k : ℕ) (room : k < length w
     at v = label (G .a) (G .b) (farOf G es) v
 
     -- it joins two components
-    pub grow-join : G .a (suc k) ≢ 1 → getD l (G .a (suc k)) 0 ≢ getD l (G .b (suc k)) 0 → Grew G (suc k ∷ es) (set w k 1) near (far + 1)
-    unfolding rank greedy choose joins
+    pub grow-join : G .a (suc k) ≢ 1 → getD l (G .a (suc k)) 0 ≢ getD l (G .b (suc k)) 0
+        → Grew G c (suc k ∷ es) (set w k 1) near (far + 1) (sum + getD c k 0)
+    unfolding rank greedy choose joins weight
     grow-join h ne =
         let e = at-far h in
         let b : eqb (at (G .a (suc k))) (at (G .b (suc k))) ≡ false =
@@ -136,10 +144,11 @@ module _ (G : Network) (es w : List ℕ) (near far k : ℕ) (room : k < length w
           met = rw (e .0) (s .met);
           joined = rw (e .1, b) (omega (arith, s .joined));
           took = rw (e .0, e .1, b) (flip (took-first w (farTaken G es) (nearTaken G es) k room (flip (s .took))));
+          weighed = rw (e .0, e .1, b) (omega (arith, s .weighed));
         }
 
     -- it closes a circle
-    pub grow-idle : G .a (suc k) ≢ 1 → getD l (G .a (suc k)) 0 ≡ getD l (G .b (suc k)) 0 → Grew G (suc k ∷ es) w near far
+    pub grow-idle : G .a (suc k) ≢ 1 → getD l (G .a (suc k)) 0 ≡ getD l (G .b (suc k)) 0 → Grew G c (suc k ∷ es) w near far sum
     unfolding rank greedy choose joins
     grow-idle h eq =
         let e = at-far h in
@@ -149,6 +158,7 @@ module _ (G : Network) (es w : List ℕ) (near far k : ℕ) (room : k < length w
           met = rw (e .0) (s .met);
           joined = rw (e .1, b) (omega (arith, s .joined));
           took = rw (e .0, e .1, b) (s .took);
+          weighed = rw (e .0, e .1, b) (s .weighed);
         }
 
     pub holds-same : G .a (suc k) ≡ 1 → Holds (G .a) (G .b) n l (farOf G (suc k ∷ es))

@@ -10,36 +10,30 @@ use lib.ListN.{length, getD}
 use lib.IntN.{ℤ}
 use borrow.Author.Tests.{eqb-true, eq-eqb, not-true}
 use Rattle.lists.specs.Members.{_∈_}
-use Rattle.lists.specs.Select.{select-in, select-length}
+use Rattle.lists.specs.Select.{select, select-in, select-length}
 use Rattle.lists.specs.Numbers.{upTo}
+use Rattle.lists.specs.Weights.{weight}
 use Rattle.graph.specs.declared.Graph.{Graph}
 use Rattle.graph.specs.Network.{network}
 use Rattle.graph.specs.Valid as value
 use Rattle.spanning.specs.Components.{rank}
 use Rattle.spanning.specs.Choice.{choose-in}
 use Rattle.spanning.specs.FirstTwo.{fewer, fewer-length}
-use Rattle.spanning.specs.Forests.{greedy, greedy-length}
+use Rattle.spanning.specs.Forests.{Forest, greedy, greedy-length}
 use Rattle.spanning.specs.Kruskal.{rank-all}
 use Rattle.onetree.specs.OneTree.{Edges, OneTree, Least}
 use Rattle.onetree.specs.Inputs.{multiplier}
-use Rattle.onetree.specs.Valid.{Valid, isExcluded, needed, isNear, near, far, near-in, far-in}
+use Rattle.onetree.specs.Valid.{Valid, isExcluded, isNear, near, far, near-in, far-in}
 use Rattle.onetree.specs.Link.{to-parts}
 use Rattle.onetree.specs.Weight.{oneWeight}
-use Rattle.onetree.specs.Minimum.{Chosen, chosen-least, chosen-tree, chosen-none}
-use Rattle.onetree.specs.Arrays.{entry, bytes, network-n, edge-in, in-edge, needed-at, excluded-at, mark-required, network-valid}
+use Rattle.onetree.specs.Minimum.{Chosen, chosen-least, chosen-weight, chosen-tree, chosen-must, chosen-none}
+use Rattle.onetree.specs.Arrays.{entry, bytes, network-n, edge-in, excluded-at, network-valid}
 use Rattle.onetree.specs.Charged.{offset, Charged, offs}
 use Rattle.onetree.specs.Sorting.{Ascending}
 use Rattle.onetree.specs.Keys.{Keyed, queued}
 use Rattle.onetree.specs.Growth.{Grew, nearOf, farOf, nearTaken, farTaken}
 use Rattle.onetree.specs.Queue.{Placed, requiredOf, freeOf, placed, Queued, in-order}
-
--- of the first m edges every required one is in
-abbrev pub KeptBy : List ℕ → ℕ → List ℕ → Type 0
-KeptBy marks m w = (k : ℕ) → k < m → getD marks k 0 ≡ 1 → getD w k 0 ≡ 1
-
--- of a graph's
-abbrev pub Kept : Graph → List ℕ → Type 0
-Kept g w = KeptBy (g .mark) (g .m) w
+use Rattle.onetree.specs.Required.{Small, required-near, required-far, required-count}
 
 -- the edges taken were looked at, each as one of its kind
 near-looked : (g : Graph) (es : List ℕ) (e : ℕ) → e ∈ nearTaken (network g) es → (e ∈ es) × (isNear (network g) e ≡ true)
@@ -51,7 +45,7 @@ far-looked g es e m = select-in (λ k. not (isNear (network g) k)) es e (choose-
 
 module _ (g : Graph) (v : value.Valid g) (c : List ℕ) (low : (k : ℕ) → k < g .m → 1 ≤ getD c k 0) (ks : List ℕ) (f : ℕ)
     (y : Keyed (g .mark) c (g .m) ks f) (asc : Ascending f ks)
-    (w : List ℕ) (n₁ n₂ : ℕ) (s : Grew (network g) (queued ks f) w n₁ n₂) where
+    (w : List ℕ) (n₁ n₂ n₃ : ℕ) (s : Grew (network g) c (queued ks f) w n₁ n₂ n₃) where
   -- an edge is taken as one at vertex 1 or as another
   abbrev Taken : ℕ → Type 0
   Taken e = (e ∈ nearTaken (network g) (queued ks f)) ⊎ (e ∈ farTaken (network g) (queued ks f))
@@ -142,63 +136,73 @@ module _ (g : Graph) (v : value.Valid g) (c : List ℕ) (low : (k : ℕ) → k <
       (freeOf g (farOf (network g) (queued ks f)) ++ requiredOf g (farOf (network g) (queued ks f))) (bytes w)
   chosen-split = rw (q .near-splits, q .far-splits) chosen
 
-  -- a required edge that is looked at
-  kept-in : Kept g w → (e : ℕ) → e ∈ queued ks f → needed (network g) e ≡ true → bytes w e ≡ true
-  kept-in kept e m h =
-      let r = placed g v c low ks f y asc e m in
-      let mark = sym (needed-at g (r .0) (r .1)) ∙ subst (λ (i : ℕ). needed (network g) i ≡ true) (r .3) h in
-      subst (λ (i : ℕ). bytes w i ≡ true) (sym (r .3)) (eq-eqb (getD w (r .0) 0) 1 (kept (r .0) (r .1) (eqb-true _ 1 mark)))
+  -- what the edges that are in weigh
+  pub weighs : n₃ ≡ weight (entry c) (select (bytes w) (upTo (g .m)))
+  unfolding network
+  weighs =
+      s .weighed
+      ∙ sym (rw (q .near-splits, q .far-splits) at
+      (chosen-weight (network g) (oneWeight (network g .m) (entry c)) _ _ _ _ (q .near-ordered) (q .far-ordered) (bytes w) chosen-split
+      (entry c)))
 
-  kept-near : Kept g w → (e : ℕ) → e ∈ requiredOf g (nearOf (network g) (queued ks f)) → e ∈ nearTaken (network g) (queued ks f)
-  kept-near kept e m =
-      let i = select-in (needed (network g)) (nearOf (network g) (queued ks f)) e m in
-      let j = select-in (isNear (network g)) (queued ks f) e (i .0) in
-      taken-near e (kept-in kept e (j .0) (i .1)) (j .1)
+  -- after the r required edges: m₁ of them at vertex 1 were met, and m₂ of the others taken
+  module _ (r : ℕ) (few : Small ks f r) (w₀ : List ℕ) (m₁ m₂ m₃ : ℕ) (s₀ : Grew (network g) c (queued ks r) w₀ m₁ m₂ m₃) where
+    abbrev must₁ : List ℕ
+    must₁ = requiredOf g (nearOf (network g) (queued ks f))
 
-  kept-far : Kept g w → (e : ℕ) → e ∈ requiredOf g (farOf (network g) (queued ks f)) → e ∈ farTaken (network g) (queued ks f)
-  kept-far kept e m =
-      let i = select-in (needed (network g)) (farOf (network g) (queued ks f)) e m in
-      let j = select-in (λ k. not (isNear (network g) k)) (queued ks f) e (i .0) in
-      taken-far e (kept-in kept e (j .0) (i .1)) (not-true _ (j .1))
+    abbrev must₂ : List ℕ
+    must₂ = requiredOf g (farOf (network g) (queued ks f))
 
-  -- THE LEAST 1-TREE
-  pub found : (d : List ℤ) → Charged g d c → 2 ≤ n₁ → n₂ + 2 ≡ g .n → Kept g w → Least (network g) (multiplier d) (bytes w)
-  found d ch h₁ h₂ kept =
-      chosen-least (network g) (multiplier d) offset (entry c) (offs g d c ch) (network-valid g v) _ _ _ _
-      (q .near-ordered) (q .far-ordered) (bytes w) chosen-split (bytes w) tree
-    where
-      full : n₂ + 2 ≡ network g .n
-      full = h₂ ∙ sym (network-n g)
+    -- the required edges at vertex 1, and the others
+    counts : (m₁ ≡ length must₁) × (m₂ ≡ rank (network g .a) (network g .b) must₂) × (length must₁ + length must₂ ≡ r)
+    counts = rw (required-near g v c low ks f y asc r few, required-far g v c low ks f y asc r few)
+        (s₀ .met, s₀ .joined, required-count g v c low ks f y asc r few)
 
-      far-length : length (farTaken (network g) (queued ks f)) ≡ rank (network g .a) (network g .b) (farOf (network g) (queued ks f))
-      far-length = greedy-length (network g .a) (network g .b) (farOf (network g) (queued ks f))
+    -- THE LEAST 1-TREE
+    pub found : (d : List ℤ) → Charged g d c → 2 ≤ n₁ → n₂ + 2 ≡ g .n → m₁ ≤ 2 → m₁ + m₂ ≡ r
+        → Least (network g) (multiplier d) (bytes w)
+    unfolding Forest
+    found d ch h₁ h₂ h₃ h₄ =
+        chosen-least (network g) (multiplier d) offset (entry c) (offs g d c ch) (network-valid g v) _ _ _ _
+        (q .near-ordered) (q .far-ordered) (bytes w) chosen-split (bytes w) tree
+      where
+        full : n₂ + 2 ≡ network g .n
+        full = h₂ ∙ sym (network-n g)
 
-      tree : OneTree (network g) (bytes w)
-      tree =
-          chosen-tree (network g) (oneWeight (network g .m) (entry c)) _ _ _ _
-          (q .near-ordered) (q .far-ordered) (bytes w) chosen-split (network-valid g v)
-          (rw (q .far-splits) (omega (arith, full, far-length, s .joined)))
-          (rw (q .near-splits) (omega (arith, fewer-length (nearOf (network g) (queued ks f)), s .met)))
-          (λ e m. rw (q .near-splits) (kept-near kept e m))
-          (λ e m. rw (q .far-splits) (kept-far kept e m))
+        far-length : length (farTaken (network g) (queued ks f)) ≡ rank (network g .a) (network g .b) (farOf (network g) (queued ks f))
+        far-length = greedy-length (network g .a) (network g .b) (farOf (network g) (queued ks f))
 
-  -- OR NONE AT ALL
-  pub missing : ((2 ≤ n₁) × (n₂ + 2 ≡ g .n) × Kept g w → ⊥) → (t : Edges) → ¬ OneTree (network g) t
-  missing never =
-      chosen-none (network g) (oneWeight (network g .m) (entry c)) _ _ _ _
-      (q .near-ordered) (q .far-ordered) (bytes w) chosen-split (network-valid g v) (λ o. never (enough o, spans o, keeps o))
-    where
-      enough : OneTree (network g) (bytes w) → 2 ≤ n₁
-      enough o =
-          let two = to-parts (network g) (network-valid g v) (bytes w) o .two in
-          omega (arith, two, select-length (bytes w) (near (network g)), q .near-length, s .met)
+        tree : OneTree (network g) (bytes w)
+        tree =
+            chosen-tree (network g) (oneWeight (network g .m) (entry c)) _ _ _ _
+            (q .near-ordered) (q .far-ordered) (bytes w) chosen-split (network-valid g v)
+            (rw (q .far-splits) (omega (arith, full, far-length, s .joined)))
+            (rw (q .near-splits) (omega (arith, fewer-length (nearOf (network g) (queued ks f)), s .met)))
+            (omega (arith, counts .0))
+            (omega (arith, counts .0, counts .1, counts .2))
 
-      spans : OneTree (network g) (bytes w) → n₂ + 2 ≡ g .n
-      spans o =
-          let full = to-parts (network g) (network-valid g v) (bytes w) o .span in
-          let es = farOf (network g) (queued ks f) in
-          let all = rank-all (network g .a) (network g .b) (far (network g)) (freeOf g es ++ requiredOf g es) (q .far-ordered .listing) in
-          omega (arith, full, s .joined, ap (rank (network g .a) (network g .b)) (q .far-splits), all, network-n g)
+    -- OR NONE AT ALL
+    pub missing : ((2 ≤ n₁) × (n₂ + 2 ≡ g .n) × (m₁ ≤ 2) × (m₁ + m₂ ≡ r) → ⊥) → (t : Edges) → ¬ OneTree (network g) t
+    unfolding Forest
+    missing never =
+        chosen-none (network g) (oneWeight (network g .m) (entry c)) _ _ _ _
+        (q .near-ordered) (q .far-ordered) (bytes w) chosen-split (network-valid g v)
+        (λ o. never (enough o, spans o, omega (arith, counts .0, must o .0), omega (arith, counts .0, counts .1, counts .2, must o .1)))
+      where
+        enough : OneTree (network g) (bytes w) → 2 ≤ n₁
+        enough o =
+            let two = to-parts (network g) (network-valid g v) (bytes w) o .two in
+            omega (arith, two, select-length (bytes w) (near (network g)), q .near-length, s .met)
 
-      keeps : OneTree (network g) (bytes w) → Kept g w
-      keeps o k h e = eqb-true (getD w k 0) 1 (o .keeps (suc k) (in-edge g k h) (mark-required g k h e))
+        spans : OneTree (network g) (bytes w) → n₂ + 2 ≡ g .n
+        spans o =
+            let full = to-parts (network g) (network-valid g v) (bytes w) o .span in
+            let es = farOf (network g) (queued ks f) in
+            let all = rank-all (network g .a) (network g .b) (far (network g)) (freeOf g es ++ requiredOf g es) (q .far-ordered .listing) in
+            omega (arith, full, s .joined, ap (rank (network g .a) (network g .b)) (q .far-splits), all, network-n g)
+
+        must : OneTree (network g) (bytes w)
+            → (length must₁ ≤ 2) × (rank (network g .a) (network g .b) must₂ ≡ length must₂)
+        must =
+            chosen-must (network g) (oneWeight (network g .m) (entry c)) _ _ _ _
+            (q .near-ordered) (q .far-ordered) (bytes w) chosen-split (network-valid g v)

@@ -8,6 +8,7 @@ pub mod Decide
 pub mod LeastTree
 pub mod Rulings
 pub mod Spans
+pub mod Merges
 pub mod Grid
 pub mod TreeTable
 pub mod Visiting
@@ -22,6 +23,7 @@ pub mod Slack
 pub mod Verdicts
 pub mod Candidates
 pub mod Judging
+pub mod Forcing
 pub mod Ruled
 pub mod Valid
 pub mod Link
@@ -43,6 +45,7 @@ pub mod Growth
 pub mod Turn
 pub mod Relabelling
 pub mod Queue
+pub mod Required
 pub mod Kruskal
 pub mod Charging
 pub mod TreeCall

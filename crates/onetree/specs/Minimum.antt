@@ -1,24 +1,24 @@
 -- The greedy 1-tree is the least one: of the near edges the required ones and then the lightest, two in all; of the far edges the
 -- required ones and then the lightest, each that joins two components. Where this choice is no 1-tree there is none.
-use mathlib.Core.Path.{_≡_, sym, _∙_}
+use mathlib.Core.Path.{_≡_, sym, ap, _∙_}
 use mathlib.Core.Logic.{_⊎_, inl, inr}
 use mathlib.Core.Bool.{true, false, true≢false}
 use mathlib.Core.List.{List, _++_}
 use Prim.Native.Nat.{ℕ, _+_, _≤_}
 use native.Mathlib.Omega.{arith}
-use lib.ListN.{length}
+use lib.ListN.{length, length-append}
 use lib.IntN.{ℤ}
 use Rattle.lists.specs.Bools.{by-cases}
 use Rattle.lists.specs.Members.{_∈_, in-either, in-right}
-use Rattle.lists.specs.Select.{select}
+use Rattle.lists.specs.Select.{select, select-append, select-full}
 use Rattle.lists.specs.Numbers.{upTo}
 use Rattle.lists.specs.Weights.{weight}
-use Rattle.lists.specs.Same.{Shuffle, shuffle-length, shuffle-weight}
+use Rattle.lists.specs.Same.{Shuffle, shuffle-back, shuffle-in, shuffle-length, shuffle-weight}
 use Rattle.graph.specs.Network.{Network}
-use Rattle.spanning.specs.Components.{rank, joins}
-use Rattle.spanning.specs.Choice.{choose, Desc, Listing, select-chosen, Beats}
-use Rattle.spanning.specs.FirstTwo.{fewer, few-least}
-use Rattle.spanning.specs.Forests.{greedy, greedy-length}
+use Rattle.spanning.specs.Components.{rank, joins, same-rank}
+use Rattle.spanning.specs.Choice.{choose, choose-base, choose-full, Desc, Listing, select-listing, select-chosen, Beats}
+use Rattle.spanning.specs.FirstTwo.{fewer, fewer-length, few-least}
+use Rattle.spanning.specs.Forests.{Forest, forest-base, greedy, greedy-length, greedy-all}
 use Rattle.spanning.specs.Trees.{Tree}
 use Rattle.spanning.specs.Kruskal.{rank-all, greedy-tree, kruskal}
 use Rattle.onetree.specs.OneTree.{Edges, OneTree, Least, lacksFirst}
@@ -63,6 +63,11 @@ module _ (g : Network) (w : ℕ → ℕ) (f₁ r₁ f₂ r₂ : List ℕ) (o₁ 
   unfolding greedy
   many = select-chosen (far g) (f₂ ++ r₂) (o₂ .listing) t (joins (g .a) (g .b)) (ch .in₂) (ch .of₂)
 
+  -- what it weighs
+  pub chosen-weight : (c : ℕ → ℕ) → weight c (select t (upTo (g .m)))
+      ≡ weight c (choose fewer (f₁ ++ r₁)) + weight c (greedy (g .a) (g .b) (f₂ ++ r₂))
+  chosen-weight c = omega (arith, weigh g t (ch .none) c, shuffle-weight c few, shuffle-weight c many)
+
   -- where the choice has all that must be in, it has every required edge
   kept : ((k : ℕ) → k ∈ r₁ → k ∈ choose fewer (f₁ ++ r₁)) → ((k : ℕ) → k ∈ r₂ → k ∈ greedy (g .a) (g .b) (f₂ ++ r₂))
       → (k : ℕ) → k ∈ upTo (g .m) → needed g k ≡ true → t k ≡ true
@@ -103,14 +108,54 @@ module _ (g : Network) (w : ℕ → ℕ) (f₁ r₁ f₂ r₂ : List ℕ) (o₁ 
           (λ k m. os .keeps k (far-in g k (o₂ .listing .back k (in-right k f₂ r₂ m)) .0) (o₂ .must k m))
 
   module _ (vg : Valid g) where
-    -- what the choice must show to be a 1-tree
+    -- what the choice must show to be a 1-tree: enough edges, and of those that must be in no three at vertex 1 and no circle
     pub chosen-tree : length (greedy (g .a) (g .b) (f₂ ++ r₂)) + 2 ≡ g .n → length (choose fewer (f₁ ++ r₁)) ≡ 2
-        → ((k : ℕ) → k ∈ r₁ → k ∈ choose fewer (f₁ ++ r₁)) → ((k : ℕ) → k ∈ r₂ → k ∈ greedy (g .a) (g .b) (f₂ ++ r₂)) → OneTree g t
-    chosen-tree size two k₁ k₂ =
-        of-parts g vg t (record { tree = tree; span = span; two = shuffle-length few ∙ two; keeps = kept k₁ k₂; avoids = ch .none })
+        → length r₁ ≤ 2 → Forest (g .a) (g .b) r₂ → OneTree g t
+    unfolding greedy
+    chosen-tree size two short forest =
+        of-parts g vg t (record { tree = tree; span = span; two = shuffle-length few ∙ two; keeps = kept base₁ base₂; avoids = ch .none })
       where
         span : rank (g .a) (g .b) (far g) + 2 ≡ g .n
         span = omega (arith, size, greedy-length (g .a) (g .b) (f₂ ++ r₂), rank-all (g .a) (g .b) (far g) (f₂ ++ r₂) (o₂ .listing))
+
+        base₁ : (k : ℕ) → k ∈ r₁ → k ∈ choose fewer (f₁ ++ r₁)
+        base₁ k m = choose-base fewer f₁ r₁ k (rw (choose-full fewer r₁ (omega (arith, fewer-length r₁))) m)
+
+        base₂ : (k : ℕ) → k ∈ r₂ → k ∈ choose (joins (g .a) (g .b)) (f₂ ++ r₂)
+        base₂ k m = choose-base (joins (g .a) (g .b)) f₂ r₂ k (rw (greedy-all (g .a) (g .b) r₂ forest) m)
+
+    -- a 1-tree shows it
+    pub chosen-must : OneTree g t → (length r₁ ≤ 2) × Forest (g .a) (g .b) r₂
+    unfolding Forest
+    chosen-must o = (
+      omega (
+        arith,
+        shuffle-length (select-listing (near g) (f₁ ++ r₁) (o₁ .listing) t),
+        parts .two,
+        simp length-append at (ap length (select-append t f₁ r₁)),
+        ap length all₁,
+      ),
+      rw all₂ at (forest-base (g .a) (g .b) t f₂ r₂ forest),
+    )
+      where
+        parts : Parts g t
+        parts = to-parts g vg t o
+
+        all₁ : select t r₁ ≡ r₁
+        all₁ = select-full t r₁
+            (λ k m. parts .keeps k (near-in g k (o₁ .listing .back k (in-right k f₁ r₁ m)) .0) (o₁ .must k m))
+
+        all₂ : select t r₂ ≡ r₂
+        all₂ = select-full t r₂
+            (λ k m. parts .keeps k (far-in g k (o₂ .listing .back k (in-right k f₂ r₂ m)) .0) (o₂ .must k m))
+
+        same : Shuffle (select t (f₂ ++ r₂)) (select t (far g))
+        same = select-listing (far g) (f₂ ++ r₂) (o₂ .listing) t
+
+        forest : Forest (g .a) (g .b) (select t (f₂ ++ r₂))
+        forest =
+            same-rank (g .a) (g .b) (select t (f₂ ++ r₂)) (select t (far g)) (shuffle-in same) (shuffle-in (shuffle-back same))
+            ∙ tree .forest ∙ sym (shuffle-length same)
 
     -- where it is none, there is none
     pub chosen-none : ¬ (OneTree g t) → (s : Edges) → ¬ (OneTree g s)

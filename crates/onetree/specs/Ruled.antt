@@ -1,50 +1,42 @@
--- The last loop gives every edge its byte, and the bytes are the rulings: for whatever multipliers and ceiling the charges and the slack
--- stand for. Assumes nothing.
-use mathlib.Core.Path.{_≡_, refl, _∙_, sym, ap}
-use mathlib.Core.Logic.{_⊎_, inl, inr}
+-- The loops over the edges, over the labels and again over the edges give every edge its byte, and the bytes are the rulings: for whatever
+-- multipliers and ceiling the charges and the slack stand for. Assumes nothing.
+use mathlib.Core.Path.{_≡_, refl, _∙_, sym, ap, subst}
+use mathlib.Core.Logic.{_≢_, _⊎_, inl, inr}
 use mathlib.Core.Bool.{cond}
 use mathlib.Core.List.{List}
 use Prim.Native.Nat.{ℕ, zero, suc, _<_, _≤_}
 use native.Mathlib.Omega.{arith}
 use native.Mathlib.Decide.{ℕ-discrete}
 use lib.ListN.{getD}
-use lib.Dec.{eqb, ltb}
+use lib.Dec.{eqb}
 use lib.IntN.{ℤ}
-use borrow.Author.Tests.{eq-eqb, ne-eqb, lt-ltb, le-ltb}
 use Rattle.lists.specs.Numbers.{upTo}
 use Rattle.lists.specs.Members.{_∈_}
 use Rattle.graph.specs.declared.Graph.{Graph}
 use Rattle.graph.specs.Network.{network}
-use Rattle.graph.specs.Places.{network-a, network-b}
+use Rattle.graph.specs.Valid.{Valid}
+use Rattle.onetree.specs.OneTree.{OneTree}
 use Rattle.onetree.specs.Enumeration.{ruling}
 use Rattle.onetree.specs.Rulings.{rules-required, rules-excluded}
 use Rattle.onetree.specs.Inputs.{multiplier}
 use Rattle.onetree.specs.Answers.{rulingByte}
-use Rattle.onetree.specs.Arrays.{of-edge, mark-required, mark-excluded}
+use Rattle.onetree.specs.Arrays.{bytes, of-edge, mark-required, mark-excluded}
 use Rattle.onetree.specs.Extremes.{Least}
 use Rattle.onetree.specs.Filled.{Updated}
-use Rattle.onetree.specs.Visiting.{edgeAt, parentAt, depthAt}
-use Rattle.onetree.specs.Rooted.{Joins}
-use Rattle.onetree.specs.RootedTree.{edgeOver}
-use Rattle.onetree.specs.Swaps.{aAt, bAt, markAt, Below, over-all}
+use Rattle.onetree.specs.Visiting.{Rooting, edgeAt}
+use Rattle.onetree.specs.RootedTree.{RootedIn}
+use Rattle.onetree.specs.Swaps.{aAt, markAt, Below, over-in, over-once, over-all}
 use Rattle.onetree.specs.Verdicts.{noCharge, chargeAt, Comes, forceByte, Judgement, out-byte, in-byte}
-use Rattle.onetree.specs.Candidates.{NearOut, near-comes, far-comes}
+use Rattle.onetree.specs.Candidates.{near-comes, far-comes}
 use Rattle.onetree.specs.Judging.{Ready, Judged, Barring}
-use Rattle.onetree.specs.declared.rooted.Rooting.{Rooting}
+use Rattle.onetree.specs.Forcing.{OneEach, Forcing}
 
--- the charge of the cheapest edge that may come in for the tree's edge from a to b
-unfoldable pub lowOf : ℕ → ℕ → List ℕ → List ℕ → ℕ → ℕ
-lowOf a b depth cheapest near =
-    cond (eqb a 1) near (cond (ltb (getD depth a 0) (getD depth b 0)) (getD cheapest b 0) (getD cheapest a 0))
+-- "3 already required, 4 already struck"; else what stands there
+unfoldable pub rulingOf : ℕ → ℕ → ℕ
+rulingOf mark old = cond (eqb mark 1) 3 (cond (eqb mark 2) 4 old)
 
--- "3 already required, 4 already struck"; else by whether it is in the tree
-unfoldable pub rulingOf : ℕ → ℕ → ℕ → ℕ → ℕ → ℕ → ℕ
-unfolding forceByte
-rulingOf mark x low c slack old = cond (eqb mark 1) 3 (cond (eqb mark 2) 4 (cond (eqb x 1) (forceByte low c slack) old))
-
-abbrev pub finalAt : List ℕ → List ℕ → List ℕ → List ℕ → List ℕ → ℕ → List ℕ → List ℕ → List ℕ → ℕ → ℕ → ℕ
-finalAt a b mark w c slack depth cheapest out near k =
-    rulingOf (getD mark k 0) (getD w k 0) (lowOf (getD a k 0) (getD b k 0) depth cheapest near) (chargeAt c k) slack (getD out k 0)
+abbrev pub finalAt : List ℕ → List ℕ → ℕ → ℕ
+finalAt mark out k = rulingOf (getD mark k 0) (getD out k 0)
 
 -- every edge's byte is its ruling's, and past the edges there is 0
 pub record RuledBy (g : Graph) (w c : List ℕ) (slack : ℕ) (res : List ℕ) : Type 0 where
@@ -58,74 +50,68 @@ mark-cases (suc zero) h = inr (inl refl)
 mark-cases (suc (suc zero)) h = inr (inr refl)
 mark-cases (suc (suc (suc x))) h = absurd (omega arith)
 
-module _ (g : Graph) (w c : List ℕ) (r : Rooting) (weight : List ℕ) (dearest near : ℕ) (ready : Ready g w c r weight dearest)
-    (cheap : Least (NearOut (g .a) (g .mark) w) (chargeAt c) noCharge (g .m) near) (slack : ℕ) (out rep : List ℕ)
-    (h : Judged g w c r slack out rep (g .m)) where
-  -- the cheapest that may come in for a free edge of the tree
-  comes : (k : ℕ) → k < g .m → getD w k 0 ≡ 1 → markAt g k ≡ 0
-      → Least (Comes g w r k) (chargeAt c) noCharge (g .m) (lowOf (aAt g k) (bAt g k) (r .depth) rep near)
-  unfolding lowOf
-  comes k hk wk free = go (ℕ-discrete (aAt g k) 1)
-    where
-      go : Dec (aAt g k ≡ 1) → Least (Comes g w r k) (chargeAt c) noCharge (g .m) (lowOf (aAt g k) (bAt g k) (r .depth) rep near)
-      go (yes one) = rw (eq-eqb (aAt g k) 1 one) (near-comes g w c r k one free near cheap)
-      go (no away) = rw (ne-eqb (aAt g k) 1 away, child (ready .rooted .ends (u .0) (u .1)))
-          (far-comes g (ready .valid) w c (ready .tree) r (ready .rooted) k away free (u .0) (getD rep (u .0) 0) (u .1) (u .2)
-          (h .least (u .0) (u .1)))
+-- the edges above the labels have places, each another
+pub one-each : (g : Graph) → Valid g → (w : List ℕ) → OneTree (network g) (bytes w) → (rep : List ℕ) (r : Rooting) → RootedIn g w rep r
+    → OneEach (Below r) (r .edge)
+unfolding network
+one-each g v w o rep r t = record {
+  small = λ u i. omega (arith, t .only u (i .1), v .high);
+  room = λ u i. omega (arith, over-in g v w o rep r t u i .0, v .few);
+  once = over-once g v w o rep r t;
+}
+
+module _ (g : Graph) (w c rep : List ℕ) (r : Rooting) (weight : List ℕ) (dearest near : ℕ) (ready : Ready g w c rep r weight dearest near)
+    (slack : ℕ) (out lows : List ℕ) (h : Judged g w c rep r near slack out lows (g .m)) where
+  -- the edge above a label
+  over : (v : ℕ) → Below r v → (edgeAt r v < g .m) × (getD w (edgeAt r v) 0 ≡ 1) × (aAt g (edgeAt r v) ≢ 1) × (markAt g (edgeAt r v) ≡ 0)
+  over = over-in g (ready .valid) w (ready .tree) rep r (ready .rooted)
+
+  module _ (mid : List ℕ) (f : Forcing (Below r) c (r .edge) lows slack out mid) where
+    -- an edge that is above no label keeps its byte
+    kept : (k : ℕ) → ((v : ℕ) → Below r v → edgeAt r v ≢ k) → getD mid k 0 ≡ getD out k 0
+    kept k none = f .rest k none
+
+    module _ (d : List ℤ) (z : ℤ) (j : Judgement g w c slack d z) (k : ℕ) (hk : k < g .m) where
+      -- a free edge has its byte before the last loop
+      free-byte : markAt g k ≡ 0 → getD mid k 0 ≡ rulingByte (ruling (network g) (multiplier d) z (suc k))
+      unfolding network
+      free-byte free = go (ℕ-discrete (getD w k 0) 1) (ℕ-discrete (aAt g k) 1)
         where
-          u : (x : ℕ) × Below r x × (edgeAt r x ≡ k)
-          u = over-all g (ready .valid) w (ready .tree) r (ready .rooted) k hk wk away free
+          inside : (low : ℕ) → getD w k 0 ≡ 1 → Least (Comes g w rep r k) (chargeAt c) noCharge (g .m) low
+              → forceByte low (chargeAt c k) slack ≡ rulingByte (ruling (network g) (multiplier d) z (suc k))
+          inside low e l = sym (in-byte g (ready .valid) w c rep r (ready .rooted) slack d z j k hk free e low l)
 
-          deep : depthAt r (u .0) ≡ suc (depthAt r (parentAt r (u .0)))
-          deep = ready .rooted .hangs .deep (u .0) (u .1)
+          go : Dec (getD w k 0 ≡ 1) → Dec (aAt g k ≡ 1) → getD mid k 0 ≡ rulingByte (ruling (network g) (multiplier d) z (suc k))
+          go (no e) o = kept k (λ v i q. e (subst (λ (x : ℕ). getD w x 0 ≡ 1) q (over v i .1)))
+              ∙ q .2 ∙ sym (out-byte g (ready .valid) w c rep r (ready .rooted) slack d z j k hk free e (q .0) (q .1))
+            where
+              q : Barring g w c rep r slack k (getD out k 0)
+              q = h .bars k hk e free
+          go (yes e) (yes one) = kept k (λ v i q. over v i .2 (subst (λ (x : ℕ). aAt g x ≡ 1) (sym q) one))
+              ∙ h .forces k hk one e free ∙ inside near e (near-comes g w c rep r k one free near (ready .one .cheap))
+          go (yes e) (no away) = rw (u .2) at (f .done (u .0) (u .1))
+              ∙ inside (getD lows (u .0) 0) e (far-comes g (ready .valid) w c (ready .tree) rep r (ready .rooted) k away free (u .0)
+              (getD lows (u .0) 0) (u .1) (u .2) (h .least (u .0) (u .1)))
+            where
+              u : (x : ℕ) × Below r x × (edgeAt r x ≡ k)
+              u = over-all g (ready .valid) w (ready .tree) rep r (ready .rooted) k hk e away free
 
-          a-is : network g .a (edgeOver r (u .0)) ≡ aAt g k
-          a-is = ap (λ (i : ℕ). network g .a (suc i)) (u .2) ∙ network-a g k hk
+      final : finalAt (g .mark) mid k ≡ rulingByte (ruling (network g) (multiplier d) z (suc k))
+      unfolding rulingOf network
+      final = go (mark-cases (markAt g k) (ready .valid .each k hk .known))
+        where
+          mk : suc k ∈ upTo (g .m)
+          mk = of-edge (g .m) k hk
 
-          b-is : network g .b (edgeOver r (u .0)) ≡ bAt g k
-          b-is = ap (λ (i : ℕ). network g .b (suc i)) (u .2) ∙ network-b g k hk
+          go : (markAt g k ≡ 0) ⊎ ((markAt g k ≡ 1) ⊎ (markAt g k ≡ 2))
+              → finalAt (g .mark) mid k ≡ rulingByte (ruling (network g) (multiplier d) z (suc k))
+          go (inl e) = rw e (free-byte e)
+          go (inr (inl e)) = rw e (sym (ap rulingByte (rules-required (network g) (multiplier d) z (suc k) mk (mark-required g k hk e))))
+          go (inr (inr e)) = rw e (sym (ap rulingByte (rules-excluded (network g) (multiplier d) z (suc k) mk (mark-excluded g k hk e))))
 
-          -- the deeper end is the vertex below the edge
-          child : Joins (network g) (edgeOver r (u .0)) (u .0) (parentAt r (u .0))
-              → cond (ltb (depthAt r (aAt g k)) (depthAt r (bAt g k))) (getD rep (bAt g k) 0) (getD rep (aAt g k) 0) ≡ getD rep (u .0) 0
-          child (inl p) =
-              let a : aAt g k ≡ u .0 = sym a-is ∙ p .0 in
-              let b : bAt g k ≡ parentAt r (u .0) = sym b-is ∙ p .1 in
-              rw (a, b, le-ltb (depthAt r (u .0)) (depthAt r (parentAt r (u .0))) (omega (arith, deep)))
-          child (inr p) =
-              let a : aAt g k ≡ parentAt r (u .0) = sym a-is ∙ p .0 in
-              let b : bAt g k ≡ u .0 = sym b-is ∙ p .1 in
-              rw (a, b, lt-ltb (depthAt r (parentAt r (u .0))) (depthAt r (u .0)) (omega (arith, deep)))
-
-  module _ (d : List ℤ) (z : ℤ) (j : Judgement g w c slack d z) (k : ℕ) (hk : k < g .m) where
-    final : finalAt (g .a) (g .b) (g .mark) w c slack (r .depth) rep out near k ≡ rulingByte (ruling (network g) (multiplier d) z (suc k))
-    unfolding rulingOf network
-    final = go (mark-cases (markAt g k) (ready .valid .each k hk .known))
-      where
-        mk : suc k ∈ upTo (g .m)
-        mk = of-edge (g .m) k hk
-
-        byTree : markAt g k ≡ 0 → Dec (getD w k 0 ≡ 1)
-            → finalAt (g .a) (g .b) (g .mark) w c slack (r .depth) rep out near k ≡ rulingByte (ruling (network g) (multiplier d) z (suc k))
-        byTree free (yes e) = rw (free, eq-eqb (getD w k 0) 1 e)
-            (sym (in-byte g (ready .valid) w c r (ready .rooted) slack d z j k hk free e
-            (lowOf (aAt g k) (bAt g k) (r .depth) rep near) (comes k hk e free)))
-        byTree free (no e) = rw (free, ne-eqb (getD w k 0) 1 e)
-            (q .2 ∙ sym (out-byte g (ready .valid) w c r (ready .rooted) slack d z j k hk free e (q .0) (q .1)))
-          where
-            q : Barring g w c r slack k (getD out k 0)
-            q = h .bars k hk e free
-
-        go : (markAt g k ≡ 0) ⊎ ((markAt g k ≡ 1) ⊎ (markAt g k ≡ 2))
-            → finalAt (g .a) (g .b) (g .mark) w c slack (r .depth) rep out near k ≡ rulingByte (ruling (network g) (multiplier d) z (suc k))
-        go (inl e) = byTree e (ℕ-discrete (getD w k 0) 1)
-        go (inr (inl e)) = rw e (sym (ap rulingByte (rules-required (network g) (multiplier d) z (suc k) mk (mark-required g k hk e))))
-        go (inr (inr e)) = rw e (sym (ap rulingByte (rules-excluded (network g) (multiplier d) z (suc k) mk (mark-excluded g k hk e))))
-
-  -- THE RULINGS
-  pub ruled-by : (res : List ℕ) → Updated (finalAt (g .a) (g .b) (g .mark) w c slack (r .depth) rep out near) out res (g .m)
-      → RuledBy g w c slack res
-  ruled-by res f = record {
-    each = λ d z j k hk. f .done k hk ∙ final d z j k hk;
-    past = λ k l. f .rest k l ∙ h .rest k l;
-  }
+    -- THE RULINGS
+    pub ruled-by : (res : List ℕ) → Updated (finalAt (g .mark) mid) mid res (g .m) → RuledBy g w c slack res
+    ruled-by res u = record {
+      each = λ d z j k hk. u .done k hk ∙ final d z j k hk;
+      past = λ k l. u .rest k l ∙ kept k (λ v i q. omega (arith, over v i .0)) ∙ h .rest k l;
+    }

@@ -27,9 +27,9 @@ use Rattle.onetree.specs.Arrays.{entry, bytes, edge-of, of-edge, mark-fr
 use Rattle.onetree.specs.Charged.{Charged, offset, offs}
 use Rattle.onetree.specs.Extremes.{Largest, Least, Taken}
 use Rattle.onetree.specs.Slack.{SlackIs, barred-slack, forced-slack, not-barred-in, not-forced-out}
+use Rattle.onetree.specs.Visiting.{Rooting}
 use Rattle.onetree.specs.RootedTree.{RootedIn}
 use Rattle.onetree.specs.Swaps.{Swaps, markAt, swaps-may, may-swaps}
-use Rattle.onetree.specs.declared.rooted.Rooting.{Rooting}
 
 -- a charge that no edge has, for 'there is none'
 abbrev pub noCharge : ℕ
@@ -39,12 +39,12 @@ abbrev pub chargeAt : List ℕ → ℕ → ℕ
 chargeAt c k = getD c k 0
 
 -- the edge at place i may give way to the one at place k, outside the tree
-abbrev pub Gives : Graph → List ℕ → Rooting → ℕ → ℕ → Type 0
-Gives g w r k i = (getD w i 0 ≡ 1) × Swaps g r i k
+abbrev pub Gives : Graph → List ℕ → List ℕ → Rooting → ℕ → ℕ → Type 0
+Gives g w rep r k i = (getD w i 0 ≡ 1) × Swaps g rep r i k
 
 -- the edge at place i may come in for the one at place k, in the tree
-abbrev pub Comes : Graph → List ℕ → Rooting → ℕ → ℕ → Type 0
-Comes g w r k i = (getD w i 0 ≢ 1) × Swaps g r k i
+abbrev pub Comes : Graph → List ℕ → List ℕ → Rooting → ℕ → ℕ → Type 0
+Comes g w rep r k i = (getD w i 0 ≢ 1) × Swaps g rep r k i
 
 -- an edge at charge c is barred if nothing may give way, or if even the dearest leaves it above the slack
 unfoldable pub barByte : ℕ → ℕ → ℕ → ℕ
@@ -81,7 +81,7 @@ pub record Judgement (g : Graph) (w c : List ℕ) (slack : ℕ) (d : List ℤ) (
   pub within : SlackIs z (bound (network g) (multiplier d) (bytes w)) slack
   pub small : slack ≤ 1000000000
 
-module _ (g : Graph) (v : value.Valid g) (w c : List ℕ) (r : Rooting) (t : RootedIn g w r) (slack : ℕ) (d : List ℤ) (z : ℤ)
+module _ (g : Graph) (v : value.Valid g) (w c rep : List ℕ) (r : Rooting) (t : RootedIn g w rep r) (slack : ℕ) (d : List ℤ) (z : ℤ)
     (j : Judgement g w c slack d z) (k : ℕ) (hk : k < g .m) (free : markAt g k ≡ 0) where
   mk : suc k ∈ upTo (g .m)
   mk = of-edge (g .m) k hk
@@ -103,7 +103,7 @@ module _ (g : Graph) (v : value.Valid g) (w c : List ℕ) (r : Rooting) (t : Roo
         z slack (j .within) (suc k) mk (out wk)
 
     -- OUTSIDE THE TREE
-    pub out-byte : (top : ℕ) → Largest (Gives g w r k) (chargeAt c) (g .m) top
+    pub out-byte : (top : ℕ) → Largest (Gives g w rep r k) (chargeAt c) (g .m) top
         → rulingByte (ruling (network g) (multiplier d) z (suc k)) ≡ barByte top (chargeAt c k) slack
     unfolding network
     out-byte top l = go (bar-cases top (chargeAt c k) slack)
@@ -123,20 +123,20 @@ module _ (g : Graph) (v : value.Valid g) (w c : List ℕ) (r : Rooting) (t : Roo
                 wi : getD w (n .0) 0 ≡ 1
                 wi = eqb-true (getD w (n .0) 0) 1 (subst (λ (x : ℕ). bytes w x ≡ true) (n .2) i)
 
-                may : Swaps g r (n .0) k
-                may = may-swaps g v w (j .least .tree) r t (n .0) k (n .1) hk wi wk
+                may : Swaps g rep r (n .0) k
+                may = may-swaps g v w (j .least .tree) rep r t (n .0) k (n .1) hk wi wk
                     (subst (λ (x : ℕ). MaySwap (network g) (bytes w) x (suc k)) (n .2) s)
 
         open′ : 1 ≤ top → chargeAt c k ≤ top + slack → ¬ Barred (network g) (multiplier d) z (suc k)
         open′ some near b = no-way (l .best)
           where
-            no-way : Taken (Gives g w r k) (chargeAt c) 0 (g .m) top → ⊥
+            no-way : Taken (Gives g w rep r k) (chargeAt c) 0 (g .m) top → ⊥
             no-way (inl e) = omega arith
             no-way (inr q) = omega (
               arith,
               q .3,
               barred .0 b (suc (q .0)) (of-edge (g .m) (q .0) (q .1)) (eq-eqb (getD w (q .0) 0) 1 (q .2 .0))
-                  (swaps-may g v w (j .least .tree) r t (q .0) k (q .1) hk (q .2 .0) wk (q .2 .1)),
+                  (swaps-may g v w (j .least .tree) rep r t (q .0) k (q .1) hk (q .2 .0) wk (q .2 .1)),
             )
 
         go : ((barByte top (chargeAt c k) slack ≡ 2) × ((top ≡ 0) ⊎ (top + slack < chargeAt c k)))
@@ -164,7 +164,7 @@ module _ (g : Graph) (v : value.Valid g) (w c : List ℕ) (r : Rooting) (t : Roo
         z slack (j .within) (suc k) mk in-tree
 
     -- IN THE TREE
-    pub in-byte : (low : ℕ) → Least (Comes g w r k) (chargeAt c) noCharge (g .m) low
+    pub in-byte : (low : ℕ) → Least (Comes g w rep r k) (chargeAt c) noCharge (g .m) low
         → rulingByte (ruling (network g) (multiplier d) z (suc k)) ≡ forceByte low (chargeAt c k) slack
     unfolding network
     in-byte low l = go (force-cases low (chargeAt c k) slack)
@@ -179,20 +179,20 @@ module _ (g : Graph) (v : value.Valid g) (w c : List ℕ) (r : Rooting) (t : Roo
                 wi : getD w (n .0) 0 ≢ 1
                 wi = eqb-false (getD w (n .0) 0) 1 (subst (λ (x : ℕ). bytes w x ≡ false) (n .2) i)
 
-                may : Swaps g r k (n .0)
-                may = may-swaps g v w (j .least .tree) r t k (n .0) hk (n .1) wk wi
+                may : Swaps g rep r k (n .0)
+                may = may-swaps g v w (j .least .tree) rep r t k (n .0) hk (n .1) wk wi
                     (subst (λ (x : ℕ). MaySwap (network g) (bytes w) (suc k) x) (n .2) s)
 
         loose : low ≤ chargeAt c k + slack → ¬ Forced (network g) (multiplier d) z (suc k)
         loose near f = no-way (l .best)
           where
-            no-way : Taken (Comes g w r k) (chargeAt c) noCharge (g .m) low → ⊥
+            no-way : Taken (Comes g w rep r k) (chargeAt c) noCharge (g .m) low → ⊥
             no-way (inl e) = omega (arith, j .charged k hk .high, j .small)
             no-way (inr q) = omega (
               arith,
               q .3,
               forced .0 f (suc (q .0)) (of-edge (g .m) (q .0) (q .1)) (ne-eqb (getD w (q .0) 0) 1 (q .2 .0))
-                  (swaps-may g v w (j .least .tree) r t k (q .0) hk (q .1) wk (q .2 .0) (q .2 .1)),
+                  (swaps-may g v w (j .least .tree) rep r t k (q .0) hk (q .1) wk (q .2 .0) (q .2 .1)),
             )
 
         go : ((forceByte low (chargeAt c k) slack ≡ 1) × (chargeAt c k + slack < low))

@@ -12,7 +12,12 @@ use lib.Seq.{getD-set-same, getD-set-other}
 use Rattle.lists.specs.Rows.{zeros}
 use Rattle.onetree.specs.Grid.{cell}
 use Rattle.onetree.specs.TreeTable.{listed}
-use Rattle.onetree.specs.declared.rooted.Rooting.{Rooting}
+
+-- the vertex above each vertex, how deep it hangs (0: nowhere yet) and the place of the edge to the vertex above
+pub record Rooting : Type 0 where
+  pub parent : List ℕ
+  pub depth : List ℕ
+  pub edge : List ℕ
 
 abbrev pub rooting : List ℕ → List ℕ → List ℕ → Rooting
 rooting parent depth edge = record { parent = parent; depth = depth; edge = edge }
@@ -51,9 +56,13 @@ leads-more a b n n′ x k h l = record { room = l .room; joins = l .joins; among
 abbrev pub Leading : List ℕ → List ℕ → ℕ → ℕ → List ℕ → Type 0
 Leading a b n x row = (i : ℕ) → getD row i 0 ≢ 0 → Leads a b n x (getD row i 0 - 1)
 
+-- the list of x, in a table of the lists of all
+abbrev pub rowOf : List (List ℕ) → ℕ → List ℕ
+rowOf t x = getD t (x - 1) []
+
 -- the lists are fit to be walked
 pub record Rows (a b : List ℕ) (n : ℕ) (t : List (List ℕ)) : Type 0 where
-  pub leading : (x : ℕ) → 1 ≤ x → Leading a b n x (getD t (x - 1) [])
+  pub leading : (x : ℕ) → 1 ≤ x → Leading a b n x (rowOf t x)
   pub stops : (x : ℕ) → 1 ≤ x → listed t x 19 ≡ 0
 
 -- a vertex hangs when it has a depth; the root hangs on nothing
@@ -171,12 +180,15 @@ left-less (suc x ∷ l) zero d h e = absurd (let z : suc x ≡ 0 = e in omega ar
 left-less (zero ∷ l) (suc i) d h e = ap suc (left-less l i d (omega arith) e)
 left-less (suc x ∷ l) (suc i) d h e = left-less l i d (omega arith) e
 
+-- the queue has every vertex that hangs, and the root before all others
 pub record Lined (depth queue : List ℕ) (count : ℕ) : Type 0 where
   pub long : length queue ≡ 21
   pub bound : (v : ℕ) → getD depth v 0 ≤ count
   pub hangs : (j : ℕ) → j < count → 1 ≤ getD depth (getD queue j 0) 0
   pub each : (v : ℕ) → 1 ≤ getD depth v 0 → (j : ℕ) × (j < count) × (getD queue j 0 ≡ v)
   pub room : count + left depth ≡ 21
+  pub first : (1 ≤ count) × (getD queue 0 0 ≡ 2)
+  pub others : (j : ℕ) → 1 ≤ j → j < count → getD queue j 0 ≢ 2
 
 pub lined-root : Lined (alone .depth) (set (replicate 21 0) 0 2) 1
 unfolding left
@@ -186,6 +198,8 @@ lined-root = record {
   hangs = λ j l. hangsAt j l;
   each = λ v l. (0, omega arith, sym (only-two v l));
   room = refl;
+  first = (omega arith, refl);
+  others = λ j l h. absurd (omega arith);
 }
   where
     boundAt : (v : ℕ) → Dec (v ≡ 2) → depthAt alone v ≤ 1
@@ -208,6 +222,8 @@ module _ (depth queue : List ℕ) (count y d : ℕ) (long : length depth ≡ 21)
     hangs = λ j l. hangsAt j l (ℕ-discrete j count);
     each = λ v l. eachAt v l (ℕ-discrete v y);
     room = omega (arith, h .room, left-less depth y d (omega arith) hy);
+    first = (omega arith, getD-set-other queue count 0 y 0 (λ q. omega (arith, h .first .0)) ∙ h .first .1);
+    others = λ j i l. othersAt j i l (ℕ-discrete j count);
   }
     where
       new : getD (set depth y (suc d)) y 0 ≡ suc d
@@ -227,6 +243,14 @@ module _ (depth queue : List ℕ) (count y d : ℕ) (long : length depth ≡ 21)
       hangsAt j l (yes q) = rw (q, last, new) (omega arith)
       hangsAt j l (no q) = rw (getD-set-other queue count j y 0 q) (still (getD queue j 0) (h .hangs j (omega arith)))
 
+      -- the root hangs
+      not-root : y ≢ 2
+      not-root q = omega (arith, rw (h .first .1) at (h .hangs 0 (h .first .0)), ap (λ (z : ℕ). getD depth z 0) q)
+
+      othersAt : (j : ℕ) → 1 ≤ j → j < count + 1 → Dec (j ≡ count) → getD (set queue count y) j 0 ≢ 2
+      othersAt j i l (yes q) = rw (q, last) not-root
+      othersAt j i l (no q) = rw (getD-set-other queue count j y 0 q) (h .others j i (omega arith))
+
       eachAt : (v : ℕ) → 1 ≤ getD (set depth y (suc d)) v 0 → Dec (v ≡ y)
           → (j : ℕ) × (j < count + 1) × (getD (set queue count y) j 0 ≡ v)
       eachAt v l (yes q) = (count, omega arith, last ∙ sym q)
@@ -240,6 +264,7 @@ module _ (depth queue : List ℕ) (count y d : ℕ) (long : length depth ≡ 21)
 pub record Leaving (a b row : List ℕ) (x : ℕ) (r : Rooting) (queue : List ℕ) (count : ℕ) : Type 0 where
   pub long : (length (r .parent) ≡ 21) × (length (r .depth) ≡ 21) × (length (r .edge) ≡ 21)
   pub lined : Lined (r .depth) queue count
+  pub low : 1 ≤ x
   pub small : x < 21
   pub hangs : 1 ≤ depthAt r x
   pub leading : Leading a b 20 x row
@@ -253,7 +278,7 @@ pub record Visited (a b row : List ℕ) (x : ℕ) (r : Rooting) (queue : List �
   pub old : (j : ℕ) → j < count → getD queue′ j 0 ≡ getD queue j 0
   pub same : (v : ℕ) → 1 ≤ depthAt r v → depthAt s v ≡ depthAt r v
   pub all : (j : ℕ) → j < i → 1 ≤ depthAt s (opposite a b x (getD row j 0 - 1))
-  pub kept : (t : List (List ℕ)) (n : ℕ) → getD t (x - 1) [] ≡ row → Leading a b n x row → Hung a b t n r → Hung a b t n s
+  pub kept : (t : List (List ℕ)) (n : ℕ) → rowOf t x ≡ row → Leading a b n x row → Hung a b t n r → Hung a b t n s
 
 -- at the end
 abbrev pub Left : List ℕ → List ℕ → List ℕ → ℕ → Rooting → List ℕ → ℕ → Rooting → List ℕ → ℕ → Type 0
@@ -298,10 +323,10 @@ module _ (a b row : List ℕ) (x : ℕ) (r : Rooting) (queue : List ℕ) (count 
       pub visited-room : count′ < 21
       visited-room = lined-room (s .depth) queue′ count′ y 0 (w .long .1) (w .lined) hy ly
 
-      pub visited-hang : Visited a b row x r queue count
-          (hungOn s x y (depthAt r x + 1) (getD row i 0 - 1)) (set queue′ count′ y) (count′ + 1) (i + 1)
+      pub visited-hang : (k : ℕ) → k ≡ getD row i 0 - 1 → Visited a b row x r queue count
+          (hungOn s x y (depthAt r x + 1) k) (set queue′ count′ y) (count′ + 1) (i + 1)
       unfolding cell
-      visited-hang = record {
+      visited-hang k place = rw place (record {
         long = (
           length-set (s .parent) y x ∙ w .long .0,
           length-set (s .depth) y (depthAt r x + 1) ∙ w .long .1,
@@ -317,7 +342,7 @@ module _ (a b row : List ℕ) (x : ℕ) (r : Rooting) (queue : List ℕ) (count 
             let q = w .same x (l .hangs) in
             hung-on a b t n s x y (depthAt r x + 1) (getD row i 0 - 1) (w .kept t n e d h) (omega (arith, q, l .hangs)) hy
             (rw ey (d i f .among)) ly (i, ap (λ (u : List ℕ). getD u i 0) e ∙ omega arith) (rw ey (d i f .joins)) (omega (arith, q));
-      }
+      })
         where
           new : depthAt (hungOn s x y (depthAt r x + 1) (getD row i 0 - 1)) y ≡ depthAt r x + 1
           new = getD-set-same (s .depth) y (depthAt r x + 1) 0 (omega (arith, w .long .1, ly))
@@ -335,7 +360,7 @@ Closed a b t depth queue i = (p j : ℕ) → p < i → ((q : ℕ) → q ≤ j �
 
 pub closed-more : (a b : List ℕ) (t : List (List ℕ)) (x : ℕ) (r : Rooting) (queue : List ℕ) (count : ℕ) (s : Rooting) (queue′ : List ℕ)
     (count′ i : ℕ) → i < count → x ≡ getD queue i 0 → Closed a b t (r .depth) queue i
-    → Left a b (getD t (x - 1) []) x r queue count s queue′ count′ → Closed a b t (s .depth) queue′ (i + 1)
+    → Left a b (rowOf t x) x r queue count s queue′ count′ → Closed a b t (s .depth) queue′ (i + 1)
 unfolding cell
 closed-more a b t x r queue count s queue′ count′ i li ex c (k, stop, w) p j h full = go (ℕ-discrete p i)
   where

@@ -1,17 +1,12 @@
 // Charged costs, each moved up by one offset so that it is unsigned, and the bound that a sum of them stands for.
 ghost use mathlib.Core.Path.{_≡_};
-ghost use mathlib.Core.Logic.{_≢_, _⊎_};
 ghost use Prim.Native.Nat.{ℕ, _+_, _*_, _<_, _≤_};
 ghost use lib.ListN.{length, getD};
 ghost use lib.IntN.{pos, _+ℤ_};
-ghost use Rattle.lists.specs.Select.{select};
-ghost use Rattle.lists.specs.Numbers.{upTo};
-ghost use Rattle.lists.specs.Weights.{weight};
 ghost use Rattle.integers.specs.Parts.{IsDiff};
 ghost use Rattle.integers.specs.Range.{InRange};
 ghost use Rattle.graph.specs.Limits.{maxCost, maxMultiplier, maxEdges, maxVertices};
 ghost use Rattle.onetree.specs.Inputs.{multiplier};
-ghost use Rattle.onetree.specs.Arrays.{entry, bytes};
 ghost use Rattle.onetree.specs.Multipliers.{Ranged};
 ghost use Rattle.onetree.specs.Charged.{offset, maxCharge};
 ghost use Rattle.onetree.specs.Charging.{Chargeable, ChargesOf, Raised};
@@ -61,31 +56,7 @@ pub(crate) fn charges<'a>(
     }
 }
 
-// What an edge with charge c adds to the sum.
-fn share(c: u32, x: u8) -> u32
-    ensures { λ r. ⌜ ((x ≡ 1) × (r ≡ c)) ⊎ ((x ≢ 1) × (r ≡ 0)) ⌝ }
-{
-    if x == 1 {
-        return c;
-    }
-    0
-}
-
-// The sum of the charges of the edges that are in: no branch in the loop, so that it goes many edges at a time.
-pub(crate) fn weigh<'a>(c: &'a [u32; 190], w: &'a [u8; 190], m: usize) -> u64
-    requires { ⌜ (m ≤ maxEdges) × ((k : ℕ) → k < m → getD (now c) k 0 ≤ maxCharge) ⌝ }
-    ensures { λ r. ⌜ (r ≡ weight (entry (now (c .entry))) (select (bytes (now (w .entry))) (upTo m))) × (r ≤ maxCharge * m) ⌝ }
-{
-    let mut sum: u64 = 0;
-    let mut k = 0;
-    while k < m {
-        sum = sum + long(share(c[k], w[k]));
-        k = k + 1;
-    }
-    sum
-}
-
-fn long(x: u32) -> u64
+pub(crate) fn long(x: u32) -> u64
     ensures { λ r. ⌜ r ≡ x ⌝ }
 {
     x as u64

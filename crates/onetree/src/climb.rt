@@ -17,14 +17,21 @@ pub(crate) fn greater(x: u32, y: u32) -> u32
     x
 }
 
+pub(crate) fn lesser(x: u32, y: u32) -> u32
+    ensures { λ r. ⌜ (r ≤ x) × (r ≤ y) × ((r ≡ x) ⊎ (r ≡ y)) ⌝ }
+{
+    if x < y {
+        return x;
+    }
+    y
+}
+
 // A replacement at c is offered to the edge above x: it keeps the cheapest.
 fn offer(cheapest: &mut [u32; 21], x: usize, c: u32)
     requires { ⌜ (x < 21) × (length (now cheapest) ≡ 21) ⌝ }
     ensures { λ _. ⌜ Offered (now (cheapest .entry)) c x (now (cheapest .exit)) ⌝ }
 {
-    if c < cheapest[x] {
-        cheapest[x] = c;
-    }
+    cheapest[x] = lesser(cheapest[x], c);
 }
 
 // The deeper of the two climbs, until they meet: the largest weight on the circle, and every edge on it is offered c.

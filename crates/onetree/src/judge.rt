@@ -94,6 +94,7 @@ pub(crate) fn judge<'a>(
         × Handed (r .any) (now (mark .entry)) m (now (order .exit)) (r .live) ⌝ }
 {
     let mut c = [0u32; 190];
+    let mut rep = [0u8; 21];
     let f = find(
         n,
         m,
@@ -106,6 +107,7 @@ pub(crate) fn judge<'a>(
         tree,
         &mut c,
         order,
+        &mut rep,
     );
     if !f.any {
         return nothing(tree, order);
@@ -115,7 +117,7 @@ pub(crate) fn judge<'a>(
         return nothing(tree, order);
     }
     let slack = slack_of(ceiling, lowest);
-    rulings(n, m, a, b, mark, tree, &c, slack, res);
+    rulings(n, m, a, b, mark, tree, &c, &rep, slack, res);
     Judged {
         any: true,
         bound: lowest,

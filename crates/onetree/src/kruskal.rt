@@ -1,29 +1,27 @@
 // The greedy choice: of the edges in order, the first two at vertex 1, and of the others each that joins two components.
 ghost use mathlib.Core.Path.{_≡_};
-ghost use mathlib.Core.Logic.{_≢_, _⊎_};
+ghost use mathlib.Core.Bool.{cond};
 ghost use Prim.Native.Nat.{ℕ, _+_, _%_, _<_, _≤_, min, max};
+ghost use lib.Dec.{eqb};
 ghost use lib.ListN.{length, getD};
 ghost use Rattle.lists.specs.Bools.{Says};
 ghost use Rattle.graph.specs.Limits.{maxEdges};
-ghost use Rattle.graph.specs.Network.{Network};
 ghost use Rattle.spanning.specs.Walks.{relabel};
-ghost use Rattle.onetree.specs.Answers.{blank};
-ghost use Rattle.onetree.specs.Keys.{queued};
-ghost use Rattle.onetree.specs.Growth.{Grew};
-ghost use Rattle.onetree.specs.Turn.{Joins, Reads};
-ghost use Rattle.onetree.specs.Kruskal.{KeptBy};
+ghost use Rattle.onetree.specs.Turn.{Joins, Turns};
+ghost use Rattle.onetree.specs.Required.{Small};
+use crate::charges::long;
 use crate::order::place;
 use crate::wide;
-use graph::REQUIRED;
 
-// What the greedy choice came to: how many edges at vertex 1 it met, and how many others it took.
+// What the greedy choice came to: how many edges at vertex 1 it met, how many others it took, and the sum of the charges of those taken.
 pub(crate) struct Grown {
     pub near: usize,
     pub far: usize,
+    pub sum: u64,
 }
 
 // Each vertex a component of its own. A component is labelled by its least vertex.
-fn labels() -> [u8; 21]
+pub(crate) fn labels() -> [u8; 21]
     ensures { λ r. ⌜ (length r ≡ 21) × ((v : ℕ) → v < 21 → getD r v 0 ≡ v) ⌝ }
 {
     let mut l = [0u8; 21];
@@ -47,7 +45,17 @@ fn greater(x: u8, y: u8) -> u8
     if x < y { y } else { x }
 }
 
-// The components labelled x and y become one, labelled by the smaller.
+// The label z where those that are high become low.
+fn relabelled(z: u8, low: u8, high: u8) -> u8
+    ensures { λ r. ⌜ r ≡ cond (eqb z high) low z ⌝ }
+{
+    if z == high {
+        return low;
+    }
+    z
+}
+
+// The components labelled x and y become one, labelled by the smaller. Every label is stored, so that the loop takes many at a time.
 fn join(l: &mut [u8; 21], x: u8, y: u8)
     requires { ⌜ length (now l) ≡ 21 ⌝ }
     ensures { λ _. ⌜ (length (now (l .exit)) ≡ 21)
@@ -57,45 +65,64 @@ fn join(l: &mut [u8; 21], x: u8, y: u8)
     let high = greater(x, y);
     let mut v = 0;
     while v < 21 {
-        if l[v] == high {
-            l[v] = low;
-        }
+        l[v] = relabelled(l[v], low, high);
         v = v + 1;
     }
 }
 
-// One byte an edge, into w, which is blank.
+// How many keys are of required edges, which come first: those below 256, as a free edge's charge is at least 1.
+pub(crate) fn required(keys: &[u32; 190], f: usize) -> usize
+    requires { ⌜ f ≤ maxEdges ⌝ }
+    ensures { λ r. ⌜ Small (now (keys .entry)) f r ⌝ }
+{
+    let mut i = 0;
+    while i < f {
+        if keys[i] >= 256 {
+            return i;
+        }
+        i = i + 1;
+    }
+    i
+}
+
+// From the key at `from` to that before `to`, onto what t says of those before: the labels l, and one byte an edge in w.
 pub(crate) fn grow<'a>(
     a: &'a [u8; 190],
     b: &'a [u8; 190],
+    c: &'a [u32; 190],
     keys: &'a [u32; 190],
-    f: usize,
+    from: usize,
+    to: usize,
+    t: Grown,
+    l: &mut [u8; 21],
     w: &mut [u8; 190],
 ) -> Grown
-    requires { ⌜ (f ≤ maxEdges) × ((i : ℕ) → i < f → Joins (now a) (now b) (getD (now keys) i 0 % 256)) × (now w ≡ blank) ⌝ }
-    ensures { λ r. ⌜ (r .far ≤ maxEdges) × (length (now (w .exit)) ≡ maxEdges)
-        × ((G : Network) → Reads G (now (a .entry)) (now (b .entry)) (now (keys .entry)) f
-        → Grew G (queued (now (keys .entry)) f) (now (w .exit)) (r .near) (r .far)) ⌝ }
+    requires { ⌜ (from ≤ to) × (to ≤ maxEdges) × ((i : ℕ) → i < to → Joins (now a) (now b) (now c) (getD (now keys) i 0 % 256))
+        × Turns (now a) (now b) (now c) (now keys) to from (now l) (now w) (t .near) (t .far) (t .sum) ⌝ }
+    ensures { λ r. ⌜ Turns (now (a .entry)) (now (b .entry)) (now (c .entry)) (now (keys .entry)) to to
+        (now (l .exit)) (now (w .exit)) (r .near) (r .far) (r .sum) ⌝ }
 {
-    let mut l = labels();
-    let mut near = 0;
-    let mut far = 0;
-    let mut i = 0;
-    while i < f {
+    let mut near = t.near;
+    let mut far = t.far;
+    let mut sum = t.sum;
+    let mut i = from;
+    while i < to {
         let k = place(keys[i]);
         let u = wide(a[k]);
         let v = wide(b[k]);
         if u == 1 {
             if near < 2 {
                 w[k] = 1;
+                sum = sum + long(c[k]);
             }
             near = near + 1;
         } else {
             let x = l[u];
             let y = l[v];
             if x != y {
-                join(&mut l, x, y);
+                join(l, x, y);
                 w[k] = 1;
+                sum = sum + long(c[k]);
                 far = far + 1;
             }
         }
@@ -104,45 +131,15 @@ pub(crate) fn grow<'a>(
     Grown {
         near: near,
         far: far,
+        sum: sum,
     }
 }
 
-// 1 for a required edge that was not taken, else 0.
-fn left_out(mark: u8, x: u8) -> u8
-    ensures { λ r. ⌜ ((r ≡ 0) × (mark ≡ 1 → x ≡ 1)) ⊎ ((r ≡ 1) × (mark ≡ 1) × (x ≢ 1)) ⌝ }
-{
-    if mark != REQUIRED {
-        return 0;
-    }
-    if x == 1 {
-        return 0;
-    }
-    1
-}
-
-// Was every required edge taken? Those left out are counted: without an early end the loop goes many edges at a time.
-fn kept<'a>(mark: &'a [u8; 190], m: usize, w: &'a [u8; 190]) -> bool
-    requires { ⌜ m ≤ maxEdges ⌝ }
-    ensures { λ r. ⌜ Says r (KeptBy (now (mark .entry)) m (now (w .entry))) ⌝ }
-{
-    let mut lost: u8 = 0;
-    for k in 0..m {
-        lost = lost + left_out(mark[k], w[k]);
-    }
-    lost == 0
-}
-
-// Is what was taken a 1-tree? met: how many edges at vertex 1 there were to choose from; far: how many others were taken.
-pub(crate) fn whole<'a>(
-    mark: &'a [u8; 190],
-    n: usize,
-    m: usize,
-    w: &'a [u8; 190],
-    met: usize,
-    far: usize,
-) -> bool
-    requires { ⌜ (m ≤ maxEdges) × (far ≤ maxEdges) ⌝ }
-    ensures { λ r. ⌜ Says r ((2 ≤ met) × (far + 2 ≡ n) × KeptBy (now (mark .entry)) m (now (w .entry))) ⌝ }
+// Is what was taken a 1-tree? met: how many edges at vertex 1 there were to choose from; far: how many others were taken. All r required
+// edges must be among those taken: `first` of them were met at vertex 1, where two are taken, and `joined` of the others were taken.
+pub(crate) fn whole(n: usize, r: usize, first: usize, joined: usize, met: usize, far: usize) -> bool
+    requires { ⌜ (first ≤ maxEdges) × (joined ≤ maxEdges) × (far ≤ maxEdges) ⌝ }
+    ensures { λ any. ⌜ Says any ((2 ≤ met) × (far + 2 ≡ n) × (first ≤ 2) × (first + joined ≡ r)) ⌝ }
 {
     if met < 2 {
         return false;
@@ -150,5 +147,11 @@ pub(crate) fn whole<'a>(
     if far + 2 != n {
         return false;
     }
-    kept(mark, m, w)
+    if first > 2 {
+        return false;
+    }
+    if first + joined != r {
+        return false;
+    }
+    true
 }

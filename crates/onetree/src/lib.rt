@@ -5,6 +5,7 @@ ghost use lib.ListN.{length};
 ghost use Rattle.lists.specs.Rows.{row};
 ghost use Rattle.graph.specs.Limits.{maxEdges};
 ghost use Rattle.graph.specs.Valid.{Valid, graphOf};
+ghost use Rattle.onetree.specs.Merges.{Merges};
 ghost use Rattle.onetree.specs.Arrays.{entry};
 ghost use Rattle.onetree.specs.Multipliers.{Ranged};
 ghost use Rattle.onetree.specs.Found.{FoundIs};
@@ -32,6 +33,7 @@ mod rulings;
 mod sort;
 
 use graph::Graph;
+use kruskal::Grown;
 pub use refusals::ceiling_fits;
 pub use refusals::multipliers_fit;
 pub use rulings::BAR;
@@ -78,7 +80,8 @@ pub(crate) fn wide(x: u8) -> usize
     x as usize
 }
 
-// The least 1-tree, one byte an edge, into w, and the order in which edges were looked at, both blank before; and the charges into c.
+// The least 1-tree, one byte an edge, into w, and the order in which edges were looked at, both blank before; the charges into c; and the
+// labels that required edges give the vertices into rep.
 pub(crate) fn find<'a>(
     n: usize,
     m: usize,
@@ -91,21 +94,31 @@ pub(crate) fn find<'a>(
     w: &mut [u8; 190],
     c: &mut [u32; 190],
     order: &mut [u8; 190],
+    rep: &mut [u8; 21],
 ) -> Found
     requires { ⌜ Valid (graphOf n m (now a) (now b) (now cost) (now mark)) × Ranged (now multipliers) × (length (now multipliers) ≡ n)
         × (now w ≡ blank) × (length (now c) ≡ maxEdges) × (now order ≡ blank) ⌝ }
     ensures { λ r. ⌜ FoundIs (graphOf n m (now (a .entry)) (now (b .entry)) (now (cost .entry)) (now (mark .entry)))
         (now (multipliers .entry)) (r .any) (r .bound) (now (w .exit)) (now (c .exit))
-        × (length (now (w .exit)) ≡ maxEdges) × Hinted (now (mark .entry)) m (now (order .exit)) (r .live) ⌝ }
+        × (length (now (w .exit)) ≡ maxEdges) × Hinted (now (mark .entry)) m (now (order .exit)) (r .live)
+        × Merges (graphOf n m (now (a .entry)) (now (b .entry)) (now (cost .entry)) (now (mark .entry))) (now (rep .exit)) ⌝ }
 {
     charges::charges(a, b, cost, m, multipliers, c);
     let mut ks = [0u32; 190];
     let f = order::order(mark, m, c, hint, &mut ks);
     order::places(&ks, f, order);
-    let t = kruskal::grow(a, b, &ks, f, w);
-    let any = kruskal::whole(mark, n, m, w, t.near, t.far);
-    let sum = charges::weigh(c, w, m);
-    let lowest = charges::bound(sum, n, charges::total(multipliers));
+    let r = kruskal::required(&ks, f);
+    let mut l = kruskal::labels();
+    let none = Grown {
+        near: 0,
+        far: 0,
+        sum: 0,
+    };
+    let first = kruskal::grow(a, b, c, &ks, 0, r, none, &mut l, w);
+    *rep = l;
+    let t = kruskal::grow(a, b, c, &ks, r, f, first, &mut l, w);
+    let any = kruskal::whole(n, r, first.near, first.far, t.near, t.far);
+    let lowest = charges::bound(t.sum, n, charges::total(multipliers));
     Found {
         any: any,
         bound: lowest,
@@ -148,6 +161,7 @@ pub fn tree(g: Graph, multipliers: &[i32], out: &mut [u8]) -> TreeAnswer
     let mut w = [0u8; 190];
     let mut c = [0u32; 190];
     let mut order = [0u8; 190];
+    let mut rep = [0u8; 21];
     let f = find(
         g.n,
         g.m,
@@ -160,6 +174,7 @@ pub fn tree(g: Graph, multipliers: &[i32], out: &mut [u8]) -> TreeAnswer
         &mut w,
         &mut c,
         &mut order,
+        &mut rep,
     );
     if !f.any {
         return TreeAnswer::NoTree;

@@ -1,10 +1,10 @@
 // Rulings by swaps with the least 1-tree: one tree, never a second one. Outside the tree an edge is judged against the dearest edge that
-// may give way to it, inside it against the cheapest that may come in for it.
+// may give way to it, inside it against the cheapest that may come in for it. A required edge never gives way, so vertices that required
+// edges join stand for one.
 ghost use mathlib.Core.Path.{_≡_};
-ghost use mathlib.Core.Bool.{_&&_, not};
-ghost use mathlib.Core.Logic.{_⊎_};
+ghost use mathlib.Core.Bool.{_&&_};
 ghost use mathlib.Core.List.{List};
-ghost use Prim.Native.Nat.{ℕ, _+_, _<_, _≤_};
+ghost use Prim.Native.Nat.{ℕ, _<_, _≤_};
 ghost use lib.Dec.{eqb};
 ghost use lib.IntN.{ℤ};
 ghost use lib.ListN.{length, getD, replicate};
@@ -12,13 +12,17 @@ ghost use Rattle.graph.specs.Limits.{maxEdges};
 ghost use Rattle.graph.specs.Valid.{graphOf};
 ghost use Rattle.onetree.specs.Answers.{blank};
 ghost use Rattle.onetree.specs.Spans.{Spans};
-ghost use Rattle.onetree.specs.Filled.{Filled, Updated};
+ghost use Rattle.onetree.specs.Merges.{Merges};
+ghost use Rattle.onetree.specs.Filled.{Updated};
+ghost use Rattle.onetree.specs.RootedTree.{labelOf};
 ghost use Rattle.onetree.specs.Verdicts.{noCharge, barByte, forceByte};
-ghost use Rattle.onetree.specs.Candidates.{weightOf, weightAt, NearIs};
-ghost use Rattle.onetree.specs.Judging.{Prepared, graphIn, rootingIn, Judged};
-ghost use Rattle.onetree.specs.Ruled.{lowOf, rulingOf, finalAt, RuledBy};
+ghost use Rattle.onetree.specs.Candidates.{BelowRoot, Weighed, NearIs};
+ghost use Rattle.onetree.specs.Judging.{Prepared, graphIn, rootingIn, nearByte, Judged};
+ghost use Rattle.onetree.specs.Forcing.{OneEach, Forcing};
+ghost use Rattle.onetree.specs.Ruled.{rulingOf, finalAt, RuledBy};
 use crate::climb::climb;
 use crate::climb::greater;
+use crate::climb::lesser;
 use crate::rooted::hang;
 use crate::rooted::table;
 use crate::wide;
@@ -44,15 +48,6 @@ const NONE: u32 = 4_000_000_000;
 pub(crate) struct Near {
     pub dearest: u32,
     pub cheapest: u32,
-}
-
-fn lesser(x: u32, y: u32) -> u32
-    ensures { λ r. ⌜ (r ≤ x) × (r ≤ y) × ((r ≡ x) ⊎ (r ≡ y)) ⌝ }
-{
-    if x < y {
-        return x;
-    }
-    y
 }
 
 fn free_at_one(a: u8, mark: u8) -> bool
@@ -91,27 +86,30 @@ fn near_one<'a>(
     }
 }
 
-// A required edge never gives way: it weighs nothing.
-fn weight_of(mark: u8, c: u32) -> u32
-    ensures { λ r. ⌜ r ≡ weightOf mark c ⌝ }
+// The label of one end of each edge, into r.
+fn labels<'a>(x: &'a [u8; 190], rep: &'a [u8; 21], m: usize, r: &mut [u8; 190])
+    requires { ⌜ (m ≤ maxEdges) × ((k : ℕ) → k < m → getD (now x) k 0 < 21) × (length (now r) ≡ maxEdges) ⌝ }
+    ensures { λ _. ⌜ Updated (λ k. labelOf (now (rep .entry)) (getD (now (x .entry)) k 0)) (now (r .entry)) (now (r .exit)) m ⌝ }
 {
-    if mark == REQUIRED {
-        return 0;
+    for k in 0..m {
+        r[k] = rep[wide(x[k])];
     }
-    c
 }
 
-// What the edge above each vertex weighs.
-fn weights<'a>(mark: &'a [u8; 190], c: &'a [u32; 190], edge: &'a [u8; 21], n: usize) -> [u32; 21]
-    requires { ⌜ (2 ≤ n) × (n ≤ 20) × ((v : ℕ) → 3 ≤ v → v ≤ n → getD (now edge) v 0 < 190) ⌝ }
-    ensures { λ r. ⌜ Filled (weightAt (now (mark .entry)) (now (c .entry)) (now (edge .entry))) 3 r (n + 1) ⌝ }
+// What the edge above each label of the queue is charged: there is none above the first, the root.
+fn weights<'a>(
+    c: &'a [u32; 190],
+    edge: &'a [u8; 21],
+    queue: &'a [u8; 21],
+    count: usize,
+) -> [u32; 21]
+    requires { ⌜ (1 ≤ count) × (count ≤ 21) × OneEach (BelowRoot (now queue) count) (now edge) ⌝ }
+    ensures { λ r. ⌜ Weighed (BelowRoot (now (queue .entry)) count) (now (c .entry)) (now (edge .entry)) r ⌝ }
 {
     let mut weight = [0u32; 21];
-    let mut v = 3;
-    while v <= n {
-        let k = wide(edge[v]);
-        weight[v] = weight_of(mark[k], c[k]);
-        v = v + 1;
+    for i in 1..count {
+        let v = wide(queue[i]);
+        weight[v] = c[wide(edge[v])];
     }
     weight
 }
@@ -137,20 +135,22 @@ fn force(low: u32, c: u32, slack: u32) -> u8
     KEEP
 }
 
-fn free_outside(x: u8, mark: u8) -> bool
-    ensures { λ r. ⌜ r ≡ not (eqb x 1) && eqb mark 0 ⌝ }
+// A free edge at vertex 1: in the tree against the cheapest that may come in, outside it against the dearest that may give way.
+fn at_one(w: u8, dearest: u32, near: u32, c: u32, slack: u32) -> u8
+    ensures { λ r. ⌜ r ≡ nearByte w dearest near c slack ⌝ }
 {
-    if x == 1 {
-        return false;
+    if w == 1 {
+        return force(near, c, slack);
     }
-    mark == FREE
+    bar(dearest, c, slack)
 }
 
-// Every free edge outside the tree, its ruling into res: at vertex 1 against the dearest there, elsewhere against the dearest on its
-// circle. And for each vertex the cheapest edge that can take the place of the one above it.
+// Every free edge at vertex 1 or outside the tree, its ruling into res: elsewhere than at vertex 1 against the dearest on its circle, from
+// the label of one end to that of the other. And for each label the cheapest edge that can take the place of the one above it.
 fn judge_outside<'a>(
     a: &'a [u8; 190],
-    b: &'a [u8; 190],
+    from: &'a [u8; 190],
+    to: &'a [u8; 190],
     mark: &'a [u8; 190],
     w: &'a [u8; 190],
     c: &'a [u32; 190],
@@ -159,46 +159,61 @@ fn judge_outside<'a>(
     weight: &'a [u32; 21],
     m: usize,
     dearest: u32,
+    near: u32,
     slack: u32,
     res: &mut [u8; 190],
     cheapest: &mut [u32; 21],
 )
-    requires { ⌜ Prepared m (now a) (now b) (now mark) (now w) (now c) (now parent) (now depth) (now weight) dearest
+    requires { ⌜ Prepared m (now a) (now from) (now to) (now mark) (now w) (now c) (now parent) (now depth) (now weight) dearest near
         × (now res ≡ blank) × (now cheapest ≡ replicate 21 noCharge) ⌝ }
-    ensures { λ _. ⌜ ((p : Prepared m (now (a .entry)) (now (b .entry)) (now (mark .entry)) (now (w .entry)) (now (c .entry))
-        (now (parent .entry)) (now (depth .entry)) (now (weight .entry)) dearest)
-        → Judged (graphIn p) (now (w .entry)) (now (c .entry)) (rootingIn p) slack (now (res .exit)) (now (cheapest .exit)) m) ⌝ }
+    ensures { λ _. ⌜ ((p : Prepared m (now (a .entry)) (now (from .entry)) (now (to .entry)) (now (mark .entry)) (now (w .entry))
+        (now (c .entry)) (now (parent .entry)) (now (depth .entry)) (now (weight .entry)) dearest near)
+        → Judged (graphIn p) (now (w .entry)) (now (c .entry)) (p .rep) (rootingIn p) near slack (now (res .exit)) (now (cheapest .exit))
+        m) ⌝ }
 {
     for k in 0..m {
-        if free_outside(w[k], mark[k]) {
-            let x = wide(a[k]);
-            let y = wide(b[k]);
-            if x == 1 {
-                res[k] = bar(dearest, c[k], slack);
-            } else {
-                let top = climb(parent, depth, weight, cheapest, x, y, c[k]);
+        if mark[k] == FREE {
+            if a[k] == 1 {
+                res[k] = at_one(w[k], dearest, near, c[k], slack);
+            } else if w[k] != 1 {
+                let top = climb(
+                    parent,
+                    depth,
+                    weight,
+                    cheapest,
+                    wide(from[k]),
+                    wide(to[k]),
+                    c[k],
+                );
                 res[k] = bar(top, c[k], slack);
             }
         }
     }
 }
 
-// The cheapest edge that can take the place of the tree's edge from a to b: it is the edge above the deeper of the two.
-fn low_of<'a>(a: usize, b: usize, depth: &'a [u8; 21], cheapest: &'a [u32; 21], near: u32) -> u32
-    requires { ⌜ (a < 21) × (b < 21) ⌝ }
-    ensures { λ r. ⌜ r ≡ lowOf a b (now (depth .entry)) (now (cheapest .entry)) near ⌝ }
+// The edge above each label of the queue but the root, its ruling into res: it is free and in the tree.
+fn inside<'a>(
+    c: &'a [u32; 190],
+    edge: &'a [u8; 21],
+    cheapest: &'a [u32; 21],
+    queue: &'a [u8; 21],
+    count: usize,
+    slack: u32,
+    res: &mut [u8; 190],
+)
+    requires { ⌜ (1 ≤ count) × (count ≤ 21) × OneEach (BelowRoot (now queue) count) (now edge) × (length (now res) ≡ maxEdges) ⌝ }
+    ensures { λ _. ⌜ Forcing (BelowRoot (now (queue .entry)) count) (now (c .entry)) (now (edge .entry)) (now (cheapest .entry)) slack
+        (now (res .entry)) (now (res .exit)) ⌝ }
 {
-    if a == 1 {
-        return near;
+    for i in 1..count {
+        let v = wide(queue[i]);
+        let k = wide(edge[v]);
+        res[k] = force(cheapest[v], c[k], slack);
     }
-    if depth[a] < depth[b] {
-        return cheapest[b];
-    }
-    cheapest[a]
 }
 
-fn ruling_of(mark: u8, x: u8, low: u32, c: u32, slack: u32, old: u8) -> u8
-    ensures { λ r. ⌜ r ≡ rulingOf mark x low c slack old ⌝ }
+fn ruling_of(mark: u8, old: u8) -> u8
+    ensures { λ r. ⌜ r ≡ rulingOf mark old ⌝ }
 {
     if mark == REQUIRED {
         return WAS_REQUIRED;
@@ -206,40 +221,21 @@ fn ruling_of(mark: u8, x: u8, low: u32, c: u32, slack: u32, old: u8) -> u8
     if mark == EXCLUDED {
         return WAS_EXCLUDED;
     }
-    if x == 1 {
-        return force(low, c, slack);
-    }
     old
 }
 
-// Edge by edge, in res: what its mark says, or whether it is forced, or what was found outside the tree.
-fn finish<'a>(
-    a: &'a [u8; 190],
-    b: &'a [u8; 190],
-    mark: &'a [u8; 190],
-    w: &'a [u8; 190],
-    c: &'a [u32; 190],
-    depth: &'a [u8; 21],
-    cheapest: &'a [u32; 21],
-    m: usize,
-    near: u32,
-    slack: u32,
-    res: &mut [u8; 190],
-)
-    requires { ⌜ (m ≤ maxEdges) × ((k : ℕ) → k < m → (getD (now a) k 0 < 21) × (getD (now b) k 0 < 21))
-        × (length (now res) ≡ maxEdges) ⌝ }
-    ensures { λ _. ⌜ Updated (finalAt (now (a .entry)) (now (b .entry)) (now (mark .entry)) (now (w .entry)) (now (c .entry)) slack
-        (now (depth .entry)) (now (cheapest .entry)) (now (res .entry)) near) (now (res .entry)) (now (res .exit)) m ⌝ }
+// Edge by edge, in res: what its mark says, or for a free edge what was found.
+fn finish<'a>(mark: &'a [u8; 190], m: usize, res: &mut [u8; 190])
+    requires { ⌜ (m ≤ maxEdges) × (length (now res) ≡ maxEdges) ⌝ }
+    ensures { λ _. ⌜ Updated (finalAt (now (mark .entry)) (now (res .entry))) (now (res .entry)) (now (res .exit)) m ⌝ }
 {
     for k in 0..m {
-        let x = wide(a[k]);
-        let y = wide(b[k]);
-        let low = low_of(x, y, depth, cheapest, near);
-        res[k] = ruling_of(mark[k], w[k], low, c[k], slack, res[k]);
+        res[k] = ruling_of(mark[k], res[k]);
     }
 }
 
-// The ruling of every edge into res, blank before, from the least 1-tree, its charges and how far it lies below the ceiling.
+// The ruling of every edge into res, blank before, from the least 1-tree, its charges, the labels that required edges give its vertices and
+// how far it lies below the ceiling.
 // Ruled out: a required edge swapped out or ruled FORCE; a BAR at a bound that equals the ceiling.
 pub(crate) fn rulings<'a>(
     n: usize,
@@ -249,27 +245,44 @@ pub(crate) fn rulings<'a>(
     mark: &'a [u8; 190],
     w: &'a [u8; 190],
     c: &'a [u32; 190],
+    rep: &'a [u8; 21],
     slack: u32,
     res: &mut [u8; 190],
 )
-    requires { ⌜ ((cost : List ℤ) × Spans (graphOf n m (now a) (now b) cost (now mark)) (now w)) × (now res ≡ blank) ⌝ }
+    requires { ⌜ ((cost : List ℤ) × Spans (graphOf n m (now a) (now b) cost (now mark)) (now w)
+        × Merges (graphOf n m (now a) (now b) cost (now mark)) (now rep)) × (now res ≡ blank) ⌝ }
     ensures { λ _. ⌜ ((cost : List ℤ) → Spans (graphOf n m (now (a .entry)) (now (b .entry)) cost (now (mark .entry))) (now (w .entry))
+        → Merges (graphOf n m (now (a .entry)) (now (b .entry)) cost (now (mark .entry))) (now (rep .entry))
         → RuledBy (graphOf n m (now (a .entry)) (now (b .entry)) cost (now (mark .entry))) (now (w .entry)) (now (c .entry)) slack
         (now (res .exit))) × (length (now (res .exit)) ≡ maxEdges) ⌝ }
 {
+    let mut from = [0u8; 190];
+    let mut to = [0u8; 190];
+    labels(a, rep, m, &mut from);
+    labels(b, rep, m, &mut to);
     let mut t = [[0u8; 20]; 20];
-    table(a, b, w, m, &mut t);
-    let r = hang(a, b, &t);
-    let parent = r.parent;
-    let depth = r.depth;
-    let edge = r.edge;
-    let weight = weights(mark, c, &edge, n);
+    table(a, &from, &to, mark, w, m, &mut t);
+    let mut parent = [0u8; 21];
+    let mut depth = [0u8; 21];
+    let mut edge = [0u8; 21];
+    let mut queue = [0u8; 21];
+    let count = hang(
+        &from,
+        &to,
+        &t,
+        &mut parent,
+        &mut depth,
+        &mut edge,
+        &mut queue,
+    );
+    let weight = weights(c, &edge, &queue, count);
     let one = near_one(a, mark, w, c, m);
     let near = one.cheapest;
     let mut cheapest = [NONE; 21];
     judge_outside(
         a,
-        b,
+        &from,
+        &to,
         mark,
         w,
         c,
@@ -278,9 +291,11 @@ pub(crate) fn rulings<'a>(
         &weight,
         m,
         one.dearest,
+        near,
         slack,
         res,
         &mut cheapest,
     );
-    finish(a, b, mark, w, c, &depth, &cheapest, m, near, slack, res);
+    inside(c, &edge, &cheapest, &queue, count, slack, res);
+    finish(mark, m, res);
 }

@@ -18,7 +18,7 @@ abbrev from-test : tie.Else1 → tie.Start
 from-test c = c .before .before .before .before .before .before .before .before
 
 abbrev from-find : tie.After-find → tie.Else1
-from-find c = c .before .before .before .before .before .before .before .before .before .before
+from-find c = c .before .before .before .before .before .before .before .before .before .before .before
 
 -- the input has no fault
 faultless : (c : tie.Else1)
@@ -41,7 +41,7 @@ slice-aggregate-find c = search needs
 
 find-requires : tie.Need-find-requires
 find-requires c κs =
-    let a = accepted (c .before .before .before .before .before .before .before .before .before) in
+    let a = accepted (c .before .before .before .before .before .before .before .before .before .before) in
     (a .valid, a .ranged, a .multipliers, refl, refl, refl)
 
 returns-2 : tie.Need-returns-2

@@ -3,6 +3,8 @@ use borrow.Author.Needs.{needs}
 use mathlib.Core.Path.{_≡_, sym, _∙_}
 use mathlib.Core.Bool.{true≢false}
 use mathlib.Core.List.{List}
+use mathlib.Core.Logic.{⊎-elim}
+use native.Mathlib.Omega.{arith}
 use Prim.Native.Nat.{ℕ}
 use borrow.Author.Tests.{not-true, not-false}
 use lib.Signed.{ltZ}
@@ -17,7 +19,7 @@ use Rattle.onetree.proofs.judge.judge.Statement.{statement}
 use Rattle.onetree.proofs.judge.judge.Tie as tie
 
 abbrev at-start : tie.After-find → tie.Start
-at-start c = c .before .before .before .before .before
+at-start c = c .before .before .before .before .before .before
 
 abbrev of : tie.Start → Graph
 of c = let a = c .args in graphOf (a .n) (a .m) (a .a .now) (a .b .now) (a .cost .now) (a .mark .now)
@@ -42,7 +44,11 @@ compared c =
 spans : (c : tie.Else1) → let at-find = c .before .before in Spans (of (at-start at-find)) (tree at-find)
 spans c =
     let at-find = c .before .before in
-    record { valid = at-start at-find .pre .0; tree = at-find .find .ensures .0 .some (not-false _ (c .if1 .left)) .0 .tree }
+    let f = at-find .find .ensures .0 in record {
+      valid = at-start at-find .pre .0;
+      tree = f .some (not-false _ (c .if1 .left)) .0 .tree;
+      bits = λ k. ⊎-elim (λ e. omega arith) (λ e. omega arith) (f .bits k);
+    }
 
 find-requires : tie.Need-find-requires
 find-requires c κs = search needs
@@ -97,13 +103,14 @@ slack-of-requires c κs =
 
 rulings-requires : tie.Need-rulings-requires
 rulings-requires c κs =
-    let at-if1 = c .before .before .before .before .before .before .before in
-    let start = at-start (at-if1 .before .before) in
-    ((start .args .cost .now, spans at-if1), start .pre .5)
+    let at-if1 = c .before .before .before .before .before .before .before .before in
+    let at-find = at-if1 .before .before in
+    let start = at-start at-find in
+    ((start .args .cost .now, spans at-if1, at-find .find .ensures .3), start .pre .5)
 
 returns-3 : tie.Need-returns-3
 returns-3 c =
-    let at-slack-of = c .before .before .before .before in
+    let at-slack-of = c .before .before .before .before .before in
     let at-if2 = at-slack-of .before in
     let at-below = at-if2 .before in
     let at-if1 = at-below .before .before in
@@ -119,7 +126,8 @@ returns-3 c =
         none = λ e. absurd (true≢false e);
         some = λ e. judged-within (of start) (a .multipliers .now) (a .ceiling) (f .result .any) (f .result .bound) (tree at-find)
             (charges at-find) (f .ensures .0) (not-false _ (at-if1 .if1 .left)) (sym (compared at-below) ∙ at-if2 .if2 .left)
-            (at-slack-of .slack-of .result) (slack .0) (slack .1) _ (r .0 (a .cost .now) (spans at-if1)) (f .ensures .1) (r .1);
+            (at-slack-of .slack-of .result) (slack .0) (slack .1) _ (r .0 (a .cost .now) (spans at-if1) (f .ensures .3))
+            (f .ensures .1) (r .1);
         fits = λ e. f .ensures .0 .fits;
       },
       handed-some _ _ _ _ (f .ensures .2),

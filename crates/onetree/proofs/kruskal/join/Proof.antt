@@ -1,11 +1,11 @@
 -- The loop keeps: the labels below v are done and the others as they were.
 use Prim.Native.Nat.{_≤_, _-_, min, max}
-use mathlib.Core.Path.{_≡_, sym, _∙_}
-use mathlib.Core.Logic.{⊎-elim}
-use lib.ListN.{length, set, length-set}
+use mathlib.Core.Path.{_≡_, _∙_}
+use lib.ListN.{length, length-set}
 use borrow.Author.Needs.{needs}
 use native.Mathlib.Omega.{arith}
-use Rattle.onetree.specs.Relabelling.{RelabelledTo, relabelled-none, relabelled-hit, relabelled-miss}
+use Rattle.spanning.specs.Walks.{relabel}
+use Rattle.onetree.specs.Relabelling.{RelabelledTo, relabelled-none, relabelled-more}
 use Rattle.onetree.proofs.kruskal.join.Statement.{statement}
 use Rattle.onetree.proofs.kruskal.join.Tie as tie
 
@@ -24,8 +24,11 @@ greater-requires c κs = search needs
 loop-holds : tie.Need-loop-holds Inv-loop μ-loop
 loop-holds c = (omega arith, c .before .before .pre, c .before .lesser .ensures, c .greater .ensures, relabelled-none _ _ _)
 
-element-copy-out-if1 : tie.Need-element-copy-out-if1 Inv-loop μ-loop
-element-copy-out-if1 c = search needs
+element-copy-out-relabelled : tie.Need-element-copy-out-relabelled Inv-loop μ-loop
+element-copy-out-relabelled c = search needs
+
+relabelled-requires : tie.Need-relabelled-requires Inv-loop μ-loop
+relabelled-requires c κs = search needs
 
 element-write-l : tie.Need-element-write-l Inv-loop μ-loop
 element-write-l c = search needs
@@ -37,32 +40,15 @@ loop-less : tie.Need-loop-less Inv-loop μ-loop
 loop-less c = search needs
 
 loop-again : tie.Need-loop-again Inv-loop μ-loop
+unfolding relabel
 loop-again c =
-    let at = c .before .before .before in
-    let l = at .loop in
-    let low = at .before .before .lesser .result in
-    let a = at .before .before .before .args in
-    ⊎-elim
-    (λ w.
-    let e : c .if1 .l ≡ set (l .l) (l .v) low = w .1 in
-    rw e (
+    let l = c .before .before .before .loop in (
       omega arith,
       length-set (l .l) (l .v) _ ∙ l .inv .1,
       l .inv .2,
       l .inv .3,
-      rw (l .inv .2)
-          (relabelled-hit (a .x) (a .y) (a .l .now) (l .l) (l .v) (l .inv .4) (omega (arith, l .inv .1)) (w .0 .taken ∙ l .inv .3)),
-    ))
-    (λ w.
-    let e : c .if1 .l ≡ l .l = w .1 in
-    rw e (
-      omega arith,
-      l .inv .1,
-      l .inv .2,
-      l .inv .3,
-      relabelled-miss (a .x) (a .y) (a .l .now) (l .l) (l .v) (l .inv .4) (λ q. w .0 .left (q ∙ sym (l .inv .3))),
-    ))
-    (c .if1 .came)
+      relabelled-more _ _ _ (l .l) (l .v) _ (l .inv .4) (omega (arith, l .inv .1)) (rw (l .inv .2, l .inv .3) at (c .relabelled .ensures)),
+    )
 
 returns : tie.Need-returns Inv-loop μ-loop
 returns c = let l = c .before .loop in (l .inv .1, λ v h. l .inv .4 .done v (omega arith))
@@ -76,7 +62,8 @@ join-spec =
     lesser-requires
     greater-requires
     loop-holds
-    element-copy-out-if1
+    element-copy-out-relabelled
+    relabelled-requires
     element-write-l
     add-v
     loop-less

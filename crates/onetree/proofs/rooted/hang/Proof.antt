@@ -23,61 +23,55 @@ abbrev μ-loop : tie.MeasureT-loop
 hung : (c : tie.At-loop Inv-loop μ-loop)
     → let turn = c .loop in
     let s = c .before .args in
-    Hung (s .a .now) (s .b .now) (s .t .now) (c .before .pre .0) (rooting (turn .parent) (turn .depth) (turn .edge))
-hung c = let p = c .before .pre in c .loop .inv .2 (p .0) (p .1) (p .3)
+    Hung (s .a .now) (s .b .now) (s .t .now) (c .before .pre .0 .0) (rooting (turn .parent) (turn .depth) (turn .edge))
+hung c = let p = c .before .pre .0 in c .loop .inv .2 (p .0) (p .1) (p .3)
 
 -- the next vertex of the queue hangs
-next : (c : tie.After-wide Inv-loop μ-loop) → let turn = c .before .before .loop in 1 ≤ getD (turn .depth) (c .wide .result) 0
+next : (c : tie.After-wide Inv-loop μ-loop) → let turn = c .before .before .before .loop in 1 ≤ getD (turn .depth) (c .wide .result) 0
 next c =
-    let turn = c .before .before .loop in
+    let turn = c .before .before .before .loop in
     let e : c .wide .result ≡ getD (turn .queue) (turn .i) 0 = c .wide .ensures .0 in
-    rw e (turn .inv .1 .hangs (turn .i) (c .before .loop-test .taken))
+    rw e (turn .inv .1 .hangs (turn .i) (c .before .before .loop-test .taken))
 
 vertex : (c : tie.After-wide Inv-loop μ-loop) → Among 20 (c .wide .result)
 vertex c =
-    let at-loop = c .before .before in
+    let at-loop = c .before .before .before in
     let v = hung at-loop .inside (c .wide .result) (next c) in
-    (v .0, omega (arith, v .1, at-loop .before .pre .2))
+    (v .0, omega (arith, v .1, at-loop .before .pre .0 .2))
 
-array-write-depth : tie.Need-array-write-depth Inv-loop μ-loop
-array-write-depth c = search needs
+element-write-depth : tie.Need-element-write-depth Inv-loop μ-loop
+element-write-depth c = search needs
 
-array-write-queue : tie.Need-array-write-queue Inv-loop μ-loop
-array-write-queue c = search needs
+element-write-queue : tie.Need-element-write-queue Inv-loop μ-loop
+element-write-queue c = search needs
 
 loop-holds : tie.Need-loop-holds Inv-loop μ-loop
-loop-holds c = (omega arith, lined-root, λ n l d. hung-root _ _ _ n l, λ p j h. absurd (omega arith))
+loop-holds c = let p = c .pre in
+    (omega arith, rw (p .2, p .4) lined-root, λ n l d. rw (p .1, p .2, p .3) (hung-root _ _ _ n l), λ p j h. absurd (omega arith))
 
-array-read-wide : tie.Need-array-read-wide Inv-loop μ-loop
-array-read-wide c = omega (arith, c .before .loop .inv .1 .room)
+element-copy-out-wide : tie.Need-element-copy-out-wide Inv-loop μ-loop
+element-copy-out-wide c = omega (arith, c .before .loop .inv .1 .room)
 
 wide-requires : tie.Need-wide-requires Inv-loop μ-loop
 wide-requires c κs = search needs
 
-sub-row : tie.Need-sub-row Inv-loop μ-loop
-sub-row c = omega (arith, vertex c)
-
-mul-row : tie.Need-mul-row Inv-loop μ-loop
-mul-row c = search needs
-
-element-copy-out-row : tie.Need-element-copy-out-row Inv-loop μ-loop
-element-copy-out-row c = omega (arith, vertex c)
-
 visit-requires : tie.Need-visit-requires Inv-loop μ-loop
 unfolding cell
 visit-requires c κs =
-    let at-wide = c .before .before .before .before .before in
-    let at-loop = at-wide .before .before in
-    let p = at-loop .before .pre in
+    let at-wide = c .before .before .before .before in
+    let at-loop = at-wide .before .before .before in
+    let p = at-loop .before .pre .0 in
     let v = vertex at-wide in
     let x = at-wide .wide .result in
+    let low : 1 ≤ x = omega (arith, v .0) in
     record {
       long = hung at-loop .long;
       lined = at-loop .loop .inv .1;
+      low = low;
       small = omega (arith, v .1);
       hangs = next at-wide;
-      leading = λ i f. leads-more _ _ _ 20 x _ (p .2) (p .3 .leading x (omega (arith, v .0)) i f);
-      stops = p .3 .stops x (omega (arith, v .0));
+      leading = λ i f. leads-more _ _ _ 20 x _ (p .2) (p .3 .leading x low i f);
+      stops = p .3 .stops x low;
     }
 
 add-i : tie.Need-add-i Inv-loop μ-loop
@@ -88,8 +82,8 @@ loop-less c = omega (arith, c .before .before .before .before .before .before .b
 
 loop-again : tie.Need-loop-again Inv-loop μ-loop
 loop-again c =
-    let at-wide = c .before .before .before .before .before .before in
-    let at-loop = at-wide .before .before in
+    let at-wide = c .before .before .before .before .before in
+    let at-loop = at-wide .before .before .before in
     let turn = at-loop .loop in
     let s = at-loop .before .args in
     let x = at-wide .wide .result in
@@ -98,7 +92,7 @@ loop-again c =
       w .lined,
       λ n l d. w .kept _ n refl (d .leading x (omega (arith, vertex at-wide .0))) (turn .inv .2 n l d),
       closed-more (s .a .now) (s .b .now) (s .t .now) x (rooting (turn .parent) (turn .depth) (turn .edge)) (turn .queue) (turn .count)
-          _ _ _ (turn .i) (at-wide .before .loop-test .taken) (at-wide .wide .ensures .0) (turn .inv .3) (c .visit .ensures),
+          _ _ _ (turn .i) (at-wide .before .before .loop-test .taken) (at-wide .wide .ensures .0) (turn .inv .3) (c .visit .ensures),
     )
 
 returns : tie.Need-returns Inv-loop μ-loop
@@ -110,6 +104,7 @@ returns c =
       closed-all (s .a .now) (s .b .now) (s .t .now) (rooting (turn .parent) (turn .depth) (turn .edge)) (turn .queue) (turn .count)
           (turn .inv .1)
           (subst (λ (j : ℕ). Closed (s .a .now) (s .b .now) (s .t .now) (turn .depth) (turn .queue) j) e (turn .inv .3)),
+      turn .inv .1,
     )
 
 pub hang-spec : {M : Type 1} → statement M
@@ -118,14 +113,11 @@ hang-spec =
     (tie.spec
     Inv-loop
     μ-loop
-    array-write-depth
-    array-write-queue
+    element-write-depth
+    element-write-queue
     loop-holds
-    array-read-wide
+    element-copy-out-wide
     wide-requires
-    sub-row
-    mul-row
-    element-copy-out-row
     visit-requires
     add-i
     loop-less

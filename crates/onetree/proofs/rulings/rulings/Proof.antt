@@ -1,182 +1,278 @@
--- The tree is hung, so the loops are ready; specs/Ruled.antt says what they come to. All of it for whatever costs the graph has.
+-- The contracted tree is hung, so the loops are ready; specs/Ruled.antt says what they come to. All of it for whatever costs the graph has.
 use native.Mathlib.Omega.{arith}
-use mathlib.Core.Path.{refl, _∙_}
+use mathlib.Core.Path.{_≡_, refl, _∙_}
 use mathlib.Core.List.{List}
 use Prim.Native.Nat.{ℕ}
 use lib.IntN.{ℤ}
+use lib.ListN.{length}
 use Rattle.graph.specs.declared.Graph.{Graph}
+use Rattle.graph.specs.Limits.{maxEdges}
 use Rattle.graph.specs.Valid.{graphOf}
 use Rattle.onetree.specs.Spans.{Spans}
-use Rattle.onetree.specs.TreeTable.{Lists}
-use Rattle.onetree.specs.Visiting.{Rows, Hung}
-use Rattle.onetree.specs.RootedTree.{walkable, rooted, edge-in, reached}
+use Rattle.onetree.specs.Merges.{Merges}
+use Rattle.onetree.specs.TreeTable.{Ends, Lists}
+use Rattle.onetree.specs.Visiting.{Rooting, rooting, Rows, Hung}
+use Rattle.onetree.specs.RootedTree.{Labelled, RootedIn, two-ends, walkable, rooted}
+use Rattle.onetree.specs.Swaps.{Below}
 use Rattle.onetree.specs.Judging.{Ready, Prepared, Judged}
-use Rattle.onetree.specs.Ruled.{ruled-by}
+use Rattle.onetree.specs.Candidates.{BelowRoot, queue-below, below-queue}
+use Rattle.onetree.specs.Forcing.{OneEach, one-each-as, forcing-as}
+use Rattle.onetree.specs.Ruled.{one-each, ruled-by}
 use Rattle.onetree.proofs.rulings.rulings.Statement.{statement}
 use Rattle.onetree.proofs.rulings.rulings.Tie as tie
 
-abbrev at-weights : tie.After-near-one → tie.After-weights
-at-weights c = c .before
+abbrev at-start : tie.After-labels2 → tie.Start
+at-start c = c .before .before .before .before
 
-abbrev at-hang : tie.After-weights → tie.After-hang
-at-hang c = c .before .before .before .before .before
+abbrev at-labels : tie.After-table → tie.After-labels2
+at-labels c = c .before .before .before .before
 
 abbrev at-table : tie.After-hang → tie.After-table
-at-table c = c .before .before
+at-table c = c .before .before .before .before .before .before .before .before
 
-abbrev at-start : tie.After-table → tie.Start
-at-start c = c .before .before
+abbrev at-hang : tie.After-weights → tie.After-hang
+at-hang c = c .before .before .before
+
+abbrev at-near : tie.After-judge-outside → tie.After-near-one
+at-near c = c .before .before .before .before .before .before .before .before
+
+abbrev at-outside : tie.After-inside → tie.After-judge-outside
+at-outside c = c .before .before .before .before .before
+
+-- the start, from after the hanging
+abbrev first : tie.After-hang → tie.Start
+first c = at-start (at-labels (at-table c))
 
 -- the graph with these costs
 abbrev of : tie.Start → List ℤ → Graph
 of c cost = let a = c .args in graphOf (a .n) (a .m) (a .a .now) (a .b .now) cost (a .mark .now)
 
--- the array has the bytes of a 1-tree of it
+-- the arrays have the bytes of a 1-tree of it and its labels
 abbrev Fit : tie.Start → List ℤ → Type 0
-Fit c cost = Spans (of c cost) (c .args .w .now)
+Fit c cost = Spans (of c cost) (c .args .w .now) × Merges (of c cost) (c .args .rep .now)
+
+-- the labels of the edges' ends
+abbrev from : tie.After-labels2 → List ℕ
+from c = c .before .before .labels .last .1 .1 .1 .0
+
+abbrev to : tie.After-labels2 → List ℕ
+to c = c .labels2 .last .1 .1 .1 .0
+
+labelled : (c : tie.After-labels2) (cost : List ℤ) → Labelled (of (at-start c) cost) (at-start c .args .rep .now) (from c) (to c)
+labelled c cost = record {
+  one = c .before .before .labels .ensures .done;
+  two = c .labels2 .ensures .done;
+}
+
+ends : (c : tie.After-labels2) (cost : List ℤ) → Fit (at-start c) cost
+    → Ends (of (at-start c) cost) (at-start c .args .w .now) (from c) (to c)
+ends c cost fit =
+    let a = at-start c .args in
+    two-ends (of (at-start c) cost) (fit .0 .valid) (a .w .now) (fit .0 .tree) (a .rep .now) (fit .1) (from c) (to c) (labelled c cost)
 
 -- what is left in the table
 abbrev filled : tie.After-table → List (List ℕ)
-filled c = c .table .last .1 .1 .1 .1 .0
+filled c = c .table .last .1 .1 .1 .1 .1 .1 .0
 
--- the tree's edges are listed
-lists : (c : tie.After-table) (cost : List ℤ) → Fit (at-start c) cost → Lists (of (at-start c) cost) (at-start c .args .w .now) (filled c)
-lists c cost fit = let a = at-start c .args in c .table .ensures (a .n) cost (a .mark .now) fit
+-- the tree's free edges are listed
+lists : (c : tie.After-table) (cost : List ℤ)
+    → let l = at-labels c in let start = at-start l in
+    Fit start cost → Lists (of start cost) (start .args .w .now) (from l) (to l) (filled c)
+lists c cost fit = let l = at-labels c in let a = at-start l .args in
+    c .table .ensures (a .n) (a .b .now) cost (fit .0) (ends l cost fit)
 
 -- the lists are fit to be walked
-rows : (c : tie.After-table) (cost : List ℤ) → Fit (at-start c) cost
-    → let a = at-start c .args in Rows (a .a .now) (a .b .now) (a .n) (filled c)
-rows c cost fit = walkable (of (at-start c) cost) _ _ (fit .valid) (lists c cost fit)
+rows : (c : tie.After-table) (cost : List ℤ)
+    → let l = at-labels c in Fit (at-start l) cost → Rows (from l) (to l) (at-start l .args .n) (filled c)
+rows c cost fit = let l = at-labels c in
+    walkable (of (at-start l) cost) _ _ _ _ (fit .0 .valid) (ends l cost fit) (lists c cost fit)
 
--- the tree hangs
-hangs : (c : tie.After-hang) (cost : List ℤ) → Fit (at-start (at-table c)) cost
-    → let a = at-start (at-table c) .args in Hung (a .a .now) (a .b .now) (filled (at-table c)) (a .n) (c .hang .result)
-hangs c cost fit =
-    c .hang .ensures .0 (at-start (at-table c) .args .n) (omega (arith, fit .valid .low)) (rows (at-table c) cost fit)
+-- how the tree hangs
+abbrev hanging : tie.After-hang → Rooting
+hanging c = rooting (c .hang .last .1 .1 .1 .0) (c .hang .last .1 .1 .1 .1 .0) (c .hang .last .1 .1 .1 .1 .1 .0)
+
+-- the labels that hang, in the order of hanging
+abbrev line : tie.After-hang → List ℕ
+line c = c .hang .last .1 .1 .1 .1 .1 .1 .0
+
+hangs : (c : tie.After-hang) (cost : List ℤ)
+    → let l = at-labels (at-table c) in
+    Fit (first c) cost → Hung (from l) (to l) (filled (at-table c)) (first c .args .n) (hanging c)
+hangs c cost fit = c .hang .ensures .0 (first c .args .n) (omega (arith, fit .0 .valid .low)) (rows (at-table c) cost fit)
+
+hung : (c : tie.After-hang) (cost : List ℤ)
+    → let a = first c .args in Fit (first c) cost → RootedIn (of (first c) cost) (a .w .now) (a .rep .now) (hanging c)
+hung c cost fit =
+    let t = at-table c in
+    let l = at-labels t in
+    let a = first c .args in
+    rooted (of (first c) cost) (fit .0 .valid) (a .w .now) (fit .0 .tree) (a .rep .now) (fit .1) (from l) (to l) (labelled l cost)
+    (filled t) (lists t cost fit) (hanging c) (hangs c cost fit) (c .hang .ensures .1)
+
+-- the queue has those that hang
+below : (c : tie.After-hang) (cost : List ℤ) → Fit (first c) cost → (v : ℕ) → BelowRoot (line c) (c .hang .result) v → Below (hanging c) v
+below c cost fit =
+    queue-below (hanging c) (line c) (c .hang .result) (c .hang .ensures .2) (λ v d. hangs c cost fit .inside v d .0)
+
+queued : (c : tie.After-hang) (v : ℕ) → Below (hanging c) v → BelowRoot (line c) (c .hang .result) v
+queued c = below-queue (hanging c) (line c) (c .hang .result) (c .hang .ensures .2)
+
+-- each edge is above one label
+each : (c : tie.After-hang) (cost : List ℤ)
+    → Fit (first c) cost → OneEach (BelowRoot (line c) (c .hang .result)) (hanging c .edge)
+each c cost fit = let a = first c .args in
+    one-each-as (Below (hanging c)) (BelowRoot (line c) (c .hang .result)) (hanging c .edge) (below c cost fit)
+    (one-each (of (first c) cost) (fit .0 .valid) (a .w .now) (fit .0 .tree) (a .rep .now) (hanging c) (hung c cost fit))
 
 -- what the loops rest on
 ready : (c : tie.After-near-one) (cost : List ℤ)
-    → let hang = at-hang (at-weights c) in
-    let start = at-start (at-table hang) in
-    let a = start .args in
-    Fit start cost
-    → Ready (of start cost) (a .w .now) (a .c .now) (hang .hang .result) (at-weights c .weights .result) (c .near-one .result .dearest)
+    → let hang = at-hang (c .before) in
+    let a = first hang .args in
+    let near = c .near-one .result in
+    Fit (first hang) cost
+    → Ready (of (first hang) cost) (a .w .now) (a .c .now) (a .rep .now) (hanging hang) (c .before .weights .result)
+    (near .dearest) (near .cheapest)
 ready c cost fit =
-    let hang = at-hang (at-weights c) in
-    let table = at-table hang in
-    let start = at-start table in record {
-      valid = fit .valid;
-      tree = fit .tree;
-      rooted = rooted (of start cost) (fit .valid) (start .args .w .now) (fit .tree) (filled table) (lists table cost fit)
-          (hang .hang .result) (hangs hang cost fit) (hang .hang .ensures .1);
-      weights = at-weights c .weights .ensures;
-      near = c .near-one .ensures .dear;
+    record {
+      valid = fit .0 .valid;
+      tree = fit .0 .tree;
+      rooted = hung (at-hang (c .before)) cost fit;
+      weights = λ v b. c .before .weights .ensures v (queued (at-hang (c .before)) v b);
+      one = c .near-one .ensures;
     }
 
 abbrev prepared : (c : tie.After-near-one) (cost : List ℤ)
-    → let hang = at-hang (at-weights c) in
-    let start = at-start (at-table hang) in
-    let a = start .args in let r = hang .hang .result in
-    Fit start cost
-    → Prepared (a .m) (a .a .now) (a .b .now) (a .mark .now) (a .w .now) (a .c .now) (r .parent) (r .depth)
-    (at-weights c .weights .result) (c .near-one .result .dearest)
+    → let hang = at-hang (c .before) in
+    let l = at-labels (at-table hang) in
+    let a = first hang .args in
+    let r = hanging hang in
+    let near = c .near-one .result in
+    Fit (first hang) cost
+    → Prepared (a .m) (a .a .now) (from l) (to l) (a .mark .now) (a .w .now) (a .c .now) (r .parent) (r .depth)
+    (c .before .weights .result) (near .dearest) (near .cheapest)
 prepared c cost fit =
-    let hang = at-hang (at-weights c) in
-    record { n = at-start (at-table hang) .args .n; cost = cost; edge = hang .hang .result .edge; ready = ready c cost fit }
+    let hang = at-hang (c .before) in
+    let a = first hang .args in
+    record {
+      n = a .n;
+      b = a .b .now;
+      cost = cost;
+      edge = hanging hang .edge;
+      rep = a .rep .now;
+      ready = ready c cost fit;
+      labelled = labelled (at-labels (at-table hang)) cost;
+    }
 
-abbrev at-near : tie.After-judge-outside → tie.After-near-one
-at-near c = c .before .before .before .before .before .before
-
--- the bytes of the edges outside the tree, and what may come in for those of the tree
+-- the bytes of the edges outside the tree and at vertex 1, and what may come in for the others
 abbrev bars : tie.After-judge-outside → List ℕ
-bars c = c .judge-outside .last .1 .1 .1 .1 .1 .1 .1 .1 .1 .1 .1 .0
+bars c = c .judge-outside .last .1 .1 .1 .1 .1 .1 .1 .1 .1 .1 .1 .1 .1 .0
 
 abbrev lows : tie.After-judge-outside → List ℕ
-lows c = c .judge-outside .last .1 .1 .1 .1 .1 .1 .1 .1 .1 .1 .1 .1 .0
+lows c = c .judge-outside .last .1 .1 .1 .1 .1 .1 .1 .1 .1 .1 .1 .1 .1 .1 .0
 
 judged : (c : tie.After-judge-outside) (cost : List ℤ)
-    → let hang = at-hang (at-weights (at-near c)) in
-    let start = at-start (at-table hang) in
-    let a = start .args in
-    Fit start cost → Judged (of start cost) (a .w .now) (a .c .now) (hang .hang .result) (a .slack) (bars c) (lows c) (a .m)
+    → let near-one = at-near c in
+    let hang = at-hang (near-one .before) in
+    let a = first hang .args in
+    Fit (first hang) cost
+    → Judged (of (first hang) cost) (a .w .now) (a .c .now) (a .rep .now) (hanging hang) (near-one .near-one .result .cheapest)
+    (a .slack) (bars c) (lows c) (a .m)
 judged c cost fit = c .judge-outside .ensures (prepared (at-near c) cost fit)
+
+labels-requires : tie.Need-labels-requires
+labels-requires c κs =
+    let v = c .before .pre .0 .1 .valid in
+    (v .few, λ k h. let e = v .each k h in omega (arith, e .less, e .to, v .high), refl)
+
+labels-requires-2 : tie.Need-labels-requires-2
+labels-requires-2 c κs =
+    let v = c .before .before .before .pre .0 .1 .valid in
+    (v .few, λ k h. let e = v .each k h in omega (arith, e .to, v .high), refl)
 
 table-requires : tie.Need-table-requires
 table-requires c κs =
-    let start = c .before in
-    let p = start .pre .0 in ((start .args .n, p .0, start .args .mark .now, p .1), refl)
+    let l = c .before .before .before in
+    let start = at-start l in
+    let p = start .pre .0 in
+    ((start .args .n, start .args .b .now, p .0, p .1, ends l (p .0) (p .1, p .2)), refl)
 
 hang-requires : tie.Need-hang-requires
 hang-requires c κs =
-    let table = c .before in
-    let start = at-start table in
-    let fit = start .pre .0 .1 in
-    (start .args .n, omega (arith, fit .valid .low), fit .valid .high, rows table (start .pre .0 .0) fit)
+    let table = c .before .before .before .before .before .before .before in
+    let start = at-start (at-labels table) in
+    let p = start .pre .0 in
+    ((start .args .n, omega (arith, p .1 .valid .low), p .1 .valid .high, rows table (p .0) (p .1, p .2)), refl, refl, refl, refl)
 
 weights-requires : tie.Need-weights-requires
 weights-requires c κs =
-    let hang = c .before .before .before .before in
-    let table = at-table hang in
-    let start = at-start table in
-    let cost = start .pre .0 .0 in
-    let fit = start .pre .0 .1 in
-    let w = start .args .w .now in (
-      omega (arith, fit .valid .low),
-      fit .valid .high,
-      λ v l h. omega (
-        arith,
-        fit .valid .few,
-        edge-in (of start cost) (fit .valid) w (fit .tree) (filled table) (lists table cost fit) (hang .hang .result)
-            (hangs hang cost fit) (hang .hang .ensures .1) v (
-              l,
-              reached (of start cost) (fit .valid) w (fit .tree) (filled table) (lists table cost fit) (hang .hang .result)
-                  (hangs hang cost fit) (hang .hang .ensures .1) v (omega arith, h),
-            ) .0,
-      ),
-    )
+    let hang = c .before .before in
+    let p = first hang .pre .0 in
+    let l = hang .hang .ensures .2 in
+    (l .first .0, omega (arith, l .room), each hang (p .0) (p .1, p .2))
 
 near-one-requires : tie.Need-near-one-requires
-near-one-requires c κs = at-start (at-table (at-hang c)) .pre .0 .1 .valid .few
+near-one-requires c κs = first (at-hang c) .pre .0 .1 .valid .few
 
 judge-outside-requires : tie.Need-judge-outside-requires
 judge-outside-requires c κs =
-    let near-one = c .before .before .before .before .before in
-    let start = at-start (at-table (at-hang (at-weights near-one))) in
-    (prepared near-one (start .pre .0 .0) (start .pre .0 .1), start .pre .1, refl)
+    let near-one = c .before .before .before .before .before .before .before in
+    let start = first (at-hang (near-one .before)) in
+    let p = start .pre .0 in
+    (prepared near-one (p .0) (p .1, p .2), start .pre .1, refl)
+
+inside-requires : tie.Need-inside-requires
+inside-requires c κs =
+    let outside = c .before .before .before .before in
+    let hang = at-hang (at-near outside .before) in
+    let p = first hang .pre .0 in
+    let fit : Fit (first hang) (p .0) = (p .1, p .2) in
+    let l = hang .hang .ensures .2 in (
+      l .first .0,
+      omega (arith, l .room),
+      each hang (p .0) fit,
+      judged outside (p .0) fit .long .0,
+    )
+
+-- the array keeps its length
+long : (c : tie.After-inside) → length (c .inside .last .1 .1 .1 .1 .1 .1 .0) ≡ maxEdges
+long c =
+    let outside = at-outside c in
+    let p = first (at-hang (at-near outside .before)) .pre .0 in
+    c .inside .ensures .long ∙ judged outside (p .0) (p .1, p .2) .long .0
 
 finish-requires : tie.Need-finish-requires
 finish-requires c κs =
-    let outside = c .before .before .before in
-    let start = at-start (at-table (at-hang (at-weights (at-near outside)))) in
-    let valid = start .pre .0 .1 .valid in (
-      valid .few,
-      λ k h. let e = valid .each k h in
-          (omega (arith, e .less, e .to, valid .high), omega (arith, e .to, valid .high)),
-      judged outside (start .pre .0 .0) (start .pre .0 .1) .long .0,
-    )
+    let within = c .before in
+    (first (at-hang (at-near (at-outside within) .before)) .pre .0 .1 .valid .few, long within)
 
 returns : tie.Need-returns
 returns c =
-    let outside = c .before .before .before .before in
+    let within = c .before .before in
+    let outside = at-outside within in
     let near-one = at-near outside in
-    let hang = at-hang (at-weights near-one) in
-    let start = at-start (at-table hang) in
+    let hang = at-hang (near-one .before) in
+    let start = first hang in
     let a = start .args in
-    let near = near-one .near-one in (
-      λ cost fit. ruled-by (of start cost) (a .w .now) (a .c .now) (hang .hang .result) (at-weights near-one .weights .result)
-          (near .result .dearest) (near .result .cheapest) (ready near-one cost fit) (near .ensures .cheap) (a .slack) (bars outside)
-          (lows outside) (judged outside cost fit) _ (c .finish .ensures),
-      c .finish .ensures .long ∙ judged outside (start .pre .0 .0) (start .pre .0 .1) .long .0,
+    let near = near-one .near-one .result in (
+      λ cost spans merges. let fit : Fit start cost = (spans, merges) in
+          ruled-by (of start cost) (a .w .now) (a .c .now) (a .rep .now) (hanging hang) (near-one .before .weights .result)
+          (near .dearest) (near .cheapest) (ready near-one cost fit) (a .slack) (bars outside) (lows outside) (judged outside cost fit) _
+          (forcing-as (BelowRoot (line hang) (hang .hang .result)) (Below (hanging hang)) (a .c .now) (hanging hang .edge) (lows outside)
+          (a .slack) (bars outside) _ (below hang cost fit) (queued hang) (within .inside .ensures)) _ (c .finish .ensures),
+      c .finish .ensures .long ∙ long within,
     )
 
 pub rulings-spec : {M : Type 1} → statement M
 rulings-spec =
     tie.close
     (tie.spec
+    labels-requires
+    labels-requires-2
     table-requires
     hang-requires
     weights-requires
     near-one-requires
     judge-outside-requires
+    inside-requires
     finish-requires
     returns)

@@ -1,58 +1,67 @@
--- The loop fills the array.
+-- The loop keeps `Weighed`, of the labels that the queue has had so far.
 use native.Mathlib.Omega.{arith}
 use borrow.Author.Needs.{needs}
-use Prim.Native.Nat.{ℕ, _≤_, _<_, _-_, _+_}
-use mathlib.Core.Path.{_≡_, refl, subst, _∙_}
-use lib.ListN.{length, getD, length-set}
-use Rattle.onetree.specs.Filled.{Filled, filled-none, filled-more}
-use Rattle.onetree.specs.Candidates.{weightAt}
+use Prim.Native.Nat.{ℕ, _≤_, _-_}
+use mathlib.Core.Path.{_≡_, refl, sym, ap, subst, _∙_}
+use lib.ListN.{length, length-set}
+use Rattle.onetree.specs.Verdicts.{chargeAt}
+use Rattle.onetree.specs.Candidates.{BelowRoot, Weighed, weighed-more}
 use Rattle.onetree.proofs.rulings.weights.Statement.{statement}
 use Rattle.onetree.proofs.rulings.weights.Tie as tie
 
 abbrev Inv-loop : tie.InvT-loop
-Inv-loop mark c edge n weight₀ v₀ weight v =
-    (n ≤ 20) × (3 ≤ v) × (v ≤ n + 1) × (length weight ≡ 21) × ((u : ℕ) → 3 ≤ u → u ≤ n → getD edge u 0 < 190)
-    × Filled (weightAt mark c edge) 3 weight v
+Inv-loop c edge queue count weight₀ i₀ weight i =
+    (1 ≤ i) × (i ≤ count) × (length weight ≡ 21) × Weighed (BelowRoot queue i) c edge weight
 
 abbrev μ-loop : tie.MeasureT-loop
-μ-loop mark c edge n weight₀ v₀ weight v = 21 - v
+μ-loop c edge queue count weight₀ i₀ weight i = count - i
+
+abbrev at-test : tie.After-wide Inv-loop μ-loop → tie.In-loop Inv-loop μ-loop
+at-test c = c .before .before
+
+-- the label hangs below the root
+here : (c : tie.After-wide Inv-loop μ-loop)
+    → let a = at-test c .before .before .args in BelowRoot (a .queue .now) (a .count) (c .wide .result)
+here c =
+    let test = at-test c in
+    let turn = test .before .loop in
+    (turn .i, turn .inv .0, test .loop-test .taken, sym (c .wide .ensures .0))
 
 loop-holds : tie.Need-loop-holds Inv-loop μ-loop
-loop-holds c = (c .pre .1, omega arith, omega (arith, c .pre .0), refl, c .pre .2, filled-none _ 3 21)
+loop-holds c = (omega arith, c .pre .0, refl, λ v i. absurd (omega (arith, i .1, i .2)))
 
 element-copy-out-wide : tie.Need-element-copy-out-wide Inv-loop μ-loop
-element-copy-out-wide c = search needs
+element-copy-out-wide c = omega (arith, c .loop-test .taken, c .before .before .pre .1)
 
 wide-requires : tie.Need-wide-requires Inv-loop μ-loop
 wide-requires c κs = search needs
 
-element-copy-out-weight-of : tie.Need-element-copy-out-weight-of Inv-loop μ-loop
-element-copy-out-weight-of c = let turn = c .before .before .before .loop in omega
-    (arith, turn .inv .4 (turn .v) (turn .inv .1) (c .before .before .loop-test .taken), c .wide .ensures .0)
+element-copy-out-wide-2 : tie.Need-element-copy-out-wide-2 Inv-loop μ-loop
+element-copy-out-wide-2 c = at-test c .before .before .pre .2 .small _ (here c)
 
-mul-weight-of : tie.Need-mul-weight-of Inv-loop μ-loop
-mul-weight-of c = search needs
-
-element-copy-out-weight-of-2 : tie.Need-element-copy-out-weight-of-2 Inv-loop μ-loop
-element-copy-out-weight-of-2 c =
-    let at-test = c .before .before .before in
-    let turn = at-test .before .loop in omega (
-      arith,
-      turn .inv .4 (turn .v) (turn .inv .1) (at-test .loop-test .taken),
-      c .before .wide .ensures .0,
-    )
-
-weight-of-requires : tie.Need-weight-of-requires Inv-loop μ-loop
-weight-of-requires c κs = search needs
+wide-requires-2 : tie.Need-wide-requires-2 Inv-loop μ-loop
+wide-requires-2 c κs = search needs
 
 mul-weight : tie.Need-mul-weight Inv-loop μ-loop
 mul-weight c = search needs
 
-array-write-weight : tie.Need-array-write-weight Inv-loop μ-loop
-array-write-weight c = search needs
+element-copy-out-weight : tie.Need-element-copy-out-weight Inv-loop μ-loop
+element-copy-out-weight c =
+    let at-wide = c .before .before in
+    omega (arith, at-test at-wide .before .before .pre .2 .room _ (here at-wide), c .wide2 .ensures .0)
 
-add-v : tie.Need-add-v Inv-loop μ-loop
-add-v c = search needs
+mul-weight-2 : tie.Need-mul-weight-2 Inv-loop μ-loop
+mul-weight-2 c =
+    let at-wide = c .before .before .before in
+    omega (arith, at-test at-wide .before .before .pre .2 .small _ (here at-wide))
+
+array-write-weight : tie.Need-array-write-weight Inv-loop μ-loop
+array-write-weight c =
+    let at-wide = c .before .before .before in
+    at-test at-wide .before .before .pre .2 .small _ (here at-wide)
+
+add-i : tie.Need-add-i Inv-loop μ-loop
+add-i c = search needs
 
 loop-less : tie.Need-loop-less Inv-loop μ-loop
 loop-less c = search needs
@@ -60,23 +69,23 @@ loop-less c = search needs
 loop-again : tie.Need-loop-again Inv-loop μ-loop
 loop-again c =
     let at-wide = c .before .before .before in
-    let at-loop = at-wide .before .before .before in
-    let turn = at-loop .loop in
-    let k = at-wide .wide .ensures .0 in (
-      turn .inv .0,
+    let test = at-test at-wide in
+    let turn = test .before .loop in
+    let a = test .before .before .args in
+    let small = test .before .before .pre .2 .small _ (here at-wide) in (
       omega arith,
-      omega arith,
-      length-set (turn .weight) (turn .v) _ ∙ turn .inv .3,
-      turn .inv .4,
-      filled-more _ 3 (turn .weight) (turn .v) _ (omega (arith, turn .inv .3)) (turn .inv .5) (rw k at (c .weight-of .ensures)),
+      omega (arith, test .loop-test .taken),
+      length-set (turn .weight) _ _ ∙ turn .inv .2,
+      weighed-more (a .queue .now) (a .c .now) (a .edge .now) (turn .weight) (turn .i) _ (at-wide .wide .ensures .0) (turn .inv .3) _
+          (omega (arith, small, turn .inv .2)) (ap (chargeAt (a .c .now)) (c .before .wide2 .ensures .0)),
     )
 
 returns : tie.Need-returns Inv-loop μ-loop
 returns c =
     let turn = c .before .loop in
     let a = c .before .before .args in
-    let e : turn .v ≡ a .n + 1 = omega (arith, turn .inv .2) in
-    subst (λ (v : ℕ). Filled (weightAt (a .mark .now) (a .c .now) (a .edge .now)) 3 (turn .weight) v) e (turn .inv .5)
+    let e : turn .i ≡ a .count = omega (arith, turn .inv .1) in
+    subst (λ (i : ℕ). Weighed (BelowRoot (a .queue .now) i) (a .c .now) (a .edge .now) (turn .weight)) e (turn .inv .3)
 
 pub weights-spec : {M : Type 1} → statement M
 weights-spec =
@@ -87,13 +96,13 @@ weights-spec =
     loop-holds
     element-copy-out-wide
     wide-requires
-    element-copy-out-weight-of
-    mul-weight-of
-    element-copy-out-weight-of-2
-    weight-of-requires
+    element-copy-out-wide-2
+    wide-requires-2
     mul-weight
+    element-copy-out-weight
+    mul-weight-2
     array-write-weight
-    add-v
+    add-i
     loop-less
     loop-again
     returns)

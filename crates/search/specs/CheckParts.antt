@@ -1,7 +1,7 @@
 -- The record's check in the parts that the code makes of it: the greatest byte of a stretch; the stack past the depth as one stretch; the
 -- fields apart from the stack. Assumes nothing.
 use mathlib.Core.Path.{_≡_, refl, sym, subst}
-use mathlib.Core.Bool.{Bool, true, cond}
+use mathlib.Core.Bool.{Bool, true, false, cond}
 use mathlib.Core.Logic.{_⊎_, inl, inr}
 use mathlib.Core.List.{List}
 use Prim.Native.Nat.{ℕ, _+_, _*_, _≤_, _<_}
@@ -9,16 +9,24 @@ use native.Mathlib.Omega.{arith}
 use native.Mathlib.Decide.{decLe}
 use lib.Dec.{leb, eqb}
 use lib.ListN.{getD}
-use lib.IntN.{pos}
+use lib.IntN.{ℤ, pos}
+use lib.Signed.{mag}
+use mir.Val.{toZ, ofZ}
+use mir.Syntax.{w64}
 use borrow.Author.Count.{below-more}
 use borrow.Author.Tests.{lt-ltb, le-ltb}
 use Rattle.lists.specs.Bools.{Says}
+use Rattle.lists.specs.Fill.{fit}
+use Rattle.integers.specs.Words.{back64}
 use Rattle.graph.specs.Limits.{maxVertices, maxEdges, maxCount}
+use Rattle.graph.specs.declared.Graph.{Graph}
 use Rattle.onetree.specs.Inputs.{ceilingFits}
+use Rattle.machine.specs.Machine.{Opening}
 use Rattle.machine.specs.Calls.{fault}
-use Rattle.search.specs.Record.{maxNodes, stackSize, openingIn}
+use Rattle.search.specs.Record.{maxNodes, stackSize, openingOf, openingIn}
 use Rattle.search.specs.Cells.{each-place}
-use Rattle.search.specs.Canonical.{Zeros, GraphTidy, NodeZeros, usedIn, StackTidy, Tidy, StackFits, Bits, Fits}
+use Rattle.search.specs.Canonical.{Zeros, GraphTidy, NodeZeros, usedIn, StackTidy, Tidy, Idle, StackFits, Bits, Fits}
+use Rattle.search.specs.Check.{check}
 use Rattle.search.specs.CheckLoops.{says-both, says-le, says-eq}
 use Rattle.search.specs.declared.Search.{Search}
 
@@ -88,42 +96,119 @@ module _ (m depth used : ℕ) (l : List ℕ) (u : InUse depth used) where
       go (yes b) = λ j i w. z (maxEdges * p + j) (omega arith) (omega arith)
       go (no b) = subst (λ (k : ℕ). NodeZeros l p k) (sym (rw (lt-ltb p depth (omega (arith, u .deep))) refl)) (f p (omega arith))
 
--- ---- all but the stack
+-- ---- all but the stack, part by part
+
+-- the opening that these parts of a record hold
+abbrev pub openingWith : Graph → List ℤ → ℤ → ℕ → ℕ → Opening
+openingWith g d ceiling sweeps step = openingOf g (fit (g .n) (pos 0) d) ceiling sweeps step
+
+-- the record of these parts
+abbrev pub searchWith : Bool → Graph → List ℤ → ℤ → ℕ → ℕ → ℤ → ℕ → List ℕ → Bool → List ℕ → ℕ → Search
+searchWith o g d ceiling sweeps step upper depth stack h best count =
+    record {
+      «open» = o;
+      graph = g;
+      multipliers = d;
+      ceiling = ceiling;
+      sweeps = sweeps;
+      step = step;
+      upper = upper;
+      depth = depth;
+      stack = stack;
+      «has_best» = h;
+      best = best;
+      count = count;
+    }
 
 -- of `Tidy`
-pub record FieldsTidy (s : Search) : Type 0 where
-  pub graph : GraphTidy (s .graph)
-  pub multipliers : Zeros (pos 0) maxVertices (s .graph .n) (s .multipliers)
-  pub best : Zeros 0 maxEdges (cond (s .«has_best») (s .graph .m) 0) (s .best)
+pub record FieldsTidy (g : Graph) (d : List ℤ) (h : Bool) (w : List ℕ) : Type 0 where
+  pub graph : GraphTidy g
+  pub multipliers : Zeros (pos 0) maxVertices (g .n) d
+  pub best : Zeros 0 maxEdges (cond h (g .m) 0) w
 
 -- of `Fits`
-pub record FieldsFit (s : Search) : Type 0 where
-  pub opening : fault (openingIn s) ≡ 0
-  pub upper : ceilingFits (s .upper) ≡ true
-  pub depth : s .depth ≤ s .graph .m + 1
-  pub best : Bits (s .best)
-  pub count : s .count ≤ maxCount
+pub record FieldsFit (o : Opening) (z : ℤ) (p : ℕ) (w : List ℕ) (k : ℕ) : Type 0 where
+  pub opening : fault o ≡ 0
+  pub upper : ceilingFits z ≡ true
+  pub depth : p ≤ o .graph .m + 1
+  pub best : Bits w
+  pub count : k ≤ maxCount
+
+abbrev pub Fitting : Search → Type 0
+Fitting s =
+    FieldsFit (openingWith (s .graph) (s .multipliers) (s .ceiling) (s .sweeps) (s .step)) (s .upper) (s .depth) (s .best) (s .count)
+
+-- of `Idle`
+pub record FieldsIdle (a b : ℕ) (c : ℤ) (x y : ℕ) (z : ℤ) (p : ℕ) (h : Bool) (k : ℕ) : Type 0 where
+  pub n : a ≡ 0
+  pub m : b ≡ 0
+  pub ceiling : c ≡ pos 0
+  pub sweeps : x ≡ 0
+  pub step : y ≡ 0
+  pub upper : z ≡ pos 0
+  pub depth : p ≡ 0
+  pub best : h ≡ false
+  pub count : k ≡ 0
+
+-- the last test of the zeros
+pub says-fields-tidy : (g : Graph) (d : List ℤ) (h : Bool) (w : List ℕ) (b : Bool) (k : ℕ) → GraphTidy g
+    → Zeros (pos 0) maxVertices (g .n) d → cond h (g .m) 0 ≡ k → Says b (Zeros 0 maxEdges k w) → Says b (FieldsTidy g d h w)
+says-fields-tidy g d h w b k t z e =
+    says-both b {Q = FieldsTidy g d h w}
+    (λ y. record { graph = t; multipliers = z; best = subst (λ (j : ℕ). Zeros 0 maxEdges j w) (sym e) y })
+    (λ y. subst (λ (j : ℕ). Zeros 0 maxEdges j w) e (y .best))
 
 module _ (s : Search) where
-  pub tidy-fields : Tidy s → FieldsTidy s
+  pub tidy-fields : Tidy s → FieldsTidy (s .graph) (s .multipliers) (s .«has_best») (s .best)
   tidy-fields t = record { graph = t .graph; multipliers = t .multipliers; best = t .best }
 
-  pub tidy-whole : FieldsTidy s → StackTidy (s .graph .m) (s .depth) (s .stack) → Tidy s
+  pub tidy-whole : FieldsTidy (s .graph) (s .multipliers) (s .«has_best») (s .best)
+      → StackTidy (s .graph .m) (s .depth) (s .stack) → Tidy s
   tidy-whole t l = record { graph = t .graph; multipliers = t .multipliers; stack = l; best = t .best }
 
-  pub fits-fields : Fits s → FieldsFit s
+  pub fits-fields : Fits s → Fitting s
+  unfolding openingIn
   fits-fields t = record { opening = t .opening; upper = t .upper; depth = t .depth; best = t .best; count = t .count }
 
-  -- the last test of the zeros, and of an open record
-  pub says-fields-tidy : (b : Bool) (k : ℕ) → GraphTidy (s .graph) → Zeros (pos 0) maxVertices (s .graph .n) (s .multipliers)
-      → cond (s .«has_best») (s .graph .m) 0 ≡ k → Says b (Zeros 0 maxEdges k (s .best)) → Says b (FieldsTidy s)
-  says-fields-tidy b k g d e =
-      says-both b {Q = FieldsTidy s}
-      (λ z. record { graph = g; multipliers = d; best = subst (λ (j : ℕ). Zeros 0 maxEdges j (s .best)) (sym e) z })
-      (λ t. subst (λ (j : ℕ). Zeros 0 maxEdges j (s .best)) e (t .best))
-
-  pub says-fits : (b : Bool) → FieldsFit s → Says b (StackFits (s .graph .m) (s .depth) (s .stack)) → Says b (Fits s)
+  -- the last test of an open record
+  pub says-fits : (b : Bool) → Fitting s → Says b (StackFits (s .graph .m) (s .depth) (s .stack)) → Says b (Fits s)
+  unfolding openingIn
   says-fits b t =
       says-both b {Q = Fits s}
       (λ l. record { opening = t .opening; upper = t .upper; depth = t .depth; stack = l; best = t .best; count = t .count })
       (λ f. f .stack)
+
+  -- and of one where none is open
+  pub says-idle : (b : Bool)
+      → Says b (FieldsIdle (s .graph .n) (s .graph .m) (s .ceiling) (s .sweeps) (s .step) (s .upper) (s .depth) (s .«has_best») (s .count))
+      → Says b (Idle s)
+  says-idle b =
+      says-both b {Q = Idle s}
+      (λ t. record {
+        n = t .n;
+        m = t .m;
+        ceiling = t .ceiling;
+        sweeps = t .sweeps;
+        step = t .step;
+        upper = t .upper;
+        depth = t .depth;
+        best = t .best;
+        count = t .count;
+      })
+      (λ t. record {
+        n = t .n;
+        m = t .m;
+        ceiling = t .ceiling;
+        sweeps = t .sweeps;
+        step = t .step;
+        upper = t .upper;
+        depth = t .depth;
+        best = t .best;
+        count = t .count;
+      })
+
+  -- the check of the record's parts: its signed numbers are read back from their words
+  pub check-parts : mag (s .ceiling) < 9223372036854775808 → mag (s .upper) < 9223372036854775808
+      → check (searchWith (s .«open») (s .graph) (s .multipliers) (toZ w64 (ofZ w64 (s .ceiling))) (s .sweeps) (s .step)
+      (toZ w64 (ofZ w64 (s .upper))) (s .depth) (s .stack) (s .«has_best») (s .best) (s .count)) ≡ check s
+  check-parts c u = rw (back64 (s .ceiling) c, back64 (s .upper) u) refl

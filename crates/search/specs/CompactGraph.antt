@@ -49,9 +49,9 @@ module _ (g : Graph) (marks : List ℕ) (r : Graph) (q : List ℕ) (v : Valid g)
     old-nth : nth c (g .m) (suc j) ≡ suc (old .place)
     old-nth = ap (nth c (g .m)) (sym (old .new)) ∙ nth-rank c (g .m) (old .place) (old .low) (old .kept)
 
-    gathered-at : {A : Type 0} (z : A) (f : ℕ → A) (w : List A) → Gathered z (kept marks) (g .m) f w → getD w j z ≡ f (old .place)
+    gathered-at : {A : Type 0} (z : A) (was w : List A) → Gathered z (kept marks) (g .m) was w → getD w j z ≡ getD was (old .place) z
     unfolding c
-    gathered-at z f w q = ap (λ (i : ℕ). getD w i z) (sym old-rank) ∙ q .new (old .place) (old .low) (old .kept)
+    gathered-at z was w q = ap (λ (i : ℕ). getD w i z) (sym old-rank) ∙ q .new (old .place) (old .low) (old .kept)
 
   -- new places are in the order of the old ones
   old-up : (i : ℕ) (k : i < r .m) (j : ℕ) (l : j < r .m) → i < j → old i k .place < old j l .place
@@ -73,30 +73,30 @@ module _ (g : Graph) (marks : List ℕ) (r : Graph) (q : List ℕ) (v : Valid g)
 
   pub compact-valid : Valid r
   compact-valid = record {
-    low = omega (arith, h .edges .n, v .low);
-    high = omega (arith, h .edges .n, v .high);
+    low = omega (arith, h .n, v .low);
+    high = omega (arith, h .n, v .high);
     few = few;
     each = λ j l.
         let p = old j l .place in
         let e = v .each p (old j l .low) in
         record {
-          from = omega (arith, e .from, gathered-at j l 0 _ (r .a) (h .edges .a));
-          less = omega (arith, e .less, gathered-at j l 0 _ (r .a) (h .edges .a), gathered-at j l 0 _ (r .b) (h .edges .b));
-          to = omega (arith, e .to, gathered-at j l 0 _ (r .b) (h .edges .b), h .edges .n);
-          range = subst (λ (z : ℤ). InRange maxCost z) (sym (gathered-at j l (pos 0) _ (r .cost) (h .edges .cost))) (e .range);
-          known = omega (arith, small p (old j l .low), gathered-at j l 0 _ (r .mark) (h .edges .mark));
+          from = omega (arith, e .from, gathered-at j l 0 _ (r .a) (h .a));
+          less = omega (arith, e .less, gathered-at j l 0 _ (r .a) (h .a), gathered-at j l 0 _ (r .b) (h .b));
+          to = omega (arith, e .to, gathered-at j l 0 _ (r .b) (h .b), h .n);
+          range = subst (λ (z : ℤ). InRange maxCost z) (sym (gathered-at j l (pos 0) _ (r .cost) (h .cost))) (e .range);
+          known = omega (arith, small p (old j l .low), gathered-at j l 0 _ (r .mark) (h .mark));
         };
     once = λ i j b l s.
         let k : i < r .m = omega arith in
         v .once (old i k .place) (old j l .place) (old-up i k j l b) (old j l .low) (record {
-          a = sym (gathered-at i k 0 _ (r .a) (h .edges .a)) ∙ s .a ∙ gathered-at j l 0 _ (r .a) (h .edges .a);
-          b = sym (gathered-at i k 0 _ (r .b) (h .edges .b)) ∙ s .b ∙ gathered-at j l 0 _ (r .b) (h .edges .b);
+          a = sym (gathered-at i k 0 _ (r .a) (h .a)) ∙ s .a ∙ gathered-at j l 0 _ (r .a) (h .a);
+          b = sym (gathered-at i k 0 _ (r .b) (h .b)) ∙ s .b ∙ gathered-at j l 0 _ (r .b) (h .b);
         });
   }
 
   -- ---- its network is thin
 
-  place-thin : {A : Type 0} (z : A) (w was : List A) → Gathered z (kept marks) (g .m) (λ i. getD was i z) w
+  place-thin : {A : Type 0} (z : A) (w was : List A) → Gathered z (kept marks) (g .m) was w
       → (j : ℕ) → place z (r .m) w j ≡ place z (g .m) was (nth c (g .m) j)
   place-thin z w was q zero =
       place-zero z (r .m) w
@@ -106,7 +106,7 @@ module _ (g : Graph) (marks : List ℕ) (r : Graph) (q : List ℕ) (v : Valid g)
       go : Dec (j < r .m) → place z (r .m) w (suc j) ≡ place z (g .m) was (nth c (g .m) (suc j))
       go (yes l) =
           place-at z (r .m) w j l
-          ∙ gathered-at j l z (λ i. getD was i z) w q
+          ∙ gathered-at j l z was w q
           ∙ sym (ap (place z (g .m) was) (old-nth j l) ∙ place-at z (g .m) was (old j l .place) (old j l .low))
       go (no l) =
           place-past z (r .m) w j (omega arith)
@@ -115,12 +115,12 @@ module _ (g : Graph) (marks : List ℕ) (r : Graph) (q : List ℕ) (v : Valid g)
   network-thin : network r ≡ thin c (network (withBytes g marks))
   unfolding network c
   network-thin = λ i. record {
-    n = h .edges .n i;
+    n = h .n i;
     m = h .m i;
-    a = λ j. place-thin 0 (r .a) (g .a) (h .edges .a) j i;
-    b = λ j. place-thin 0 (r .b) (g .b) (h .edges .b) j i;
-    cost = λ j. place-thin (pos 0) (r .cost) (g .cost) (h .edges .cost) j i;
-    mark = λ j. markOf (place-thin 0 (r .mark) marks (h .edges .mark) j i);
+    a = λ j. place-thin 0 (r .a) (g .a) (h .a) j i;
+    b = λ j. place-thin 0 (r .b) (g .b) (h .b) j i;
+    cost = λ j. place-thin (pos 0) (r .cost) (g .cost) (h .cost) j i;
+    mark = λ j. markOf (place-thin 0 (r .mark) marks (h .mark) j i);
   }
 
   -- ---- its marks
@@ -132,17 +132,17 @@ module _ (g : Graph) (marks : List ℕ) (r : Graph) (q : List ℕ) (v : Valid g)
   pub compact-marks : r .mark ≡ bytesOf (marksIn (r .m) (r .mark))
   unfolding bytesOf c
   compact-marks =
-      sym (fill-is maxEdges (λ j. byteOf (getD (marksIn (r .m) (r .mark)) j free)) (r .mark) 0 (h .edges .mark .size)
+      sym (fill-is maxEdges (λ j. byteOf (getD (marksIn (r .m) (r .mark)) j free)) (r .mark) 0 (h .size)
       (λ j b. at j (decLe (suc j) (r .m))))
     where
       at : (j : ℕ) → Dec (j < r .m) → byteOf (getD (marksIn (r .m) (r .mark)) j free) ≡ getD (r .mark) j 0
       at j (yes l) =
           ap byteOf (marks-at (r .m) (r .mark) j l)
           ∙ byte-mark (getD (r .mark) j 0)
-          (omega (arith, small (old j l .place) (old j l .low), gathered-at j l 0 _ (r .mark) (h .edges .mark)))
+          (omega (arith, small (old j l .place) (old j l .low), gathered-at j l 0 _ (r .mark) (h .mark)))
       at j (no l) =
           ap byteOf (List·getD-eq-default (marksIn (r .m) (r .mark)) free (omega (arith, marks-size (r .m) (r .mark))))
-          ∙ sym (h .edges .mark .past j (omega (arith, h .m)))
+          ∙ sym (h .mark .past j (omega (arith, h .m)))
 
   marks-spread : marksIn (g .m) marks ≡ spreadMarks c (g .m) (marksIn (r .m) (r .mark))
   unfolding c
@@ -150,7 +150,7 @@ module _ (g : Graph) (marks : List ℕ) (r : Graph) (q : List ℕ) (v : Valid g)
       spread-is c (g .m) excluded free (marksIn (g .m) marks) (marksIn (r .m) (r .mark)) (marks-size (g .m) marks)
       (λ i l e.
       marks-at (g .m) marks i l
-      ∙ ap markOf (sym (h .edges .mark .new i l e))
+      ∙ ap markOf (sym (h .mark .new i l e))
       ∙ sym (marks-at (r .m) (r .mark) (rank c i) (omega (arith, h .m, rank-less c i (g .m) l e))))
       (λ i l e. marks-at (g .m) marks i l ∙ ap markOf (eqb-true (getD marks i 0) 2 (not-false (eqb (getD marks i 0) 2) e)) ∙ unfold markOf in refl)
     where
@@ -164,7 +164,7 @@ module _ (g : Graph) (marks : List ℕ) (r : Graph) (q : List ℕ) (v : Valid g)
       ≡ passes (network g) step upper left (fit (g .n) (pos 0) d) (marksIn (g .m) marks)
   unfolding c network
   compact-passes d step upper left =
-      ap (λ (n : ℕ). spreadOpened c (g .m) (passes (network r) step upper left (fit n (pos 0) d) y)) (h .edges .n)
+      ap (λ (n : ℕ). spreadOpened c (g .m) (passes (network r) step upper left (fit n (pos 0) d) y)) (h .n)
       ∙ ap (λ (f : Network). spreadOpened c (g .m) (passes f step upper left (fit (g .n) (pos 0) d) y)) network-thin
       ∙ sym (passes-thin c (network (withBytes g marks)) step upper left (fit (g .n) (pos 0) d) y (marks-size (r .m) (r .mark) ∙ h .m))
       ∙ ap (λ (x : Marks). passes (network (withBytes g marks)) step upper left (fit (g .n) (pos 0) d) x) (sym marks-spread)
@@ -176,7 +176,8 @@ module _ (g : Graph) (marks : List ℕ) (r : Graph) (q : List ℕ) (v : Valid g)
   -- ---- bytes for all edges
 
   place-is : (j : ℕ) (l : j < r .m) → getD q j 0 ≡ old j l .place
-  place-is j l = gathered-at j l 0 (λ i. i) q (h .edges .place)
+  unfolding c
+  place-is j l = ap (λ (i : ℕ). getD q i 0) (sym (old-rank j l)) ∙ h .place .new (old j l .place) (old j l .low) (old j l .kept)
 
   pub compact-places : Places (r .m) q
   compact-places = record {
@@ -196,7 +197,7 @@ module _ (g : Graph) (marks : List ℕ) (r : Graph) (q : List ℕ) (v : Valid g)
     where
       at : (i : ℕ) → i < g .m → (b : Bool) → kept marks (suc i) ≡ b → getD w i 0 ≡ cond b (getD row (rank c i) 0) other
       at i l true p =
-          ap (λ (k : ℕ). getD w k 0) (sym (h .edges .place .new i l p))
+          ap (λ (k : ℕ). getD w k 0) (sym (h .place .new i l p))
           ∙ e .hit (rank c i) (omega (arith, h .m, rank-less c i (g .m) l p))
       at i l false p =
           e .rest i l (λ j b o.

@@ -1,11 +1,17 @@
--- WHAT A CALL LEAVES of any record, whoever wrote it: a refusal leaves the record and the lent list as they were (refused-same), and every
--- record that an accepted call leaves passes the check (accepted-passes), as a fresh one does (fresh-passes). `Typed` says only that the
--- record's arrays have the lengths of their types. Assumes nothing.
+-- WHAT A CALL LEAVES of any record, whoever wrote it: a refusal leaves the record and the lent list as they were (refused-same), tell and
+-- show leave the record in any case (tell-same, show-same), and every record that an accepted call leaves passes the check
+-- (accepted-passes), as a fresh one does (fresh-passes). `Typed` says only that the record's arrays have the lengths of their types.
+-- Assumes nothing.
 use mathlib.Core.Path.{_≡_, refl, sym, ap, _∙_}
 use mathlib.Core.Bool.{Bool, true, false, false≢true}
+use mathlib.Core.List.{List}
 use Prim.Native.Nat.{ℕ}
-use Rattle.machine.specs.Machine.{noSearch}
-use Rattle.machine.specs.Calls.{Call, lentBy, refused, isAccepted, step}
+use lib.Dec.{eqb}
+use lib.ListN.{length}
+use Rattle.lists.specs.Bools.{by-cases}
+use Rattle.machine.specs.Outcomes.{Incumbent, noTour, aTour}
+use Rattle.machine.specs.Machine.{Progress, State, noSearch, searching, finished}
+use Rattle.machine.specs.Calls.{Call, tell, show, lentBy, refused, isAccepted, shownBy, step}
 use Rattle.machine.specs.Preserved.{step-kept}
 use Rattle.machine.specs.Refusals.{refused-leaves}
 use Rattle.search.specs.Record.{fresh, decode, encode}
@@ -22,6 +28,23 @@ use Rattle.search.specs.declared.Outcome.{Outcome}
 pub fresh-passes : check fresh ≡ true
 unfolding encode
 fresh-passes = check-yes fresh (encode-canonical noSearch tt)
+
+-- "Tell and show leave the state as it is"
+tell-leaves : (st : State) → step st tell .state ≡ st
+unfolding step
+tell-leaves noSearch = refl
+tell-leaves (searching p) = refl
+
+shown-leaves : (p : Progress) (l : List ℕ) (b : Bool) (i : Incumbent (List Bool)) → shownBy p l b i .state ≡ searching p
+unfolding shownBy
+shown-leaves p l false i = refl
+shown-leaves p l true noTour = refl
+shown-leaves p l true (aTour r) = by-cases (eqb (length l) (p .opening .graph .m)) (λ e. rw e) (λ e. rw e)
+
+show-leaves : (st : State) (l : List ℕ) → step st (show l) .state ≡ st
+unfolding step
+show-leaves noSearch l = refl
+show-leaves (searching p) l = shown-leaves p l (finished p) (p .incumbent)
 
 module _ (s : Search) (t : Typed s) where
   -- where the check is passed, the call is the machine's
@@ -45,6 +68,21 @@ module _ (s : Search) (t : Typed s) where
         search-is c e ∙ ap encode (r .state) ∙ encode-decode s t (check-is s e),
         lent-same s t e c (decode s) (lentBy c) refl (r .lent),
       )
+
+  -- a call that leaves the machine's state leaves the record
+  state-same : (c : Call) → step (decode s) c .state ≡ decode s → reply s c .search ≡ s
+  state-same c h = go (check s) refl
+    where
+      go : (b : Bool) → check s ≡ b → reply s c .search ≡ s
+      go false e = ap (λ (o : Outcome). o .search) (reply-24 s c e)
+      go true e = search-is c e ∙ ap encode h ∙ encode-decode s t (check-is s e)
+
+  -- "Tell and show leave the state as it is": and every record
+  pub tell-same : reply s tell .search ≡ s
+  tell-same = state-same tell (tell-leaves (decode s))
+
+  pub show-same : (l : List ℕ) → reply s (show l) .search ≡ s
+  show-same l = state-same (show l) (show-leaves (decode s) l)
 
   -- a call on a record that passes, accepted or refused, leaves one that passes
   pub reply-passes : (c : Call) → check s ≡ true → check (reply s c .search) ≡ true

@@ -60,6 +60,10 @@ reply s c =
 unfoldable pub lent : Search → Call → List ℕ
 lent s c = cond (check s) (step (decode s) c .lent) (lentBy c)
 
+-- the call leaves the record, and answers this
+abbrev pub Answers : Search → Call → Answer → Type 0
+Answers s c a = record { search = s; answer = a } ≡ reply s c
+
 -- what a function over a lent record promises of its answer and of the record that it leaves
 abbrev pub Gives : Search → Call → Answer → Search → Type 0
 Gives s c a left = (a ≡ reply s c .answer) × (left ≡ reply s c .search)

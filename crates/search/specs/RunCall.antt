@@ -3,13 +3,11 @@
 use mathlib.Core.Path.{_≡_, refl, sym, ap, _∙_}
 use mathlib.Core.Bool.{Bool, true, false}
 use mathlib.Core.List.{List, [], _∷_}
-use Prim.Native.Nat.{ℕ, _<_}
+use Prim.Native.Nat.{ℕ}
 use native.Mathlib.Omega.{arith}
 use lib.ListN.{length}
 use lib.IntN.{pos}
-use lib.Signed.{mag}
 use Rattle.lists.specs.Fill.{fit}
-use Rattle.integers.specs.Parts.{mag-of-parts}
 use Rattle.graph.specs.Limits.{maxVertices}
 use Rattle.machine.specs.Machine.{Marks, Opening, Progress, State, openTop, settled, isEmpty, finished, ran}
 use Rattle.machine.specs.Calls.{Call, run, step, runBy}
@@ -38,7 +36,7 @@ frameIn s = record { upper = s .upper; depth = s .depth; «has_best» = s .«has
 abbrev pub withFrame : Search → Frame → List ℕ → List ℕ → Search
 withFrame s f l w =
     record {
-      «open» = true;
+      «open» = s .«open»;
       graph = s .graph;
       multipliers = s .multipliers;
       ceiling = s .ceiling;
@@ -72,12 +70,6 @@ module _ (s : Search) (t : Typed s) (h : check s ≡ true) (e : s .«open» ≡ 
     step = refl;
   }
 
-  pub run-ceiling : mag (s .ceiling) < 9223372036854775808
-  unfolding progressOf openingIn
-  run-ceiling =
-      let r = kept s t h e .opening .ceiling in
-      mag-of-parts (s .ceiling) 9223372036854775808 (omega (arith, r .high)) (omega (arith, r .low))
-
   module _ (budget : ℕ) (f : Frame) (l w : List ℕ)
       (r : Runs (s .graph) (s .multipliers) (s .sweeps) (s .step) f l w (ran budget (progressOf s))) where
     after : Progress
@@ -91,7 +83,7 @@ module _ (s : Search) (t : Typed s) (h : check s ≡ true) (e : s .«open» ≡ 
     leaves : withFrame s f l w ≡ recordOf after
     unfolding recordOf after frameOf progressOf openingIn
     leaves = λ i. record {
-      «open» = true;
+      «open» = e i;
       graph = sym (r .holds .graph) i;
       multipliers =
           (ap (λ (q : Search). q .multipliers) (sym back)

@@ -5,7 +5,7 @@ ghost use mathlib.Core.Bool.{true};
 ghost use mathlib.Core.List.{List};
 ghost use Prim.Native.Nat.{ℕ, _≤_, _<_};
 ghost use lib.IntN.{pos};
-ghost use lib.ListN.{length, replicate};
+ghost use lib.ListN.{length, getD, replicate};
 ghost use Rattle.lists.specs.Fill.{fit};
 ghost use Rattle.graph.specs.Limits.{maxEdges, maxStep};
 ghost use Rattle.graph.specs.Network.{network};
@@ -17,7 +17,8 @@ ghost use Rattle.search.specs.Pushing.{bytesOf};
 ghost use Rattle.search.specs.Filling.{Filling};
 ghost use Rattle.search.specs.Opening.{opened, openedAs};
 ghost use Rattle.search.specs.Expanding.{Places, Placed, Expanded};
-ghost use Rattle.search.specs.Compacting.{Compacted};
+ghost use Rattle.compaction.specs.Ranks.{rank};
+ghost use Rattle.search.specs.Compacting.{kept, counted, listedAt, Listed, Compacted};
 use crate::node::Fate;
 use crate::node::open_node;
 use crate::node::wide;
@@ -28,6 +29,65 @@ fn byte(k: usize) -> u8
     ensures { λ r. ⌜ r ≡ k ⌝ }
 {
     k as u8
+}
+
+// What an edge counts for among those that are left, by its mark.
+fn counted(mark: u8) -> usize
+    ensures { λ r. ⌜ r ≡ counted mark ⌝ }
+{
+    if mark == graph::EXCLUDED {
+        return 0;
+    }
+    1
+}
+
+// The places of the edges that the marks do not exclude, in their order; how many they are is handed on. Each place is written where the
+// next such edge's is to stand, so that the loop has no branch; what stands past them counts for nothing.
+fn list_left<'a>(m: usize, marks: &'a [u8; 190], place: &mut [u8; 190]) -> usize
+    requires { ⌜ (m ≤ maxEdges) × (length (now place) ≡ maxEdges) ⌝ }
+    ensures { λ r. ⌜ (r ≡ rank (kept (now (marks .entry))) m) × (r ≤ maxEdges)
+        × Listed (kept (now (marks .entry))) m (now (place .exit)) ⌝ }
+{
+    let mut f = 0;
+    let mut k = 0;
+    while k < m {
+        place[f] = byte(k);
+        f = f + counted(marks[k]);
+        k = k + 1;
+    }
+    f
+}
+
+// The ends, costs and marks of the edges at the f places that are listed, into blank arrays.
+fn gather<'a>(
+    place: &'a [u8; 190],
+    f: usize,
+    a: &'a [u8; 190],
+    b: &'a [u8; 190],
+    cost: &'a [i32; 190],
+    marks: &'a [u8; 190],
+    left_a: &mut [u8; 190],
+    left_b: &mut [u8; 190],
+    left_cost: &mut [i32; 190],
+    left_marks: &mut [u8; 190],
+)
+    requires { ⌜ (f ≤ maxEdges) × ((j : ℕ) → j < f → getD (now place) j 0 < maxEdges)
+        × (now «left_a» ≡ replicate maxEdges 0) × (now «left_b» ≡ replicate maxEdges 0)
+        × (now «left_cost» ≡ replicate maxEdges (pos 0)) × (now «left_marks» ≡ replicate maxEdges 0) ⌝ }
+    ensures { λ _. ⌜ Filling 0 maxEdges f (listedAt 0 (now (a .entry)) (now (place .entry))) (now («left_a» .exit))
+        × Filling 0 maxEdges f (listedAt 0 (now (b .entry)) (now (place .entry))) (now («left_b» .exit))
+        × Filling (pos 0) maxEdges f (listedAt (pos 0) (now (cost .entry)) (now (place .entry))) (now («left_cost» .exit))
+        × Filling 0 maxEdges f (listedAt 0 (now (marks .entry)) (now (place .entry))) (now («left_marks» .exit)) ⌝ }
+{
+    let mut j = 0;
+    while j < f {
+        let k = wide(place[j]);
+        left_a[j] = a[k];
+        left_b[j] = b[k];
+        left_cost[j] = cost[k];
+        left_marks[j] = marks[k];
+        j = j + 1;
+    }
 }
 
 // The edges that the marks do not exclude, in their order, with those marks, and the place that each of them had, into blank arrays; how
@@ -52,19 +112,19 @@ fn compact<'a>(
         (graphOf n r (now («left_a» .exit)) (now («left_b» .exit)) (now («left_cost» .exit)) (now («left_marks» .exit)))
         (now (place .exit))) ⌝ }
 {
-    let mut f = 0;
-    let mut k = 0;
-    while k < m {
-        if marks[k] != graph::EXCLUDED {
-            left_a[f] = a[k];
-            left_b[f] = b[k];
-            left_cost[f] = cost[k];
-            left_marks[f] = marks[k];
-            place[f] = byte(k);
-            f = f + 1;
-        }
-        k = k + 1;
-    }
+    let f = list_left(m, marks, place);
+    gather(
+        place,
+        f,
+        a,
+        b,
+        cost,
+        marks,
+        left_a,
+        left_b,
+        left_cost,
+        left_marks,
+    );
     f
 }
 

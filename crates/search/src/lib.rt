@@ -9,12 +9,12 @@ mod compact;
 mod cost;
 mod node;
 mod opening;
+pub mod parts;
 mod record;
 mod running;
 mod shown;
 mod stack;
 
-use cost::tour_cost;
 use graph::Graph;
 use record::check_record;
 
@@ -109,7 +109,22 @@ pub fn open_core(
 ) -> Outcome
     ensures { λ r. ⌜ r ≡ reply s (Calls.opens (openingOf g (now (multipliers .entry)) ceiling sweeps step)) ⌝ }
 {
-    if !check_record(s) {
+    let held = s.graph;
+    let d = s.multipliers;
+    if !check_record(
+        s.open,
+        held,
+        d,
+        s.ceiling,
+        s.sweeps,
+        s.step,
+        s.upper,
+        s.depth,
+        &s.stack,
+        s.has_best,
+        &s.best,
+        s.count,
+    ) {
         return refuse(s, 24);
     }
     if s.open {
@@ -131,44 +146,69 @@ pub fn open_core(
 pub fn run_core(s: Search, budget: u64) -> Outcome
     ensures { λ r. ⌜ r ≡ reply s (Calls.run budget) ⌝ }
 {
-    if !check_record(s) {
-        return refuse(s, 24);
+    let g = s.graph;
+    let d = s.multipliers;
+    let mut best = s.best;
+    let mut stack = s.stack;
+    let t = parts::run(
+        s.open,
+        g,
+        d,
+        s.ceiling,
+        s.sweeps,
+        s.step,
+        s.upper,
+        s.depth,
+        &mut stack,
+        s.has_best,
+        &mut best,
+        s.count,
+        budget,
+    );
+    let r = Search {
+        open: s.open,
+        graph: g,
+        multipliers: d,
+        ceiling: s.ceiling,
+        sweeps: s.sweeps,
+        step: s.step,
+        upper: t.upper,
+        depth: t.depth,
+        stack: stack,
+        has_best: t.has_best,
+        best: best,
+        count: t.count,
+    };
+    let answer = t.answer;
+    Outcome {
+        search: r,
+        answer: answer,
     }
-    if !s.open {
-        return refuse(s, 20);
-    }
-    running::run_open(s, budget)
 }
 
 // Telling. Ruled out: a cost while nodes wait; a cost that is not the sum of the incumbent's edges.
 pub fn tell_core(s: Search) -> Outcome
     ensures { λ r. ⌜ r ≡ reply s Calls.tell ⌝ }
 {
-    if !check_record(s) {
-        return refuse(s, 24);
-    }
-    if !s.open {
-        return refuse(s, 20);
-    }
-    let k = s.count;
-    if s.depth != 0 {
-        return Outcome {
-            search: s,
-            answer: Answer::Searching(k),
-        };
-    }
-    if !s.has_best {
-        return Outcome {
-            search: s,
-            answer: Answer::NoTour(k),
-        };
-    }
     let g = s.graph;
-    let best = s.best;
-    let c = tour_cost(g.m, &g.cost, &best);
+    let d = s.multipliers;
+    let answer = parts::tell(
+        s.open,
+        g,
+        d,
+        s.ceiling,
+        s.sweeps,
+        s.step,
+        s.upper,
+        s.depth,
+        &s.stack,
+        s.has_best,
+        &s.best,
+        s.count,
+    );
     Outcome {
         search: s,
-        answer: Answer::Best(c, k),
+        answer: answer,
     }
 }
 
@@ -176,27 +216,26 @@ pub fn tell_core(s: Search) -> Outcome
 pub fn show_core(s: Search, out: &mut [u8]) -> Outcome
     ensures { λ r. ⌜ (r ≡ reply s (Calls.show (now (out .entry)))) × (now (out .exit) ≡ lent s (Calls.show (now (out .entry)))) ⌝ }
 {
-    if !check_record(s) {
-        return refuse(s, 24);
-    }
-    if !s.open {
-        return refuse(s, 20);
-    }
-    if s.depth != 0 {
-        return refuse(s, 22);
-    }
-    if !s.has_best {
-        return refuse(s, 23);
-    }
     let g = s.graph;
-    if out.len() != g.m {
-        return refuse(s, 11);
-    }
-    let best = s.best;
-    shown::show_tour(best, out);
+    let d = s.multipliers;
+    let answer = parts::show(
+        s.open,
+        g,
+        d,
+        s.ceiling,
+        s.sweeps,
+        s.step,
+        s.upper,
+        s.depth,
+        &s.stack,
+        s.has_best,
+        &s.best,
+        s.count,
+        out,
+    );
     Outcome {
         search: s,
-        answer: Answer::Accepted,
+        answer: answer,
     }
 }
 
@@ -204,7 +243,22 @@ pub fn show_core(s: Search, out: &mut [u8]) -> Outcome
 pub fn close_core(s: Search) -> Outcome
     ensures { λ r. ⌜ r ≡ reply s Calls.close ⌝ }
 {
-    if !check_record(s) {
+    let g = s.graph;
+    let d = s.multipliers;
+    if !check_record(
+        s.open,
+        g,
+        d,
+        s.ceiling,
+        s.sweeps,
+        s.step,
+        s.upper,
+        s.depth,
+        &s.stack,
+        s.has_best,
+        &s.best,
+        s.count,
+    ) {
         return refuse(s, 24);
     }
     if !s.open {

@@ -1,7 +1,7 @@
 // The opening of a node: document 01's passes. Arrays of an edge's byte have 190 places, zero past m.
 ghost use mathlib.Core.Path.{_≡_};
 ghost use Prim.Native.Nat.{ℕ, _+_, _<_, _≤_};
-ghost use lib.ListN.{length, getD};
+ghost use lib.ListN.{length, getD, replicate};
 ghost use lib.IntN.{pos, _+ℤ_};
 ghost use mathlib.Core.Bool.{true};
 ghost use Rattle.lists.specs.Fill.{fit};
@@ -30,12 +30,17 @@ pub(crate) fn wide(x: u8) -> usize
     x as usize
 }
 
-// The degree of each vertex in the edges that are in, vertex v's at place v: one loop over the edges, whose ends are lent.
-fn degrees<'a>(from: &'a [u8; 190], to: &'a [u8; 190], m: usize, w: &[u8; 190]) -> [u8; 21]
-    requires { ⌜ (m ≤ maxEdges) × ((k : ℕ) → k < m → Ends (edged m (now from) (now to)) k) ⌝ }
-    ensures { λ r. ⌜ DegreesTo m (edged m (now (from .entry)) (now (to .entry))) (now (w .entry)) r ⌝ }
+// The degree of each vertex in the edges that are in, vertex v's at place v of r: one loop over the edges.
+fn count_degrees<'a>(
+    from: &'a [u8; 190],
+    to: &'a [u8; 190],
+    m: usize,
+    w: &'a [u8; 190],
+    r: &mut [u8; 21],
+)
+    requires { ⌜ (m ≤ maxEdges) × ((k : ℕ) → k < m → Ends (edged m (now from) (now to)) k) × (now r ≡ replicate 21 0) ⌝ }
+    ensures { λ _. ⌜ DegreesTo m (edged m (now (from .entry)) (now (to .entry))) (now (w .entry)) (now (r .exit)) ⌝ }
 {
-    let mut r = [0u8; 21];
     let mut k = 0;
     while k < m {
         if w[k] == 1 {
@@ -46,13 +51,12 @@ fn degrees<'a>(from: &'a [u8; 190], to: &'a [u8; 190], m: usize, w: &[u8; 190]) 
         }
         k = k + 1;
     }
-    r
 }
 
 // Is every degree 2? A 1-tree is then a tour.
-fn two_each(degrees: [u8; 21], n: usize) -> bool
+fn two_each(degrees: &[u8; 21], n: usize) -> bool
     requires { ⌜ n ≤ maxVertices ⌝ }
-    ensures { λ r. ⌜ r ≡ allTwo degrees n ⌝ }
+    ensures { λ r. ⌜ r ≡ allTwo (now (degrees .entry)) n ⌝ }
 {
     let mut v = 0;
     while v < n {
@@ -88,9 +92,9 @@ fn gained(x: i32, p: i32) -> i32
 }
 
 // The next multipliers: vertex 1 keeps its own.
-fn gains(degrees: [u8; 21], d: [i32; 20], n: usize, step: u32) -> [i32; 20]
+fn gains(degrees: &[u8; 21], d: [i32; 20], n: usize, step: u32) -> [i32; 20]
     requires { ⌜ (1 ≤ n) × (n ≤ maxVertices) × (step ≤ maxStep) × ((i : ℕ) → i < n → InRange maxMultiplier (getD d i (pos 0))) ⌝ }
-    ensures { λ r. ⌜ GainsTo n step degrees d r ⌝ }
+    ensures { λ r. ⌜ GainsTo n step (now (degrees .entry)) d r ⌝ }
 {
     let mut r = d;
     let mut v = 1;
@@ -178,10 +182,9 @@ pub(crate) enum Verdict {
     Ruled,
 }
 
-// The verdict; the degrees of the tree; and in how many bytes of its order a pass hands on a hint.
+// The verdict, and in how many bytes of its order a pass hands on a hint.
 pub(crate) struct Judged {
     pub verdict: Verdict,
-    pub degrees: [u8; 21],
     pub live: usize,
 }
 
@@ -196,8 +199,8 @@ fn is_bound(answer: RuleAnswer) -> bool
     }
 }
 
-// One pass, by one call of the tree part, on the marks in row, which then has the tour or the marks after the rulings. The hint is for the
-// tree part alone.
+// One pass, by one call of the tree part, on the marks in row, which then has the tour or the marks after the rulings; the degrees of the
+// tree go into `degrees`, zero before. The hint is for the tree part alone.
 fn judge<'a>(
     n: usize,
     m: usize,
@@ -209,12 +212,13 @@ fn judge<'a>(
     hint: &'a [u8],
     row: &mut [u8; 190],
     order: &mut [u8; 190],
+    degrees: &mut [u8; 21],
 ) -> Judged
     requires { ⌜ Valid (graphOf n m (now a) (now b) (now cost) (now row)) × (multipliersFit (fit n (pos 0) d) ≡ true)
         × (ceilingFits upper ≡ true) × (now row ≡ bytesOf (marksIn m (now row)))
-        × (length (now order) ≡ maxEdges) ⌝ }
+        × (length (now order) ≡ maxEdges) × (now degrees ≡ replicate 21 0) ⌝ }
     ensures { λ r. ⌜ JudgedIs (graphOf n m (now (a .entry)) (now (b .entry)) (now (cost .entry)) (now (row .entry)))
-        (fit n (pos 0) d) upper (r .verdict) (now (row .exit)) (r .degrees) × (r .live ≤ maxEdges)
+        (fit n (pos 0) d) upper (r .verdict) (now (row .exit)) (now (degrees .exit)) × (r .live ≤ maxEdges)
         × (length (now (order .exit)) ≡ maxEdges) ⌝ }
 {
     let mut tree = [0u8; 190];
@@ -237,23 +241,20 @@ fn judge<'a>(
     if !is_bound(answer) {
         return Judged {
             verdict: Verdict::Shut,
-            degrees: [0; 21],
             live: 0,
         };
     }
-    let degrees = degrees(a, b, m, &tree);
+    count_degrees(a, b, m, &tree, degrees);
     if two_each(degrees, n) {
         *row = tree;
         return Judged {
             verdict: Verdict::Found,
-            degrees: degrees,
             live: 0,
         };
     }
     apply(&rulings, m, row);
     Judged {
         verdict: Verdict::Ruled,
-        degrees: degrees,
         live: p.live,
     }
 }
@@ -284,7 +285,20 @@ pub(crate) fn open_node<'a>(
     let mut left = sweeps;
     loop {
         let hint = order;
-        let j = judge(n, m, a, b, cost, d, upper, &hint[..live], row, &mut order);
+        let mut degrees = [0u8; 21];
+        let j = judge(
+            n,
+            m,
+            a,
+            b,
+            cost,
+            d,
+            upper,
+            &hint[..live],
+            row,
+            &mut order,
+            &mut degrees,
+        );
         let verdict = j.verdict;
         match verdict {
             Verdict::Shut => {
@@ -299,8 +313,7 @@ pub(crate) fn open_node<'a>(
         if left == 0 {
             return split(m, row, top);
         }
-        let degrees = j.degrees;
-        let next = gains(degrees, d, n, step);
+        let next = gains(&degrees, d, n, step);
         d = next;
         live = j.live;
         left = left - 1;

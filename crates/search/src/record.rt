@@ -6,12 +6,11 @@ ghost use lib.IntN.{pos};
 ghost use Rattle.lists.specs.Bools.{Says};
 ghost use Rattle.graph.specs.Limits.{maxVertices, maxEdges};
 ghost use Rattle.machine.specs.Calls.{fault};
-ghost use Rattle.search.specs.Record.{maxNodes, stackSize, openingIn};
-ghost use Rattle.search.specs.Canonical.{Zeros, GraphTidy, NodeZeros, StackTidy, Idle, NodeFits, StackFits, Bits};
-ghost use Rattle.search.specs.CheckParts.{InUse, FieldsTidy, FieldsFit};
+ghost use Rattle.search.specs.Record.{maxNodes, stackSize};
+ghost use Rattle.search.specs.Canonical.{Zeros, GraphTidy, NodeZeros, StackTidy, NodeFits, StackFits, Bits};
+ghost use Rattle.search.specs.CheckParts.{InUse, FieldsTidy, FieldsFit, FieldsIdle, openingWith, searchWith};
 ghost use Rattle.search.specs.Check.{check};
 use crate::MAX_COUNT;
-use crate::Search;
 use crate::opening;
 use graph::EXCLUDED;
 use graph::FREE;
@@ -196,106 +195,152 @@ fn stack_fits(stack: &[u8; 36290], m: usize, depth: usize) -> bool
     true
 }
 
-// Zero past the edges and the vertices; and the incumbent, where there is none. (The stack is lent to its own tests: a record that is handed
-// on by value and lends its stack there is copied.)
-fn fields_tidy(s: Search) -> bool
-    ensures { λ r. ⌜ Says r (FieldsTidy s) ⌝ }
+// Zero past the edges and the vertices; and the incumbent, where there is none.
+fn fields_tidy(g: Graph, multipliers: [i32; 20], has_best: bool, best: [u8; 190]) -> bool
+    ensures { λ r. ⌜ Says r (FieldsTidy g multipliers «has_best» best) ⌝ }
 {
-    let g = s.graph;
     if !graph_tidy(g) {
         return false;
     }
-    let d = s.multipliers;
-    if !multipliers_tidy(d, g.n) {
+    if !multipliers_tidy(multipliers, g.n) {
         return false;
     }
-    let best = s.best;
-    if s.has_best {
+    if has_best {
         return zeros(best, g.m);
     }
     zeros(best, 0)
 }
 
 // Are the arguments of an open record such as an opening accepts?
-fn opening_fits(s: Search) -> bool
-    ensures { λ r. ⌜ r ≡ eqb (fault (openingIn s)) 0 ⌝ }
+fn opening_fits(g: Graph, multipliers: [i32; 20], ceiling: i64, sweeps: u32, step: u32) -> bool
+    ensures { λ r. ⌜ r ≡ eqb (fault (openingWith g multipliers ceiling sweeps step)) 0 ⌝ }
 {
-    let g = s.graph;
     let n = g.n;
     if n > MAX_VERTICES {
         return false;
     }
-    let d = s.multipliers;
-    opening::fault(g, &d[..n], s.ceiling, s.sweeps, s.step) == 0
+    opening::fault(g, &multipliers[..n], ceiling, sweeps, step) == 0
 }
 
-fn fields_fit(s: Search) -> bool
-    ensures { λ r. ⌜ Says r (FieldsFit s) ⌝ }
+fn fields_fit(
+    g: Graph,
+    multipliers: [i32; 20],
+    ceiling: i64,
+    sweeps: u32,
+    step: u32,
+    upper: i64,
+    depth: usize,
+    best: [u8; 190],
+    count: u64,
+) -> bool
+    ensures { λ r. ⌜ Says r (FieldsFit (openingWith g multipliers ceiling sweeps step) upper depth best count) ⌝ }
 {
-    if !opening_fits(s) {
+    if !opening_fits(g, multipliers, ceiling, sweeps, step) {
         return false;
     }
-    if !onetree::ceiling_fits(s.upper) {
+    if !onetree::ceiling_fits(upper) {
         return false;
     }
-    if s.depth > s.graph.m + 1 {
+    if depth > g.m + 1 {
         return false;
     }
-    let best = s.best;
     if !bits(best) {
         return false;
     }
-    s.count <= MAX_COUNT
+    count <= MAX_COUNT
 }
 
-fn idle(s: Search) -> bool
-    ensures { λ r. ⌜ Says r (Idle s) ⌝ }
+fn idle(
+    n: usize,
+    m: usize,
+    ceiling: i64,
+    sweeps: u32,
+    step: u32,
+    upper: i64,
+    depth: usize,
+    has_best: bool,
+    count: u64,
+) -> bool
+    ensures { λ r. ⌜ Says r (FieldsIdle n m ceiling sweeps step upper depth «has_best» count) ⌝ }
 {
-    let g = s.graph;
-    if g.n != 0 {
+    if n != 0 {
         return false;
     }
-    if g.m != 0 {
+    if m != 0 {
         return false;
     }
-    if s.ceiling != 0 {
+    if ceiling != 0 {
         return false;
     }
-    if s.sweeps != 0 {
+    if sweeps != 0 {
         return false;
     }
-    if s.step != 0 {
+    if step != 0 {
         return false;
     }
-    if s.upper != 0 {
+    if upper != 0 {
         return false;
     }
-    if s.depth != 0 {
+    if depth != 0 {
         return false;
     }
-    if s.has_best {
+    if has_best {
         return false;
     }
-    s.count == 0
+    count == 0
 }
 
-// Does the record stand for a state of the machine?
-pub(crate) fn check_record(s: Search) -> bool
-    ensures { λ r. ⌜ r ≡ check s ⌝ }
+// Does the record of these parts stand for a state of the machine? The stack and the incumbent are lent, and from the record itself: a call
+// that took the record, or a part of it from a copy, would have the whole copied for it.
+pub(crate) fn check_record<'a>(
+    open: bool,
+    g: Graph,
+    multipliers: [i32; 20],
+    ceiling: i64,
+    sweeps: u32,
+    step: u32,
+    upper: i64,
+    depth: usize,
+    stack: &'a [u8; 36290],
+    has_best: bool,
+    best: &'a [u8; 190],
+    count: u64,
+) -> bool
+    ensures { λ r. ⌜ r ≡ check (searchWith «open» g multipliers ceiling sweeps step upper depth (now (stack .entry)) «has_best»
+        (now (best .entry)) count) ⌝ }
 {
-    if !fields_tidy(s) {
+    let tour = *best;
+    if !fields_tidy(g, multipliers, has_best, tour) {
         return false;
     }
-    let m = s.graph.m;
-    let depth = s.depth;
-    if !stack_tidy(&s.stack, m, depth) {
+    if !stack_tidy(stack, g.m, depth) {
         return false;
     }
-    if !s.open {
-        return idle(s);
+    if !open {
+        return idle(
+            g.n,
+            g.m,
+            ceiling,
+            sweeps,
+            step,
+            upper,
+            depth,
+            has_best,
+            count,
+        );
     }
-    if !fields_fit(s) {
+    if !fields_fit(
+        g,
+        multipliers,
+        ceiling,
+        sweeps,
+        step,
+        upper,
+        depth,
+        tour,
+        count,
+    ) {
         return false;
     }
-    stack_fits(&s.stack, m, depth)
+    stack_fits(stack, g.m, depth)
 }

@@ -1,20 +1,13 @@
 // Running: the top node is opened while one waits, budget is left and the count is below its limit. What changes is a small frame by
 // value beside the bytes of the stack and of the best tour, which are lent: nothing copies the record for a node.
 ghost use mathlib.Core.Path.{_≡_};
-ghost use mathlib.Core.Bool.{true};
 ghost use mathlib.Core.List.{List};
 ghost use Prim.Native.Nat.{ℕ};
 ghost use Rattle.graph.specs.Valid.{graphOf};
 ghost use Rattle.machine.specs.Machine.{Progress, openTop, ran};
-ghost use Rattle.machine.specs.Calls as Calls;
-ghost use Rattle.search.specs.Check.{check};
-ghost use Rattle.search.specs.Replies.{reply};
 ghost use Rattle.search.specs.Opening.{opened};
 ghost use Rattle.search.specs.Frames.{Holds, Opens};
 ghost use Rattle.search.specs.Running.{Runs};
-use crate::Answer;
-use crate::Outcome;
-use crate::Search;
 use crate::compact::open_compact;
 use crate::cost::tour_cost;
 use crate::node::Fate;
@@ -82,7 +75,7 @@ fn settle<'a>(
 }
 
 // The run: the top node is opened, again and again.
-fn run_frame<'a>(
+pub(crate) fn run_frame<'a>(
     n: usize,
     m: usize,
     a: &'a [u8; 190],
@@ -132,60 +125,4 @@ fn run_frame<'a>(
         left = left - 1;
     }
     t
-}
-
-// A run of an open search.
-pub(crate) fn run_open(s: Search, budget: u64) -> Outcome
-    requires { ⌜ (check s ≡ true) × (s .«open» ≡ true) ⌝ }
-    ensures { λ r. ⌜ r ≡ reply s (Calls.run budget) ⌝ }
-{
-    let g = s.graph;
-    let d = s.multipliers;
-    let mut best = s.best;
-    let f = Frame {
-        upper: s.upper,
-        depth: s.depth,
-        has_best: s.has_best,
-        count: s.count,
-    };
-    let mut stack = s.stack;
-    let t = run_frame(
-        g.n,
-        g.m,
-        &g.a,
-        &g.b,
-        &g.cost,
-        d,
-        s.sweeps,
-        s.step,
-        f,
-        &mut stack,
-        &mut best,
-        budget,
-    );
-    let k = t.count;
-    let r = Search {
-        open: true,
-        graph: g,
-        multipliers: d,
-        ceiling: s.ceiling,
-        sweeps: s.sweeps,
-        step: s.step,
-        upper: t.upper,
-        depth: t.depth,
-        stack: stack,
-        has_best: t.has_best,
-        best: best,
-        count: k,
-    };
-    if t.depth == 0 {
-        return Outcome {
-            search: r,
-            answer: Answer::Finished(k),
-        };
-    }
-    Outcome {
-        search: r,
-        answer: Answer::GoingOn(k),
-    }
 }

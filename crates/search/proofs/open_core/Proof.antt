@@ -7,6 +7,7 @@ use Rattle.machine.specs.Machine.{Opening}
 use Rattle.machine.specs.Calls.{step}
 use Rattle.search.specs.Record.{openingOf}
 use Rattle.search.specs.Check.{check}
+use Rattle.search.specs.CheckParts.{check-parts}
 use Rattle.search.specs.Inverse.{Typed}
 use Rattle.search.specs.declared.Search.{Search}
 use Rattle.search.specs.ReplyCases.{reply-24, open-fault, open-done, open-21}
@@ -20,11 +21,21 @@ abbrev asked : tie.Start → Opening
 asked c = openingOf (c .args .g) (c .args .multipliers .now) (c .args .ceiling) (c .args .sweeps) (c .args .step)
 
 -- the arrays of the record have the lengths of their types
-typed : (c : tie.Start) → Typed (c .args .s)
+typed : (c : tie.Start) → Typed (c .args .t1)
 typed c = search needs
 
-passed : (c : tie.Else1) → check (c .before .before .args .s) ≡ true
-passed c = sym (c .before .check-record .ensures) ∙ not-false _ (c .if1 .left)
+abbrev entry : tie.After-check-record → tie.Start
+entry c = c .before .before .before .before .before .before .before .before
+
+-- the record is the one that its parts make
+checked : (c : tie.After-check-record) → c .check-record .result ≡ check (entry c .args .t1)
+checked c =
+    let told = c .before .before .before .before in
+    c .check-record .ensures
+    ∙ check-parts (entry c .args .t1) (told .before .struct-told .given .1 .1 .1 .0 .1) (told .struct-told2 .given .1 .1 .1 .1 .1 .1 .0 .1)
+
+passed : (c : tie.Else1) → check (entry (c .before) .args .t1) ≡ true
+passed c = sym (checked (c .before)) ∙ not-false _ (c .if1 .left)
 
 check-record-requires : tie.Need-check-record-requires
 check-record-requires c κs = search needs
@@ -34,8 +45,8 @@ refuse-requires c κs = search needs
 
 returns : tie.Need-returns
 returns c =
-    let call = Calls.opens (asked (c .before .before .before)) in
-    c .refuse .ensures ∙ sym (reply-24 _ call (sym (c .before .before .check-record .ensures) ∙ not-true _ (c .before .if1 .taken)))
+    let call = Calls.opens (asked (entry (c .before .before))) in
+    c .refuse .ensures ∙ sym (reply-24 _ call (sym (checked (c .before .before)) ∙ not-true _ (c .before .if1 .taken)))
 
 refuse-requires-2 : tie.Need-refuse-requires-2
 refuse-requires-2 c κs = search needs
@@ -43,8 +54,8 @@ refuse-requires-2 c κs = search needs
 returns-2 : tie.Need-returns-2
 returns-2 c =
     let c1 = c .before .before in
-    let start = c1 .before .before in
-    c .refuse2 .ensures ∙ sym (open-21 (start .args .s) (typed start) (passed c1) (c .before .if2 .taken) (asked start))
+    let start = entry (c1 .before) in
+    c .refuse2 .ensures ∙ sym (open-21 (start .args .t1) (typed start) (passed c1) (c .before .if2 .taken) (asked start))
 
 fault-requires : tie.Need-fault-requires
 fault-requires c κs = search needs
@@ -56,10 +67,10 @@ returns-3 : tie.Need-returns-3
 returns-3 c =
     let c2 = c .before .before .before in
     let c1 = c2 .before in
-    let start = c1 .before .before in
+    let start = entry (c1 .before) in
     let found = rw (toZ-ofZ (start .fits .ceiling)) at (c .before .before .fault .ensures) in
     c .refuse3 .ensures
-    ∙ sym (open-fault (start .args .s) (typed start) (passed c1) (c2 .if2 .left) (asked start) _ (sym found) (c .before .if3 .taken))
+    ∙ sym (open-fault (start .args .t1) (typed start) (passed c1) (c2 .if2 .left) (asked start) _ (sym found) (c .before .if3 .taken))
 
 begin-requires : tie.Need-begin-requires
 begin-requires c κs = search needs
@@ -69,11 +80,11 @@ returns-4 c =
     let c3 = c .before in
     let c2 = c3 .before .before in
     let c1 = c2 .before in
-    let start = c1 .before .before in
+    let start = entry (c1 .before) in
     let found = rw (toZ-ofZ (start .fits .ceiling)) at (c3 .before .fault .ensures) in
     let made = rw (toZ-ofZ (start .fits .ceiling)) at (c .begin .ensures) in
     ap (λ (f : Search). record { search = f; answer = Accepted }) made
-    ∙ sym (open-done (start .args .s) (typed start) (passed c1) (c2 .if2 .left) (asked start) (sym found ∙ c3 .if3 .left))
+    ∙ sym (open-done (start .args .t1) (typed start) (passed c1) (c2 .if2 .left) (asked start) (sym found ∙ c3 .if3 .left))
 
 pub open-core-spec : {M : Type 1} → statement M
 open-core-spec =

@@ -1,128 +1,24 @@
--- The cases of `reply` and `lent` at show, one for each return.
-use Prim.Native.Nat.{ℕ}
-use mathlib.Core.Path.{_≡_, sym, ap, _∙_}
-use mathlib.Core.Bool.{true}
-use native.Mathlib.Omega.{arith}
+-- The call on the record's parts, which leaves the record; its signed numbers are read back from their words.
 use borrow.Author.Needs.{needs}
-use borrow.Author.Tests.{not-true, not-false}
-use Rattle.lists.specs.Fill.{fit}
-use Rattle.search.specs.Check.{check}
-use Rattle.search.specs.Inverse.{Typed}
-use Rattle.search.specs.ReplyCases.{reply-24, lent-24, show-20, show-22, show-23, show-11, show-done, graph-valid}
-use Rattle.machine.specs.Calls as Calls
+use Rattle.integers.specs.Words.{back64}
 use Rattle.search.proofs.show_core.Statement.{statement}
 use Rattle.search.proofs.show_core.Tie as tie
 
--- the arrays of the record have the lengths of their types
-typed : (c : tie.Start) → Typed (c .args .s)
-typed c = search needs
-
-passed : (c : tie.Else1) → check (c .before .before .before .args .s) ≡ true
-passed c = sym (c .before .check-record .ensures) ∙ not-false _ (c .if1 .left)
-
-check-record-requires : tie.Need-check-record-requires
-check-record-requires c κs = search needs
-
-refuse-requires : tie.Need-refuse-requires
-refuse-requires c κs = search needs
-
-returns : tie.Need-returns
-returns c =
-    let call = Calls.show (c .before .before .before .before .args .out .now) in
-    let failed = sym (c .before .before .check-record .ensures) ∙ not-true _ (c .before .if1 .taken) in
-    (c .refuse .ensures ∙ sym (reply-24 _ call failed), sym (lent-24 _ call failed))
-
-refuse-requires-2 : tie.Need-refuse-requires-2
-refuse-requires-2 c κs = search needs
-
-returns-2 : tie.Need-returns-2
-returns-2 c =
-    let c1 = c .before .before .before in
-    let start = c1 .before .before .before in
-    let h = show-20 (start .args .s) (typed start) (passed c1) (not-true _ (c .before .if2 .taken)) (start .args .out .now) in
-    (c .refuse2 .ensures ∙ sym (h .0), sym (h .1))
-
-refuse-requires-3 : tie.Need-refuse-requires-3
-refuse-requires-3 c κs = search needs
-
-returns-3 : tie.Need-returns-3
-returns-3 c =
-    let c2 = c .before .before .before in
-    let c1 = c2 .before .before in
-    let start = c1 .before .before .before in
-    let h =
-    show-22 (start .args .s) (typed start) (passed c1) (not-false _ (c2 .if2 .left)) (start .args .out .now) (c .before .if3 .taken) in
-    (c .refuse3 .ensures ∙ sym (h .0), sym (h .1))
-
-refuse-requires-4 : tie.Need-refuse-requires-4
-refuse-requires-4 c κs = search needs
-
-returns-4 : tie.Need-returns-4
-returns-4 c =
-    let c3 = c .before .before .before in
-    let c2 = c3 .before .before in
-    let c1 = c2 .before .before in
-    let start = c1 .before .before .before in
-    let h =
-    show-23 (start .args .s) (typed start) (passed c1) (not-false _ (c2 .if2 .left)) (start .args .out .now) (c3 .if3 .left)
-    (not-true _ (c .before .if4 .taken)) in
-    (c .refuse4 .ensures ∙ sym (h .0), sym (h .1))
-
-refuse-requires-5 : tie.Need-refuse-requires-5
-refuse-requires-5 c κs = search needs
-
-returns-5 : tie.Need-returns-5
-returns-5 c =
-    let c4 = c .before .before .before .before in
-    let c3 = c4 .before .before in
-    let c2 = c3 .before .before in
-    let c1 = c2 .before .before in
-    let start = c1 .before .before .before in
-    let h =
-    show-11 (start .args .s) (typed start) (passed c1) (not-false _ (c2 .if2 .left)) (start .args .out .now) (c3 .if3 .left)
-    (not-false _ (c4 .if4 .left)) (c .before .if5 .taken) in
-    (c .refuse5 .ensures ∙ sym (h .0), sym (h .1))
-
-show-tour-requires : tie.Need-show-tour-requires
-show-tour-requires c κs =
-    let c5 = c .before .before in
-    let c2 = c5 .before .before .before .before .before .before .before in
-    let c1 = c2 .before .before in
-    let start = c1 .before .before .before in
-    omega (arith, c5 .if5 .left, graph-valid (start .args .s) (typed start) (passed c1) (not-false _ (c2 .if2 .left)) .few)
+show-requires : tie.Need-show-requires
+show-requires c κs = search needs
 
 same-length : tie.Need-same-length
 same-length c = search needs
 
-returns-6 : tie.Need-returns-6
-returns-6 c =
-    let c5 = c .before .before .before .before .before in
-    let c4 = c5 .before .before .before in
-    let c3 = c4 .before .before in
-    let c2 = c3 .before .before in
-    let c1 = c2 .before .before in
-    let start = c1 .before .before .before in
-    let h =
-    show-done (start .args .s) (typed start) (passed c1) (not-false _ (c2 .if2 .left)) (start .args .out .now) (c3 .if3 .left)
-    (not-false _ (c4 .if4 .left)) (c5 .if5 .left) in
-    let written = c .before .before .show-tour .ensures in
-    (sym (h .0), written ∙ ap (λ (n : ℕ). fit n 0 (start .args .s .best)) (c5 .if5 .left) ∙ sym (h .1))
+returns : tie.Need-returns
+returns c =
+    let shown = c .before .before in
+    let told = shown .before .before .before .before .before in
+    let start = told .before .before .before .before .before in
+    let s = start .args .t1 in
+    let ceiling = back64 (s .ceiling) (told .before .struct-told .given .1 .1 .1 .0 .1) in
+    let upper = back64 (s .upper) (told .struct-told2 .given .1 .1 .1 .1 .1 .1 .0 .1) in
+    rw (ceiling, upper) at (shown .show .ensures)
 
 pub show-core-spec : {M : Type 1} → statement M
-show-core-spec =
-    tie.close
-    (tie.spec
-    check-record-requires
-    refuse-requires
-    returns
-    refuse-requires-2
-    returns-2
-    refuse-requires-3
-    returns-3
-    refuse-requires-4
-    returns-4
-    refuse-requires-5
-    returns-5
-    show-tour-requires
-    same-length
-    returns-6)
+show-core-spec = tie.close (tie.spec show-requires same-length returns)

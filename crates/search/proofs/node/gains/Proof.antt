@@ -10,10 +10,10 @@ use Rattle.search.proofs.node.gains.Statement.{statement}
 use Rattle.search.proofs.node.gains.Tie as tie
 
 abbrev Inv-loop : tie.InvT-loop
-Inv-loop n step degrees d r₀ v₀ r v = (1 ≤ v) × (v ≤ n) × (n ≤ 20) × GainsTo v step degrees d r
+Inv-loop degrees n step d r₀ v₀ r v = (1 ≤ v) × (v ≤ n) × (n ≤ 20) × GainsTo v step degrees d r
 
 abbrev μ-loop : tie.MeasureT-loop
-μ-loop n step degrees d r₀ v₀ r v = n - v
+μ-loop degrees n step d r₀ v₀ r v = n - v
 
 loop-holds : tie.Need-loop-holds Inv-loop μ-loop
 loop-holds c = (omega arith, c .pre .0, c .pre .1, gains-none _ _ _ (omega arith))
@@ -27,17 +27,17 @@ array-copy-out-gained c = search needs
 add-gain : tie.Need-add-gain Inv-loop μ-loop
 add-gain c = search needs
 
-array-read-gain : tie.Need-array-read-gain Inv-loop μ-loop
-array-read-gain c = search needs
+element-copy-out-gain : tie.Need-element-copy-out-gain Inv-loop μ-loop
+element-copy-out-gain c = search needs
 
 gain-requires : tie.Need-gain-requires Inv-loop μ-loop
-gain-requires c κs = c .before .before .before .pre .2
+gain-requires c κs = c .before .before .before .before .pre .2
 
 gained-requires : tie.Need-gained-requires Inv-loop μ-loop
 gained-requires c κs =
-    let l = c .before .before .before .loop in
-    let s = c .before .before .before .before in
-    rw (back32 (getD (s .args .t2) (l .v) (pos 0)) (c .before .gained-arg .given), back32 (c .gain .result) (c .gain .ok))
+    let l = c .before .before .before .before .loop in
+    let s = c .before .before .before .before .before in
+    rw (back32 (getD (s .args .t2) (l .v) (pos 0)) (c .before .before .gained-arg .given), back32 (c .gain .result) (c .gain .ok))
     (s .pre .3 (l .v) (omega arith), c .gain .ensures .1)
 
 mul-r : tie.Need-mul-r Inv-loop μ-loop
@@ -54,11 +54,11 @@ loop-less c = search needs
 
 loop-again : tie.Need-loop-again Inv-loop μ-loop
 loop-again c =
-    let l = c .before .before .before .before .loop in
-    let s = c .before .before .before .before .before in
+    let l = c .before .before .before .before .before .loop in
+    let s = c .before .before .before .before .before .before in
     let e =
     rw (
-      back32 (getD (s .args .t2) (l .v) (pos 0)) (c .before .before .gained-arg .given),
+      back32 (getD (s .args .t2) (l .v) (pos 0)) (c .before .before .before .gained-arg .given),
       back32 (c .before .gain .result) (c .before .gain .ok),
       c .before .gain .ensures .0,
     ) at (c .gained .ensures)
@@ -67,7 +67,7 @@ loop-again c =
       omega arith,
       omega arith,
       l .inv .2,
-      gains-more (l .v) (s .args .step) (s .args .t1) (s .args .t2) (l .r) (c .gained .result) (l .inv .0) (omega arith)
+      gains-more (l .v) (s .args .step) (s .args .degrees .now) (s .args .t2) (l .r) (c .gained .result) (l .inv .0) (omega arith)
           e (l .inv .3),
     )
 
@@ -86,7 +86,7 @@ gains-spec =
     mul-gained
     array-copy-out-gained
     add-gain
-    array-read-gain
+    element-copy-out-gain
     gain-requires
     gained-requires
     mul-r

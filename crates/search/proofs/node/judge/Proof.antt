@@ -96,21 +96,21 @@ returns c =
       handed p .1,
     )
 
-degrees-requires : tie.Need-degrees-requires
-degrees-requires c κs =
-    let s = start (c .before .before .before) in
-    (s .pre .0 .few, λ k h. let e = ends-of (given s) (s .pre .0) k h in record { less = e .less; high = e .high })
+count-degrees-requires : tie.Need-count-degrees-requires
+count-degrees-requires c κs =
+    let s = start (c .before .before .before .before) in
+    (s .pre .0 .few, λ k h. let e = ends-of (given s) (s .pre .0) k h in record { less = e .less; high = e .high }, s .pre .5)
 
 two-each-requires : tie.Need-two-each-requires
 two-each-requires c κs = search needs
 
 returns-2 : tie.Need-returns-2
 returns-2 c =
-    let b = c .before .before .before .before in
+    let b = c .before .before .before .before .before .before in
     let s = start (b .before .before) in
     let w = within b .1 in (
       judged-found (given s) (s .pre .0) (used s) (s .args .upper) (within b .0) (w .tree) (w .least) (w .low) _ _ (tree-bytes b)
-          (degrees-edged (given s) _ _ (c .before .before .degrees .ensures)) (sym (c .before .two-each .ensures) ∙ c .if2 .taken),
+          (degrees-edged (given s) _ _ (c .before .before .before .count-degrees .ensures)) (sym (c .before .two-each .ensures) ∙ c .if2 .taken),
       omega arith,
       handed (b .before .before) .1,
     )
@@ -120,7 +120,7 @@ apply-requires c κs = search needs
 
 returns-3 : tie.Need-returns-3
 returns-3 c =
-    let b = c .before .before .before .before .before .before .before in
+    let b = c .before .before .before .before .before .before .before .before .before in
     let p = b .before .before in
     let s = start p in
     let d = used s in
@@ -128,7 +128,7 @@ returns-3 c =
     let w = within b .1 in
     let ruled = pass-rulings (given s) d u (s .pre .0) (used-size s) (s .pre .1) (s .pre .2) _ (within b .0) w in (
       judged-ruled (given s) (s .pre .0) d u (within b .0) (w .tree) (w .least) (w .low) _ _ (tree-bytes b)
-          (degrees-edged (given s) _ _ (c .before .before .before .before .before .degrees .ensures))
+          (degrees-edged (given s) _ _ (c .before .before .before .before .before .before .count-degrees .ensures))
           (p .pass .last .1 .1 .1 .1 .1 .1 .1 .1 .1 .1 .0) _
           (λ k h. ap (λ (l : List ℕ). getD l k 0) (said p .2) ∙ ruled k h) (c .apply .ensures)
           (sym (c .before .before .before .before .two-each .ensures) ∙ c .before .before .before .if2 .left),
@@ -145,7 +145,7 @@ judge-spec =
     pass-requires
     is-bound-requires
     returns
-    degrees-requires
+    count-degrees-requires
     two-each-requires
     returns-2
     apply-requires

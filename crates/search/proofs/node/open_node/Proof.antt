@@ -66,17 +66,18 @@ slice-aggregate-judge c =
 
 judge-requires : tie.Need-judge-requires Inv-loop μ-loop
 judge-requires c κs =
-    let l = c .before .before .before .loop in (
+    let l = c .before .before .before .before .loop in (
       at-valid _ (l .inv .0) _ _ _ _ _ _ (l .inv .3),
       l .inv .3 .fits,
       l .inv .1,
       at-marks _ (l .inv .0) _ _ _ _ _ _ (l .inv .3),
       l .inv .5,
+      refl,
     )
 
 -- the turn that a pass is in
 abbrev turn : tie.After-judge Inv-loop μ-loop → tie.At-loop Inv-loop μ-loop
-turn j = j .before .before .before .before
+turn j = j .before .before .before .before .before
 
 -- where the function starts
 abbrev start : tie.After-judge Inv-loop μ-loop → tie.Start Inv-loop μ-loop
@@ -85,7 +86,8 @@ start j = turn j .before
 -- what a pass comes to, by its verdict
 judged : (j : tie.After-judge Inv-loop μ-loop) (v : Verdict) → j .judge .result .verdict ≡ v
     → JudgedIs (withBytes (given (start j)) (turn j .loop .row)) (fit (start j .args .n) (pos 0) (turn j .loop .d))
-    (toZ w64 (ofZ w64 (start j .args .upper))) v (j .judge .last .1 .1 .1 .1 .1 .1 .1 .1 .0) (j .judge .result .degrees)
+    (toZ w64 (ofZ w64 (start j .args .upper))) v (j .judge .last .1 .1 .1 .1 .1 .1 .1 .1 .0)
+    (j .judge .last .1 .1 .1 .1 .1 .1 .1 .1 .1 .1 .0)
 judged j v e = judged-as _ _ _ _ _ _ _ e (j .judge .ensures .0)
 
 -- what all passes come to, with the upper bound read back from its word

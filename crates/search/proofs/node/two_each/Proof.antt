@@ -9,10 +9,10 @@ use Rattle.search.proofs.node.two_each.Statement.{statement}
 use Rattle.search.proofs.node.two_each.Tie as tie
 
 abbrev Inv-loop : tie.InvT-loop
-Inv-loop n degrees v₀ v = (v ≤ n) × (n ≤ 20) × (allTwo degrees v ≡ true)
+Inv-loop degrees n v₀ v = (v ≤ n) × (n ≤ 20) × (allTwo degrees v ≡ true)
 
 abbrev μ-loop : tie.MeasureT-loop
-μ-loop n degrees v₀ v = n - v
+μ-loop degrees n v₀ v = n - v
 
 loop-holds : tie.Need-loop-holds Inv-loop μ-loop
 loop-holds c = (omega arith, c .pre, two-none _)
@@ -20,12 +20,12 @@ loop-holds c = (omega arith, c .pre, two-none _)
 add-if1 : tie.Need-add-if1 Inv-loop μ-loop
 add-if1 c = search needs
 
-array-read-if1 : tie.Need-array-read-if1 Inv-loop μ-loop
-array-read-if1 c = search needs
+element-copy-out-if1 : tie.Need-element-copy-out-if1 Inv-loop μ-loop
+element-copy-out-if1 c = search needs
 
 returns : tie.Need-returns Inv-loop μ-loop
 returns c =
-    let l = c .before .before .loop in
+    let l = c .before .before .before .loop in
     sym (two-not _ _ (l .v) (omega arith) (c .if1 .taken))
 
 add-v : tie.Need-add-v Inv-loop μ-loop
@@ -36,7 +36,7 @@ loop-less c = search needs
 
 loop-again : tie.Need-loop-again Inv-loop μ-loop
 loop-again c =
-    let l = c .before .before .loop in
+    let l = c .before .before .before .loop in
     (omega arith, l .inv .1, two-more _ (l .v) (l .inv .2) (c .if1 .left))
 
 returns-2 : tie.Need-returns-2 Inv-loop μ-loop
@@ -53,7 +53,7 @@ two-each-spec =
     μ-loop
     loop-holds
     add-if1
-    array-read-if1
+    element-copy-out-if1
     returns
     add-v
     loop-less

@@ -24,10 +24,10 @@ zeros-requires c κs = search needs
 
 returns-3 : tie.Need-returns-3
 returns-3 c =
-    let c2 = c .before .before .before in
-    let c1 = c2 .before .before .before in
-    let s = c1 .before .before .before .args .s in
-    says-fields-tidy s (c .zeros .result) (s .graph .m)
+    let c2 = c .before .before in
+    let c1 = c2 .before .before in
+    let a = c1 .before .before .args in
+    says-fields-tidy (a .g) (a .multipliers) (a .has-best) (a .best) (c .zeros .result) (a .g .m)
     (says-yes (c1 .before .graph-tidy .result) (c1 .before .graph-tidy .ensures) (not-false _ (c1 .if1 .left)))
     (says-yes (c2 .before .multipliers-tidy .result) (c2 .before .multipliers-tidy .ensures) (not-false _ (c2 .if2 .left)))
     (rw (c .before .if3 .taken)) (c .zeros .ensures)
@@ -37,10 +37,10 @@ zeros-requires-2 c κs = search needs
 
 returns-4 : tie.Need-returns-4
 returns-4 c =
-    let c2 = c .before .before .before in
-    let c1 = c2 .before .before .before in
-    let s = c1 .before .before .before .args .s in
-    says-fields-tidy s (c .zeros2 .result) 0
+    let c2 = c .before .before in
+    let c1 = c2 .before .before in
+    let a = c1 .before .before .args in
+    says-fields-tidy (a .g) (a .multipliers) (a .has-best) (a .best) (c .zeros2 .result) 0
     (says-yes (c1 .before .graph-tidy .result) (c1 .before .graph-tidy .ensures) (not-false _ (c1 .if1 .left)))
     (says-yes (c2 .before .multipliers-tidy .result) (c2 .before .multipliers-tidy .ensures) (not-false _ (c2 .if2 .left)))
     (rw (c .before .if3 .left)) (c .zeros2 .ensures)

@@ -3,8 +3,8 @@ use mathlib.Core.Path.{refl, sym, _∙_}
 use mathlib.Core.Bool.{true≢false}
 use borrow.Author.Needs.{needs}
 use Rattle.machine.specs.Calls.{close, step}
-use Rattle.search.specs.Canonical.{Idle}
 use Rattle.search.specs.CheckLoops.{says-eq, zero64}
+use Rattle.search.specs.CheckParts.{FieldsIdle}
 use Rattle.search.proofs.record.idle.Statement.{statement}
 use Rattle.search.proofs.record.idle.Tie as tie
 
@@ -34,24 +34,23 @@ returns-8 c = λ e. true≢false (sym (c .if8 .taken) ∙ e .best)
 
 returns-9 : tie.Need-returns-9
 returns-9 c =
-    let c8 = c .before in
-    let c7 = c8 .before in
-    let c6 = c7 .before .before in
-    let c5 = c6 .before .before .before in
-    let c4 = c5 .before .before in
-    let c3 = c4 .before .before in
-    let c2 = c3 .before .before .before in
-    let c1 = c2 .before .before in
-    let s = c1 .before .before .before .args .s in
-    says-eq (s .count) 0 (Idle s) (λ e. record {
+    let c7 = c .before in
+    let c6 = c7 .before in
+    let c5 = c6 .before in
+    let c4 = c5 .before in
+    let c3 = c4 .before in
+    let c2 = c3 .before in
+    let c1 = c2 .before in
+    let start = c1 .before in
+    says-eq (start .args .count) 0 (FieldsIdle _ _ _ _ _ _ _ _ _) (λ e. record {
       n = c1 .if1 .left;
       m = c2 .if2 .left;
-      ceiling = zero64 (s .ceiling) (c3 .before .struct-told .given .1 .1 .1 .0 .1) (c3 .if3 .left);
+      ceiling = zero64 (start .args .ceiling) (start .fits .ceiling .sfits) (c3 .if3 .left);
       sweeps = c4 .if4 .left;
       step = c5 .if5 .left;
-      upper = zero64 (s .upper) (c6 .before .struct-told2 .given .1 .1 .1 .1 .1 .1 .0 .1) (c6 .if6 .left);
+      upper = zero64 (start .args .upper) (start .fits .upper .sfits) (c6 .if6 .left);
       depth = c7 .if7 .left;
-      best = c8 .if8 .left;
+      best = c .if8 .left;
       count = e;
     }) (λ e. e .count)
 

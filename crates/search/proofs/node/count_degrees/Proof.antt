@@ -6,8 +6,8 @@ use native.Mathlib.Omega.{arith}
 use borrow.Author.Needs.{needs}
 use lib.Seq.{getD-set-other}
 use Rattle.search.specs.Counting.{edged, raised, DegreesTo, degrees-none, degrees-skip, degrees-more, degrees-to}
-use Rattle.search.proofs.node.degrees.Statement.{statement}
-use Rattle.search.proofs.node.degrees.Tie as tie
+use Rattle.search.proofs.node.count_degrees.Statement.{statement}
+use Rattle.search.proofs.node.count_degrees.Tie as tie
 
 abbrev Inv-loop : tie.InvT-loop
 Inv-loop a b m w r₀ k₀ r k = (k ≤ m) × (m ≤ 190) × DegreesTo k (edged m a b) w r
@@ -16,7 +16,7 @@ abbrev μ-loop : tie.MeasureT-loop
 μ-loop a b m w r₀ k₀ r k = m - k
 
 loop-holds : tie.Need-loop-holds Inv-loop μ-loop
-loop-holds c = (omega arith, c .pre .0, degrees-none _ _)
+loop-holds c = rw (c .pre .2) (omega arith, c .pre .0, degrees-none _ _)
 
 element-copy-out-if1 : tie.Need-element-copy-out-if1 Inv-loop μ-loop
 element-copy-out-if1 c = search needs
@@ -33,42 +33,42 @@ element-copy-out-wide-2 c = search needs
 wide-requires-2 : tie.Need-wide-requires-2 Inv-loop μ-loop
 wide-requires-2 c κs = search needs
 
-array-read-r : tie.Need-array-read-r Inv-loop μ-loop
-array-read-r c =
+element-copy-out-r : tie.Need-element-copy-out-r Inv-loop μ-loop
+element-copy-out-r c =
     let at = c .before .before .before .before .before .before .before in
     let e = at .before .pre .1 (at .loop .k) (omega arith) in
     omega (arith, c .before .before .wide .ensures, e .less, e .high)
 
 add-r : tie.Need-add-r Inv-loop μ-loop
 add-r c =
-    let at = c .before .before .before .before .before .before .before in
-    omega (arith, at .loop .inv .2 .most (c .before .before .wide .result))
+    let at = c .before .before .before .before .before .before .before .before in
+    omega (arith, at .loop .inv .2 .most (c .before .before .before .wide .result))
 
-array-write-r : tie.Need-array-write-r Inv-loop μ-loop
-array-write-r c =
-    let at = c .before .before .before .before .before .before .before in
+element-write-r : tie.Need-element-write-r Inv-loop μ-loop
+element-write-r c =
+    let at = c .before .before .before .before .before .before .before .before in
     let e = at .before .pre .1 (at .loop .k) (omega arith) in
-    omega (arith, c .before .before .wide .ensures, e .less, e .high)
+    omega (arith, c .before .before .before .wide .ensures, e .less, e .high)
 
-array-read-r-2 : tie.Need-array-read-r-2 Inv-loop μ-loop
-array-read-r-2 c =
-    let at = c .before .before .before .before .before .before .before in
+element-copy-out-r-2 : tie.Need-element-copy-out-r-2 Inv-loop μ-loop
+element-copy-out-r-2 c =
+    let at = c .before .before .before .before .before .before .before .before in
     let e = at .before .pre .1 (at .loop .k) (omega arith) in
-    omega (arith, c .wide2 .ensures, e .less, e .high)
+    omega (arith, c .before .wide2 .ensures, e .less, e .high)
 
 add-r-2 : tie.Need-add-r-2 Inv-loop μ-loop
 add-r-2 c =
-    let at = c .before .before .before .before .before .before .before in
+    let at = c .before .before .before .before .before .before .before .before .before in
     let e = at .before .pre .1 (at .loop .k) (omega arith) in
-    rw (getD-set-other (at .loop .r) (c .before .before .wide .result) (c .wide2 .result) _ 0
-    (omega (arith, c .before .before .wide .ensures, c .wide2 .ensures, e .less)))
-    (omega (arith, at .loop .inv .2 .most (c .wide2 .result)))
+    rw (getD-set-other (at .loop .r) (c .before .before .before .before .wide .result) (c .before .before .wide2 .result) _ 0
+    (omega (arith, c .before .before .before .before .wide .ensures, c .before .before .wide2 .ensures, e .less)))
+    (omega (arith, at .loop .inv .2 .most (c .before .before .wide2 .result)))
 
-array-write-r-2 : tie.Need-array-write-r-2 Inv-loop μ-loop
-array-write-r-2 c =
-    let at = c .before .before .before .before .before .before .before in
+element-write-r-2 : tie.Need-element-write-r-2 Inv-loop μ-loop
+element-write-r-2 c =
+    let at = c .before .before .before .before .before .before .before .before .before in
     let e = at .before .pre .1 (at .loop .k) (omega arith) in
-    omega (arith, c .wide2 .ensures, e .less, e .high)
+    omega (arith, c .before .before .wide2 .ensures, e .less, e .high)
 
 add-k : tie.Need-add-k Inv-loop μ-loop
 add-k c = search needs
@@ -82,7 +82,7 @@ loop-again c =
     let l = at .loop in
     ⊎-elim
     (λ w.
-    let e : c .if1 .r ≡ raised (l .r) (w .2 .result) (w .4 .result) = w .5 in
+    let e : c .if1 .r ≡ raised (l .r) (w .2 .result) (w .4 .result) = w .7 in
     rw (e, w .2 .ensures, w .4 .ensures) (
       omega arith,
       l .inv .1,
@@ -98,8 +98,8 @@ returns c =
     let l = c .before .loop in
     degrees-to (l .k) _ _ _ _ (omega arith) (l .inv .2)
 
-pub degrees-spec : {M : Type 1} → statement M
-degrees-spec =
+pub count-degrees-spec : {M : Type 1} → statement M
+count-degrees-spec =
     tie.close
     (tie.spec
     Inv-loop
@@ -110,12 +110,12 @@ degrees-spec =
     wide-requires
     element-copy-out-wide-2
     wide-requires-2
-    array-read-r
+    element-copy-out-r
     add-r
-    array-write-r
-    array-read-r-2
+    element-write-r
+    element-copy-out-r-2
     add-r-2
-    array-write-r-2
+    element-write-r-2
     add-k
     loop-less
     loop-again

@@ -8,11 +8,13 @@ use lib.Dec.{eqb, ltb}
 use lib.IntN.{ℤ}
 use Rattle.lists.specs.Bools.{bit}
 use Rattle.machine.specs.Calls.{Call, lentBy}
+use Rattle.search.specs.CheckParts.{searchWith}
 use Rattle.search.specs.Replies.{reply, lent}
 use Rattle.search.specs.declared.Search.{Search}
 use Rattle.search.specs.declared.Outcome.{Outcome}
 use Rattle.search.specs.declared.Answer.{Answer}
 use Rattle.search.specs.declared.Answer.the-variants.{Refused, Accepted, GoingOn, Finished, Searching, NoTour, Best}
+use Rattle.graph.specs.declared.Graph.{Graph}
 use Rattle.graph.specs.Valid.{graphOf}
 use Rattle.ffi.specs.declared.searches.Said.{Said}
 use Rattle.ffi.specs.declared.searches.Left.{Left}
@@ -24,22 +26,12 @@ unfoldable pub flagsFit : ℕ → ℕ → Bool
 flagsFit o h = ltb o 2 && ltb h 2
 
 -- the record that the parts make
+abbrev pub partsOf : ℕ → Graph → List ℤ → ℤ → ℕ → ℕ → ℤ → ℕ → List ℕ → ℕ → List ℕ → ℕ → Search
+partsOf o g multipliers ceiling sweeps step upper depth stack h best count =
+    searchWith (eqb o 1) g multipliers ceiling sweeps step upper depth stack (eqb h 1) best count
+
 abbrev pub searchOf : ℕ → ℕ → ℕ → List ℕ → List ℕ → List ℤ → List ℕ → List ℤ → ℤ → ℕ → ℕ → ℤ → ℕ → List ℕ → ℕ → List ℕ → ℕ → Search
-searchOf o n m a b cost mark multipliers ceiling sweeps step upper depth stack h best count =
-    record {
-      «open» = eqb o 1;
-      graph = graphOf n m a b cost mark;
-      multipliers = multipliers;
-      ceiling = ceiling;
-      sweeps = sweeps;
-      step = step;
-      upper = upper;
-      depth = depth;
-      stack = stack;
-      «has_best» = eqb h 1;
-      best = best;
-      count = count;
-    }
+searchOf o n m a b cost mark = partsOf o (graphOf n m a b cost mark)
 
 -- ---- the answer
 
@@ -72,6 +64,10 @@ unfit s o h value nodes =
 
 unfoldable pub left : ℕ → ℕ → ℤ → ℕ → Search → Call → Left
 left o h value nodes s c = cond (flagsFit o h) (leftBy (reply s c) value nodes) (unfit s o h value nodes)
+
+-- what is left of a call, by its parts
+abbrev pub leaving : ℕ → Search → ℕ → Said → Left
+leaving o s h said = record { search = s; «open» = o; «has_best» = h; said = said }
 
 -- every lent part as the call leaves it, and the number that it answers
 abbrev pub Leaves : Left → ℕ → ℕ → ℕ → ℕ → List ℕ → List ℕ → List ℤ → List ℕ → List ℤ → ℤ → ℕ → ℕ → ℤ → ℕ → List ℕ → ℕ → List ℕ → ℕ

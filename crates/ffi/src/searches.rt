@@ -6,7 +6,7 @@ ghost use Rattle.lists.specs.Bools.{bit};
 ghost use Rattle.machine.specs.Calls as Calls;
 ghost use Rattle.search.specs.Record.{openingOf, fresh};
 ghost use Rattle.graph.specs.Valid.{graphOf};
-ghost use Rattle.ffi.specs.Searches.{flagsFit, searchOf, saidBy, leftBy, unfit, left, leftList, Leaves, Holds};
+ghost use Rattle.ffi.specs.Searches.{flagsFit, partsOf, searchOf, saidBy, leftBy, unfit, left, leaving, leftList, Leaves, Holds};
 use crate::graph_of;
 use graph::Graph;
 use search::Answer;
@@ -322,14 +322,78 @@ pub extern "C" fn planner_open(
     said.number
 }
 
-fn ran(s: Search, open: u8, has_best: u8, budget: u64, value: i64, nodes: u64) -> Left
-    ensures { λ r. ⌜ r ≡ left «open» «has_best» value nodes s (Calls.run budget) ⌝ }
+// What a run leaves: the parts that it changes, but for those that are lent, and the answer.
+pub(crate) struct Stopped {
+    pub upper: i64,
+    pub depth: usize,
+    pub has_best: u8,
+    pub count: u64,
+    pub said: Said,
+}
+
+fn ran(
+    open: u8,
+    g: Graph,
+    multipliers: [i32; 20],
+    ceiling: i64,
+    sweeps: u32,
+    step: u32,
+    upper: i64,
+    depth: usize,
+    stack: &mut [u8; 36290],
+    has_best: u8,
+    best: &mut [u8; 190],
+    count: u64,
+    budget: u64,
+    value: i64,
+    nodes: u64,
+) -> Stopped
+    ensures { λ r. ⌜ left «open» «has_best» value nodes
+        (partsOf «open» g multipliers ceiling sweeps step upper depth (now (stack .entry)) «has_best»
+        (now (best .entry)) count) (Calls.run budget)
+        ≡ leaving «open» (partsOf «open» g multipliers ceiling sweeps step (r .upper) (r .depth) (now (stack .exit)) (r .«has_best»)
+        (now (best .exit)) (r .count)) (r .«has_best») (r .said) ⌝ }
 {
     if !flags_fit(open, has_best) {
-        return unfit_by(s, open, has_best, value, nodes);
+        let said = Said {
+            number: 24,
+            place: 0,
+            value: value,
+            nodes: nodes,
+        };
+        return Stopped {
+            upper: upper,
+            depth: depth,
+            has_best: has_best,
+            count: count,
+            said: said,
+        };
     }
-    let out = search::run_core(s, budget);
-    left_by(out, value, nodes)
+    let t = search::parts::run(
+        open == 1,
+        g,
+        multipliers,
+        ceiling,
+        sweeps,
+        step,
+        upper,
+        depth,
+        stack,
+        has_best == 1,
+        best,
+        count,
+        budget,
+    );
+    let answer = t.answer;
+    let said = said_by(answer, value, nodes);
+    let with_best = flag(t.has_best);
+    Stopped {
+        upper: t.upper,
+        depth: t.depth,
+        has_best: with_best,
+        count: t.count,
+        said: said,
+    }
 }
 
 // Running. Ruled out: a node opened beyond the budget.
@@ -371,61 +435,30 @@ pub extern "C" fn planner_run(
         (now (nodes .exit))
         ⌝ }
 {
-    let from = *a;
-    let to = *b;
-    let costs = *cost;
-    let marks = *mark;
+    let g = graph_of(*n, *m, a, b, cost, mark);
     let d = *multipliers;
-    let bytes = *stack;
-    let tour = *best;
-    let s = search_of(
+    let l = ran(
         *open,
-        *n,
-        *m,
-        from,
-        to,
-        costs,
-        marks,
+        g,
         d,
         *ceiling,
         *sweeps,
         *step,
         *upper,
         *depth,
-        bytes,
+        stack,
         *has_best,
-        tour,
+        best,
         *count,
+        budget,
+        *value,
+        *nodes,
     );
-    let l = ran(s, *open, *has_best, budget, *value, *nodes);
-    let t = l.search;
-    let g = t.graph;
-    let from = g.a;
-    let to = g.b;
-    let costs = g.cost;
-    let marks = g.mark;
-    let d = t.multipliers;
-    let bytes = t.stack;
-    let tour = t.best;
-    *open = l.open;
-    *n = g.n;
-    *m = g.m;
-    *a = from;
-    *b = to;
-    *cost = costs;
-    *mark = marks;
-    *multipliers = d;
-    let first = t.ceiling;
-    *ceiling = first;
-    *sweeps = t.sweeps;
-    *step = t.step;
-    let now_upper = t.upper;
+    let now_upper = l.upper;
     *upper = now_upper;
-    *depth = t.depth;
-    *stack = bytes;
+    *depth = l.depth;
     *has_best = l.has_best;
-    *best = tour;
-    *count = t.count;
+    *count = l.count;
     let said = l.said;
     *place = said.place;
     let told = said.value;
@@ -434,17 +467,55 @@ pub extern "C" fn planner_run(
     said.number
 }
 
-fn told(s: Search, open: u8, has_best: u8, value: i64, nodes: u64) -> Left
-    ensures { λ r. ⌜ r ≡ left «open» «has_best» value nodes s (Calls.tell) ⌝ }
+// What telling answers; the record is as it was.
+fn told<'a>(
+    open: u8,
+    g: Graph,
+    multipliers: [i32; 20],
+    ceiling: i64,
+    sweeps: u32,
+    step: u32,
+    upper: i64,
+    depth: usize,
+    stack: &'a [u8; 36290],
+    has_best: u8,
+    best: &'a [u8; 190],
+    count: u64,
+    value: i64,
+    nodes: u64,
+) -> Said
+    ensures { λ r. ⌜ left «open» «has_best» value nodes
+        (partsOf «open» g multipliers ceiling sweeps step upper depth (now (stack .entry)) «has_best»
+        (now (best .entry)) count) Calls.tell
+        ≡ leaving «open» (partsOf «open» g multipliers ceiling sweeps step upper depth (now (stack .entry)) «has_best»
+        (now (best .entry)) count) «has_best» r ⌝ }
 {
     if !flags_fit(open, has_best) {
-        return unfit_by(s, open, has_best, value, nodes);
+        return Said {
+            number: 24,
+            place: 0,
+            value: value,
+            nodes: nodes,
+        };
     }
-    let out = search::tell_core(s);
-    left_by(out, value, nodes)
+    let answer = search::parts::tell(
+        open == 1,
+        g,
+        multipliers,
+        ceiling,
+        sweeps,
+        step,
+        upper,
+        depth,
+        stack,
+        has_best == 1,
+        best,
+        count,
+    );
+    said_by(answer, value, nodes)
 }
 
-// Telling. Ruled out: a cost where nodes wait; a part of the record changed.
+// Telling: the record stays as it is. Ruled out: a cost where nodes wait; a part of the record changed.
 #[no_mangle]
 pub extern "C" fn planner_tell(
     open: &mut u8,
@@ -481,62 +552,24 @@ pub extern "C" fn planner_tell(
         (now (nodes .exit))
         ⌝ }
 {
-    let from = *a;
-    let to = *b;
-    let costs = *cost;
-    let marks = *mark;
+    let g = graph_of(*n, *m, a, b, cost, mark);
     let d = *multipliers;
-    let bytes = *stack;
-    let tour = *best;
-    let s = search_of(
+    let said = told(
         *open,
-        *n,
-        *m,
-        from,
-        to,
-        costs,
-        marks,
+        g,
         d,
         *ceiling,
         *sweeps,
         *step,
         *upper,
         *depth,
-        bytes,
+        stack,
         *has_best,
-        tour,
+        best,
         *count,
+        *value,
+        *nodes,
     );
-    let l = told(s, *open, *has_best, *value, *nodes);
-    let t = l.search;
-    let g = t.graph;
-    let from = g.a;
-    let to = g.b;
-    let costs = g.cost;
-    let marks = g.mark;
-    let d = t.multipliers;
-    let bytes = t.stack;
-    let tour = t.best;
-    *open = l.open;
-    *n = g.n;
-    *m = g.m;
-    *a = from;
-    *b = to;
-    *cost = costs;
-    *mark = marks;
-    *multipliers = d;
-    let first = t.ceiling;
-    *ceiling = first;
-    *sweeps = t.sweeps;
-    *step = t.step;
-    let now_upper = t.upper;
-    *upper = now_upper;
-    *depth = t.depth;
-    *stack = bytes;
-    *has_best = l.has_best;
-    *best = tour;
-    *count = t.count;
-    let said = l.said;
     *place = said.place;
     let told = said.value;
     *value = told;
@@ -544,21 +577,60 @@ pub extern "C" fn planner_tell(
     said.number
 }
 
-fn shown(s: Search, open: u8, has_best: u8, out: &mut [u8], value: i64, nodes: u64) -> Left
-    ensures { λ r.
-        ⌜
-        (r ≡ left «open» «has_best» value nodes s (Calls.show (now (out .entry)))) × (now (out .exit) ≡ leftList «open» «has_best» s
-        (Calls.show (now (out .entry))))
-        ⌝ }
+// What showing answers; the record is as it was.
+fn shown<'a>(
+    open: u8,
+    g: Graph,
+    multipliers: [i32; 20],
+    ceiling: i64,
+    sweeps: u32,
+    step: u32,
+    upper: i64,
+    depth: usize,
+    stack: &'a [u8; 36290],
+    has_best: u8,
+    best: &'a [u8; 190],
+    count: u64,
+    out: &mut [u8],
+    value: i64,
+    nodes: u64,
+) -> Said
+    ensures { λ r. ⌜ (left «open» «has_best» value nodes
+        (partsOf «open» g multipliers ceiling sweeps step upper depth (now (stack .entry)) «has_best»
+        (now (best .entry)) count) (Calls.show (now (out .entry)))
+        ≡ leaving «open» (partsOf «open» g multipliers ceiling sweeps step upper depth (now (stack .entry)) «has_best»
+        (now (best .entry)) count) «has_best» r)
+        × (now (out .exit) ≡ leftList «open» «has_best»
+        (partsOf «open» g multipliers ceiling sweeps step upper depth (now (stack .entry)) «has_best»
+        (now (best .entry)) count) (Calls.show (now (out .entry)))) ⌝ }
 {
     if !flags_fit(open, has_best) {
-        return unfit_by(s, open, has_best, value, nodes);
+        return Said {
+            number: 24,
+            place: 0,
+            value: value,
+            nodes: nodes,
+        };
     }
-    let done = search::show_core(s, &mut *out);
-    left_by(done, value, nodes)
+    let answer = search::parts::show(
+        open == 1,
+        g,
+        multipliers,
+        ceiling,
+        sweeps,
+        step,
+        upper,
+        depth,
+        stack,
+        has_best == 1,
+        best,
+        count,
+        &mut *out,
+    );
+    said_by(answer, value, nodes)
 }
 
-// Showing. Ruled out: a byte of `out` written by a refusal.
+// Showing: the record stays as it is here too. Ruled out: a byte of `out` written by a refusal.
 #[no_mangle]
 pub extern "C" fn planner_show(
     open: &mut u8,
@@ -601,62 +673,25 @@ pub extern "C" fn planner_show(
         (now («has_best» .entry)) (now (best .entry)) (now (count .entry))) (Calls.show (now (out .entry))))
         ⌝ }
 {
-    let from = *a;
-    let to = *b;
-    let costs = *cost;
-    let marks = *mark;
+    let g = graph_of(*n, *m, a, b, cost, mark);
     let d = *multipliers;
-    let bytes = *stack;
-    let tour = *best;
-    let s = search_of(
+    let said = shown(
         *open,
-        *n,
-        *m,
-        from,
-        to,
-        costs,
-        marks,
+        g,
         d,
         *ceiling,
         *sweeps,
         *step,
         *upper,
         *depth,
-        bytes,
+        stack,
         *has_best,
-        tour,
+        best,
         *count,
+        &mut *out,
+        *value,
+        *nodes,
     );
-    let l = shown(s, *open, *has_best, &mut *out, *value, *nodes);
-    let t = l.search;
-    let g = t.graph;
-    let from = g.a;
-    let to = g.b;
-    let costs = g.cost;
-    let marks = g.mark;
-    let d = t.multipliers;
-    let bytes = t.stack;
-    let tour = t.best;
-    *open = l.open;
-    *n = g.n;
-    *m = g.m;
-    *a = from;
-    *b = to;
-    *cost = costs;
-    *mark = marks;
-    *multipliers = d;
-    let first = t.ceiling;
-    *ceiling = first;
-    *sweeps = t.sweeps;
-    *step = t.step;
-    let now_upper = t.upper;
-    *upper = now_upper;
-    *depth = t.depth;
-    *stack = bytes;
-    *has_best = l.has_best;
-    *best = tour;
-    *count = t.count;
-    let said = l.said;
     *place = said.place;
     let told = said.value;
     *value = told;

@@ -5,25 +5,27 @@ use Rattle.integers.specs.Words.{back64}
 use Rattle.ffi.proofs.searches.planner_run.Statement.{statement}
 use Rattle.ffi.proofs.searches.planner_run.Tie as tie
 
-search-of-requires : tie.Need-search-of-requires
-search-of-requires c κs = search needs
+graph-of-requires : tie.Need-graph-of-requires
+graph-of-requires c κs = search needs
 
 ran-requires : tie.Need-ran-requires
 ran-requires c κs = search needs
 
 returns : tie.Need-returns
 returns c =
-    let l = c .before .before .before .before .before .before .before .before .before .before .before .before .before in
-    let made = l .before .before .before in
-    let parts = made .before .before .before .before .before .before .before .before .before in
-    let start = parts .before .before .before .before .before .before .before .before .before in
-    let asked =
+    let l = c .before .before .before in
+    let upper = l .before .before .before .before .before .before .before .before in
+    let ceiling = upper .before .before .before in
+    let made = ceiling .before .before .before in
+    let start = made .before .before .before .before .before .before .before in
+    let said =
     rw (
-      back64 (start .args .ceiling .now) (made .before .before .before .before .before .before .before .search-of-arg .given),
-      back64 (start .args .upper .now) (made .before .before .before .before .search-of-arg2 .given),
-    ) at (made .search-of .ensures) in
-    let said = rw (back64 (start .args .value .now) (l .before .before .ran-arg .given), asked) at (l .ran .ensures) in
-    rw (← said) (
+      back64 (start .args .ceiling .now) (ceiling .ran-arg .given),
+      back64 (start .args .upper .now) (upper .ran-arg2 .given),
+      back64 (start .args .value .now) (l .before .before .ran-arg5 .given),
+      made .graph-of .ensures,
+    ) at (l .ran .ensures) in
+    rw said (
       refl,
       refl,
       refl,
@@ -33,19 +35,19 @@ returns c =
       refl,
       refl,
       refl,
-      back64 (l .ran .result .search .ceiling) (c .before .before .before .struct-told .given .1 .1 .1 .0 .1),
-      refl,
-      refl,
-      back64 (l .ran .result .search .upper) (c .before .before .struct-told2 .given .1 .1 .1 .1 .1 .1 .0 .1),
       refl,
       refl,
       refl,
+      back64 (l .ran .result .upper) (c .before .before .struct-told .given .0 .1),
       refl,
       refl,
       refl,
-      back64 (l .ran .result .said .value) (c .struct-told3 .given .1 .1 .0 .1),
+      refl,
+      refl,
+      refl,
+      back64 (l .ran .result .said .value) (c .struct-told2 .given .1 .1 .0 .1),
       refl,
     )
 
 pub planner-run-spec : {M : Type 1} → statement M
-planner-run-spec = tie.close (tie.spec search-of-requires ran-requires returns)
+planner-run-spec = tie.close (tie.spec graph-of-requires ran-requires returns)

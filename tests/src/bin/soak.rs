@@ -234,7 +234,8 @@ fn measure() -> Result<(), String> {
         return Err(message);
     }
     for program in ["rulings", "hunt"] {
-        let kib = least_stack(program).ok_or(format!("{program} needs more than is stated"))?;
+        let kib = least_stack(program)
+            .ok_or(format!("{program} is missing or needs more than is stated"))?;
         deepest.insert(program, 1024 * kib);
     }
     println!("stack, in bytes, over {STACK_RUNS} runs of seed {SEED}:");
@@ -273,7 +274,8 @@ fn least_stack(program: &str) -> Option<usize> {
     };
     let right = at(8 * 1024);
     let (mut low, mut high) = (0, STATED / 1024);
-    if at(high) != right {
+    // A program that is not there fails alike under every limit.
+    if right.iter().any(|end| end.status != Some(0)) || at(high) != right {
         return None;
     }
     while high - low > 4 {

@@ -2,7 +2,7 @@
 
 use super::grow::Grown;
 use super::hang::Hung;
-use super::keys::{ends, limit, number, Key, LANES, WIDEST};
+use super::keys::{limit, number, Key, LANES, WIDEST};
 use super::order::Order;
 use super::Marks;
 use crate::inputs::{Graph, FREE, PLACES};
@@ -29,10 +29,10 @@ pub fn rule(
         // Nothing can be swapped.
         return inside.iter().for_each(|k| rulings[*k as usize] = FORCE);
     }
-    hung.hang(grown, graph.n, slack);
+    hung.hang(grown, inside.len(), slack);
     // In descending order, so that the last offer to a tree edge is the least.
-    rule_outside(hung, rest, rulings);
-    rule_outside(hung, refused, rulings);
+    rule_outside(hung, grown, rest, rulings);
+    rule_outside(hung, grown, refused, rulings);
     rule_inside(hung, grown, inside, rulings);
 }
 
@@ -68,9 +68,9 @@ fn rule_first(grown: &Grown, slack: Key, rulings: &mut Marks) {
 }
 
 /// Swaps edges outside the tree, from the dearest down.
-fn rule_outside(hung: &mut Hung, keys: &[Key], rulings: &mut Marks) {
+fn rule_outside(hung: &mut Hung, grown: &Grown, keys: &[Key], rulings: &mut Marks) {
     for key in keys.iter().rev() {
-        let barred = hung.walk(*key) < *key;
+        let barred = hung.walk(grown, *key) < *key;
         rulings[number(*key)] = if barred { BAR } else { KEEP };
     }
 }
@@ -78,7 +78,7 @@ fn rule_outside(hung: &mut Hung, keys: &[Key], rulings: &mut Marks) {
 /// A free tree edge is forced if the least key that was offered for it is too dear.
 fn rule_inside(hung: &Hung, grown: &Grown, inside: &[u8], rulings: &mut Marks) {
     for k in inside.iter().map(|k| *k as usize) {
-        let (a, b) = ends(grown.key[k]);
+        let (a, b) = grown.parts(grown.key[k]);
         // The lower end's.
         let place = hung.place[a].max(hung.place[b]) as usize % LANES;
         let forced = hung.offer[place] > hung.step[place] | 255;
@@ -91,11 +91,15 @@ impl Hung {
     /// one of them can be swapped with. The end at the higher place climbs until it is no longer the
     /// higher, then the other, until they meet.
     #[inline(always)]
-    fn walk(&mut self, key: Key) -> Key {
-        let (a, b) = ends(key);
+    fn walk(&mut self, grown: &Grown, key: Key) -> Key {
+        let (a, b) = grown.parts(key);
         let (a, b) = (self.place[a] as usize, self.place[b] as usize);
         let (mut x, mut y) = (a.max(b), a.min(b));
         let mut dearest = 0;
+        if x == y {
+            // Only required edges are on the circle.
+            return dearest;
+        }
         'circle: loop {
             loop {
                 let step = self.step[x % LANES];

@@ -5,7 +5,7 @@ use super::order::Order;
 use crate::inputs::{Graph, FREE, REQUIRED, VERTICES};
 
 /// To which part of the tree each vertex belongs.
-type Labels = [u8; LANES];
+pub type Labels = [u8; LANES];
 
 /// A 1-tree.
 pub struct Grown {
@@ -14,10 +14,13 @@ pub struct Grown {
     pub required: usize,
     /// how many edges each vertex has
     pub degree: [u8; LANES],
-    /// beside vertex 1: neighbours of a vertex, a bit each, and the edge between two vertices
+    /// the part to which the required edges join each vertex, named after one of its vertices
+    pub part: Labels,
+    /// beside vertex 1, for the free edges of the tree: neighbours of a part, a bit each, and the edge
+    /// between two parts
     pub near: [u32; LANES],
     pub between: [[u8; VERTICES]; VERTICES],
-    /// keys of the tree edges beside vertex 1, by number
+    /// keys of the free tree edges beside vertex 1, by number
     pub key: [Key; 256],
     /// keys beside vertex 1 that were refused, ascending, and how many free ones were looked at
     refused: [Key; ROOM],
@@ -37,6 +40,7 @@ impl Grown {
             edges: [0; LANES],
             required: 0,
             degree: [0; LANES],
+            part: [0; LANES],
             near: [0; LANES],
             between: [[0; VERTICES]; VERTICES],
             key: [0; 256],
@@ -67,6 +71,7 @@ impl Grown {
     fn kruskal(&mut self, graph: &Graph, order: &Order) -> Option<i32> {
         let mut label = std::array::from_fn(|vertex| vertex as u8);
         let cost = self.take_required(graph, order.required(), &mut label)?;
+        self.part = label;
         Some(cost + self.take_free(graph, order.free(), &mut label)?)
     }
 
@@ -83,7 +88,7 @@ impl Grown {
             if to == from {
                 return None;
             }
-            cost += self.join(graph, i, *key);
+            cost += self.take(graph, i, *key);
             relabel(label, from, to);
         }
         self.required = keys.len();
@@ -113,18 +118,25 @@ impl Grown {
         Some(cost)
     }
 
-    /// Takes an edge beside vertex 1, and notes what hanging the tree up will ask; while labels are
+    /// Takes a free edge beside vertex 1, and notes what hanging the tree up will ask; while labels are
     /// waited for, this costs little.
     #[inline(always)]
     fn join(&mut self, graph: &Graph, place: usize, key: Key) -> i32 {
         let k = number(key);
-        let (a, b) = ends(key);
+        let (a, b) = self.parts(key);
         self.key[k] = key;
         self.near[a] |= 1 << b;
         self.near[b] |= 1 << a;
         self.between[a - 1][b - 1] = k as u8;
         self.between[b - 1][a - 1] = k as u8;
         self.take(graph, place, key)
+    }
+
+    /// The parts of both ends.
+    #[inline(always)]
+    pub fn parts(&self, key: Key) -> (usize, usize) {
+        let (a, b) = ends(key);
+        (self.part[a] as usize % LANES, self.part[b] as usize % LANES)
     }
 
     /// Takes an edge as this one of the tree; its cost.

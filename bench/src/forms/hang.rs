@@ -1,15 +1,15 @@
-//! The tree beside vertex 1, hung up at vertex 2.
+//! The free edges of the tree beside vertex 1, hung up at the part of vertex 2.
 
 use super::grow::Grown;
-use super::keys::{is_required, limit, Key, FAR, LANES};
+use super::keys::{limit, Key, FAR, LANES};
 
-/// Places count from the root, and each branch has its places in a row. So of two vertices, the one
+/// Places count from the root, and each branch has its places in a row. So of two parts, the one
 /// at the higher place climbs past no place below the other's until it is where both climbs meet.
 pub struct Hung {
-    /// by vertex
+    /// by part
     pub place: [u8; LANES],
-    /// by place: the dearest key that the edge above can be swapped with, 0 where that edge is
-    /// required; but in the lowest byte the place above
+    /// by place: the dearest key that the edge above can be swapped with; but in the lowest byte the
+    /// place above
     pub step: [Key; LANES],
     /// by place: the key that was last offered for the edge above
     pub offer: [Key; LANES],
@@ -25,14 +25,15 @@ impl Hung {
         }
     }
 
-    /// Hangs the tree up, child by child; a leaf leads back to the last vertex with children left.
-    pub fn hang(&mut self, grown: &Grown, n: usize, slack: Key) {
+    /// Hangs the tree up, child by child; a leaf leads back to the last part with children left.
+    pub fn hang(&mut self, grown: &Grown, frees: usize, slack: Key) {
         let (mut left, mut top) = ([0; LANES], 0);
-        let mut met = 1u32 << 2;
-        let mut children = grown.near[2];
-        self.place[2] = 0;
+        let root = grown.part[2] as usize % LANES;
+        let mut met = 1u32 << root;
+        let mut children = grown.near[root];
+        self.place[root] = 0;
         self.offer = [FAR; LANES];
-        for place in 1..n - 1 {
+        for place in 1..=frees {
             if children == 0 {
                 top -= 1;
                 children = left[top % LANES];
@@ -55,11 +56,7 @@ impl Hung {
     fn put(&mut self, grown: &Grown, place: usize, vertex: usize, above: usize, slack: Key) {
         let k = grown.between[vertex - 1][above - 1];
         let key = grown.key[k as usize];
-        let limit = match is_required(key) {
-            true => 0,
-            false => limit(key, slack),
-        };
         self.place[vertex] = place as u8;
-        self.step[place] = limit & !255 | self.place[above] as Key;
+        self.step[place] = limit(key, slack) & !255 | self.place[above] as Key;
     }
 }

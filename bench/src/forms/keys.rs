@@ -49,11 +49,6 @@ pub fn charged(graph: &Graph, key: Key, d: &Lanes) -> Key {
 }
 
 #[inline(always)]
-pub fn is_required(key: Key) -> bool {
-    key <= LOWER_HALF
-}
-
-#[inline(always)]
 pub fn number(key: Key) -> usize {
     (key >> 16 & 255) as usize
 }

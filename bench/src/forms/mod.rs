@@ -11,8 +11,8 @@
 //! A pass computes tree and rulings from the node's marks, the multipliers and the ceiling alone.
 //! From pass to pass of one node goes only the order of its edges, as a start for the sort, and from node
 //! to node nothing. Kruskal goes through one sorted list of keys, the required edges first, with
-//! a label for each vertex; each free edge outside the tree walks the whole circle that it closes, unless
-//! the tree has no free edge to be swapped.
+//! a label for each vertex. Vertices that required edges join are then one part: only the free edges of
+//! the tree are hung up, between parts, and each free edge outside walks the circle that it closes there.
 
 mod check;
 mod climb;

@@ -8,7 +8,7 @@ use lib.Dec.{eqb, ltb}
 use lib.IntN.{ℤ}
 use Rattle.lists.specs.Bools.{bit}
 use Rattle.machine.specs.Calls.{Call, lentBy}
-use Rattle.search.specs.CheckParts.{searchWith}
+use Rattle.search.specs.Record.{searchWith}
 use Rattle.search.specs.Replies.{reply, lent}
 use Rattle.search.specs.declared.Search.{Search}
 use Rattle.search.specs.declared.Outcome.{Outcome}

@@ -23,7 +23,7 @@ use Rattle.graph.specs.declared.Graph.{Graph}
 use Rattle.onetree.specs.Inputs.{ceilingFits}
 use Rattle.machine.specs.Machine.{Opening}
 use Rattle.machine.specs.Calls.{fault}
-use Rattle.search.specs.Record.{maxNodes, stackSize, openingOf, openingIn}
+use Rattle.search.specs.Record.{maxNodes, stackSize, openingOf, openingIn, searchWith}
 use Rattle.search.specs.Cells.{each-place}
 use Rattle.search.specs.Canonical.{Zeros, GraphTidy, NodeZeros, usedIn, StackTidy, Tidy, Idle, StackFits, Bits, Fits}
 use Rattle.search.specs.Check.{check}
@@ -101,24 +101,6 @@ module _ (m depth used : ℕ) (l : List ℕ) (u : InUse depth used) where
 -- the opening that these parts of a record hold
 abbrev pub openingWith : Graph → List ℤ → ℤ → ℕ → ℕ → Opening
 openingWith g d ceiling sweeps step = openingOf g (fit (g .n) (pos 0) d) ceiling sweeps step
-
--- the record of these parts
-abbrev pub searchWith : Bool → Graph → List ℤ → ℤ → ℕ → ℕ → ℤ → ℕ → List ℕ → Bool → List ℕ → ℕ → Search
-searchWith o g d ceiling sweeps step upper depth stack h best count =
-    record {
-      «open» = o;
-      graph = g;
-      multipliers = d;
-      ceiling = ceiling;
-      sweeps = sweeps;
-      step = step;
-      upper = upper;
-      depth = depth;
-      stack = stack;
-      «has_best» = h;
-      best = best;
-      count = count;
-    }
 
 -- of `Tidy`
 pub record FieldsTidy (g : Graph) (d : List ℤ) (h : Bool) (w : List ℕ) : Type 0 where

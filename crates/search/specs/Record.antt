@@ -23,6 +23,24 @@ maxNodes = 191
 abbrev pub stackSize : ℕ
 stackSize = 36290
 
+-- the record that these parts make: what the calls on a record's parts speak of
+abbrev pub searchWith : Bool → Graph → List ℤ → ℤ → ℕ → ℕ → ℤ → ℕ → List ℕ → Bool → List ℕ → ℕ → Search
+searchWith o g d ceiling sweeps step upper depth stack h best count =
+    record {
+      «open» = o;
+      graph = g;
+      multipliers = d;
+      ceiling = ceiling;
+      sweeps = sweeps;
+      step = step;
+      upper = upper;
+      depth = depth;
+      stack = stack;
+      «has_best» = h;
+      best = best;
+      count = count;
+    }
+
 -- "A fresh hunt record has no hunt open"
 unfoldable pub fresh : Search
 fresh =

@@ -11,7 +11,7 @@ use Rattle.search.specs.declared.Search.{Search}
 use Rattle.search.specs.declared.running.Frame.{Frame}
 use Rattle.search.specs.Record.{progressOf}
 use Rattle.search.specs.Check.{check}
-use Rattle.search.specs.CheckParts.{searchWith}
+use Rattle.search.specs.Record.{searchWith}
 use Rattle.search.specs.Inverse.{Typed}
 use Rattle.search.specs.ReplyCases.{reply-24, run-20}
 use Rattle.search.specs.Running.{Runs}

@@ -9,7 +9,7 @@ use mir.Facts.{toZ-ofZ}
 use Rattle.lists.specs.Fill.{fit}
 use Rattle.machine.specs.Calls as Calls
 use Rattle.search.specs.Check.{check}
-use Rattle.search.specs.CheckParts.{searchWith}
+use Rattle.search.specs.Record.{searchWith}
 use Rattle.search.specs.Inverse.{Typed}
 use Rattle.search.specs.ReplyCases.{reply-24, lent-24, show-20, show-22, show-23, show-11, show-done, graph-valid}
 use Rattle.search.specs.declared.Search.{Search}

@@ -7,7 +7,7 @@ use mir.Facts.{toZ-ofZ}
 use Rattle.integers.specs.Words.{back64}
 use Rattle.machine.specs.Calls as Calls
 use Rattle.search.specs.Check.{check}
-use Rattle.search.specs.CheckParts.{searchWith}
+use Rattle.search.specs.Record.{searchWith}
 use Rattle.search.specs.Inverse.{Typed}
 use Rattle.search.specs.ReplyCases.{reply-24, tell-20, tell-going, tell-none, tell-best, graph-valid}
 use Rattle.search.specs.declared.Search.{Search}

@@ -11,7 +11,8 @@ use Rattle.lists.specs.Bools.{Says, says-yes, says-no}
 use Rattle.search.specs.Canonical.{Tidy, Stands}
 use Rattle.search.specs.Check.{check-no}
 use Rattle.search.specs.CheckLoops.{says-stands}
-use Rattle.search.specs.CheckParts.{Fitting, searchWith, tidy-fields, tidy-whole, fits-fields, says-fits, says-idle}
+use Rattle.search.specs.Record.{searchWith}
+use Rattle.search.specs.CheckParts.{Fitting, tidy-fields, tidy-whole, fits-fields, says-fits, says-idle}
 use Rattle.search.specs.Begun.{begun-valid}
 use Rattle.search.specs.declared.Search.{Search}
 use Rattle.search.proofs.record.check_record.Statement.{statement}

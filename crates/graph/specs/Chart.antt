@@ -38,11 +38,11 @@ headerSize = 8
 abbrev pub vertices : List ℕ → ℕ
 vertices s = getD s 0 0
 
-abbrev pub head : List ℕ → ℕ
-head s = u16At s 2
+abbrev pub chainHead : List ℕ → ℕ
+chainHead s = u16At s 2
 
-abbrev pub count : List ℕ → ℕ
-count s = u16At s 4
+abbrev pub recordCount : List ℕ → ℕ
+recordCount s = u16At s 4
 
 -- "Then r records of 12 bytes, numbered from 1: a, b, mark, zero byte, cost (i32), next (u16), two zero bytes."
 abbrev pub recordSize : ℕ
@@ -71,7 +71,7 @@ headerFault s =
     cond (ltb (length s) headerSize) 1
     (cond (not (leb minVertices (vertices s) && leb (vertices s) maxVertices)) 2
     (cond (not (eqb (getD s 1 0) 0 && (eqb (getD s 6 0) 0 && eqb (getD s 7 0) 0))) 3
-    (cond (not (leb (count s) maxRecords && eqb (length s) (sizeOf (count s)))) 4 0)))
+    (cond (not (leb (recordCount s) maxRecords && eqb (length s) (sizeOf (recordCount s)))) 4 0)))
 
 -- "7 not 1 ≤ a < b ≤ n; 8 mark above 2 or a zero byte not zero; 9 cost out of range", of the record that starts at p
 unfoldable pub bodyFault : List ℕ → ℕ → ℕ → ℕ
@@ -87,7 +87,7 @@ bodyFault s n p =
 -- "5 head or next above r; 6 record met before; 7 …; 10 pair met before": of record k, the records met being `met` and the edges so far g's
 unfoldable pub recordFault : List ℕ → List Bool → Graph → ℕ → ℕ
 recordFault s met g k =
-    cond (ltb (count s) k) 5
+    cond (ltb (recordCount s) k) 5
     (cond (getD met (k - 1) false) 6
     (cond (not (eqb (bodyFault s (g .n) (startOf k)) 0)) (bodyFault s (g .n) (startOf k))
     (cond (pairMet (g .a) (g .b) (g .m) (getD s (startOf k) 0) (getD s (startOf k + 1) 0)) 10 0)))
@@ -150,7 +150,7 @@ chainFrom (suc f) s met g k =
 
 -- "Reading keeps one yes-or-no for each of the 1,000 possible records."
 unfoldable pub chain : List ℕ → ReadResult
-chain s = chainFrom (suc maxEdges) s (replicate maxRecords false) (edgeless (vertices s)) (head s)
+chain s = chainFrom (suc maxEdges) s (replicate maxRecords false) (edgeless (vertices s)) (chainHead s)
 
 -- "Reading, in this order, 5 to 10 record by record"; a header's fault has the place 0
 unfoldable pub reading : List ℕ → ReadResult

@@ -10,7 +10,7 @@ use lib.IntN.{ℤ, pos}
 use borrow.Author.Tests.{leb-true, le-leb, not-false}
 use Rattle.lists.specs.Bools.{Says, bit, and-both}
 use Rattle.lists.specs.Hits.{Nowhere, hits, hits-none, hits-next, next-most}
-use Rattle.integers.specs.Range.{within, range-within}
+use Rattle.integers.specs.Range.{within}
 use Rattle.graph.specs.declared.Graph.{Graph}
 use Rattle.graph.specs.Limits.{minVertices, maxVertices, maxEdges, maxCost, maxMark}
 use Rattle.graph.specs.Valid.{EdgeAt, Valid, endsOk, pairMet, valid}
@@ -108,7 +108,7 @@ module _ (g : Graph) where
       rw (ends-of (g .n) _ _ _ _ e, le-leb (getD (g .mark) k 0) maxMark (e .known))
 
   valid-costs : Valid g → Costs
-  valid-costs v k l = ap not (range-within maxCost (getD (g .cost) k (pos 0)) (v .each k l .range))
+  valid-costs v k l = ap not (v .each k l .range)
 
   valid-pairs : Valid g → Pairs
   valid-pairs v k l = new-pair (g .a) (g .b) k (getD (g .a) k 0) (getD (g .b) k 0) (λ j h c d. v .once j k h l (record { a = c; b = d }))

@@ -2,6 +2,7 @@ pub mod Limits
 pub mod Network
 pub mod Places
 pub mod Valid
+pub mod Parts
 pub mod Same
 pub mod Answers
 pub mod Chart

@@ -11,7 +11,7 @@ use lib.IntN.{ℤ, pos}
 use borrow.Author.Count.{below-more}
 use borrow.Author.Tests.{ltb-true, ltb-false, leb-true, eqb-true, eq-eqb, ne-eqb, le-leb, lt-ltb, not-true}
 use Rattle.lists.specs.Bools.{by-cases, and-both, or-none}
-use Rattle.integers.specs.Range.{within, within-range, range-within}
+use Rattle.integers.specs.Range.{within}
 use Rattle.graph.specs.declared.Graph.{Graph}
 use Rattle.graph.specs.Limits.{minVertices, maxVertices, maxEdges, maxCost, maxMark}
 use Rattle.graph.specs.Valid.{EdgeValid, EdgeAt, SamePair, Valid, endsOk, edgeOk, pairMet, edgesOk, valid}
@@ -28,7 +28,7 @@ ends-true n x y h =
 pub edge-of : (n x y : ℕ) (z : ℤ) (w : ℕ) → endsOk n x y ≡ true → within maxCost z ≡ true → w ≤ maxMark → EdgeValid n x y z w
 edge-of n x y z w h r k =
     let p = ends-true n x y h in
-    record { from = p .0; less = p .1; to = p .2; range = within-range maxCost z r; known = k }
+    record { from = p .0; less = p .1; to = p .2; range = r; known = k }
 
 pub ends-of : (n x y : ℕ) (z : ℤ) (w : ℕ) → EdgeValid n x y z w → endsOk n x y ≡ true
 unfolding endsOk
@@ -44,7 +44,7 @@ edge-true n x y z w h =
 true-edge : (n x y : ℕ) (z : ℤ) (w : ℕ) → EdgeValid n x y z w → edgeOk n x y z w ≡ true
 unfolding edgeOk
 true-edge n x y z w e =
-    rw (ends-of n x y z w e, range-within maxCost z (e .range), le-leb w maxMark (e .known))
+    rw (ends-of n x y z w e, e .range, le-leb w maxMark (e .known))
 
 -- ---- pairs
 

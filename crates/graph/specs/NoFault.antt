@@ -16,7 +16,7 @@ use Rattle.graph.specs.Valid.{EdgeValid, Valid, endsOk, pairMet, valid}
 use Rattle.graph.specs.Chart.{
   headerSize,
   vertices,
-  count,
+  recordCount,
   sizeOf,
   startOf,
   costAt,
@@ -34,8 +34,8 @@ pub record HeaderOk (s : List ℕ) : Type 0 where
   pub zero1 : getD s 1 0 ≡ 0
   pub zero6 : getD s 6 0 ≡ 0
   pub zero7 : getD s 7 0 ≡ 0
-  pub few : count s ≤ maxRecords
-  pub size : length s ≡ sizeOf (count s)
+  pub few : recordCount s ≤ maxRecords
+  pub size : length s ≡ sizeOf (recordCount s)
 
 pub header-ok : (s : List ℕ) → headerFault s ≡ 0 → HeaderOk s
 unfolding headerFault
@@ -43,11 +43,11 @@ header-ok s h =
     let p = cond-zero (ltb (length s) headerSize) 1 _ (omega arith) h in
     let q = cond-zero (not (leb minVertices (vertices s) && leb (vertices s) maxVertices)) 2 _ (omega arith) (p .1) in
     let r = cond-zero (not (eqb (getD s 1 0) 0 && (eqb (getD s 6 0) 0 && eqb (getD s 7 0) 0))) 3 _ (omega arith) (q .1) in
-    let t = cond-zero (not (leb (count s) maxRecords && eqb (length s) (sizeOf (count s)))) 4 0 (omega arith) (r .1) in
+    let t = cond-zero (not (leb (recordCount s) maxRecords && eqb (length s) (sizeOf (recordCount s)))) 4 0 (omega arith) (r .1) in
     let n = and-both (leb minVertices (vertices s)) (leb (vertices s) maxVertices) (not-false _ (q .0)) in
     let z = and-both (eqb (getD s 1 0) 0) (eqb (getD s 6 0) 0 && eqb (getD s 7 0) 0) (not-false _ (r .0)) in
     let y = and-both (eqb (getD s 6 0) 0) (eqb (getD s 7 0) 0) (z .1) in
-    let l = and-both (leb (count s) maxRecords) (eqb (length s) (sizeOf (count s))) (not-false _ (t .0)) in
+    let l = and-both (leb (recordCount s) maxRecords) (eqb (length s) (sizeOf (recordCount s))) (not-false _ (t .0)) in
     record {
       long = ltb-false (length s) headerSize (p .0);
       low = leb-true minVertices (vertices s) (n .0);
@@ -55,8 +55,8 @@ header-ok s h =
       zero1 = eqb-true (getD s 1 0) 0 (z .0);
       zero6 = eqb-true (getD s 6 0) 0 (y .0);
       zero7 = eqb-true (getD s 7 0) 0 (y .1);
-      few = leb-true (count s) maxRecords (l .0);
-      size = eqb-true (length s) (sizeOf (count s)) (l .1);
+      few = leb-true (recordCount s) maxRecords (l .0);
+      size = eqb-true (length s) (sizeOf (recordCount s)) (l .1);
     }
 
 -- of the record that starts at p
@@ -87,7 +87,7 @@ body-ok s n p h =
 
 -- of record k, where the records met are `met` and the edges so far g's
 pub record RecordOk (s : List ℕ) (met : List Bool) (g : Graph) (k : ℕ) : Type 0 where
-  pub under : k ≤ count s
+  pub under : k ≤ recordCount s
   pub unmet : getD met (k - 1) false ≡ false
   pub body : BodyOk s (g .n) (startOf k)
   pub new : pairMet (g .a) (g .b) (g .m) (getD s (startOf k) 0) (getD s (startOf k + 1) 0) ≡ false
@@ -101,12 +101,12 @@ fault-zero e x h =
 pub record-ok : (s : List ℕ) (met : List Bool) (g : Graph) (k : ℕ) → recordFault s met g k ≡ 0 → RecordOk s met g k
 unfolding recordFault
 record-ok s met g k h =
-    let p = cond-zero (ltb (count s) k) 5 _ (omega arith) h in
+    let p = cond-zero (ltb (recordCount s) k) 5 _ (omega arith) h in
     let q = cond-zero (getD met (k - 1) false) 6 _ (omega arith) (p .1) in
     let r = fault-zero (bodyFault s (g .n) (startOf k)) _ (q .1) in
     let t = cond-zero (pairMet (g .a) (g .b) (g .m) (getD s (startOf k) 0) (getD s (startOf k + 1) 0)) 10 0 (omega arith) (r .1) in
     record {
-      under = ltb-false (count s) k (p .0);
+      under = ltb-false (recordCount s) k (p .0);
       unmet = q .0;
       body = body-ok s (g .n) (startOf k) (r .0);
       new = t .0;

@@ -9,7 +9,7 @@ use Rattle.graph.specs.declared.Graph.{Graph}
 use Rattle.graph.specs.Limits.{maxEdges, maxRecords}
 use Rattle.graph.specs.Chart.{
   vertices,
-  head,
+  chainHead,
   startOf,
   nextOf,
   headerFault,
@@ -33,7 +33,7 @@ pub record Reached (s : List ℕ) (met : List Bool) (g : Graph) (k : ℕ) : Type
   pub sound : Sound g
   pub rest : chain s ≡ chainFrom (suc maxEdges - g .m) s met g k
 
-pub reached-start : (s : List ℕ) (g : Graph) (k : ℕ) → headerFault s ≡ 0 → g ≡ edgeless (vertices s) → k ≡ head s → k < 65536
+pub reached-start : (s : List ℕ) (g : Graph) (k : ℕ) → headerFault s ≡ 0 → g ≡ edgeless (vertices s) → k ≡ chainHead s → k < 65536
     → Reached s (replicate maxRecords false) g k
 unfolding chain edgeless
 reached-start s g k h e q l =

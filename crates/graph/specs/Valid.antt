@@ -7,7 +7,7 @@ use mathlib.Core.List.{List}
 use lib.ListN.{getD}
 use lib.Dec.{ltb, leb, eqb}
 use lib.IntN.{ℤ, pos}
-use Rattle.integers.specs.Range.{within, InRange}
+use Rattle.integers.specs.Range.{within}
 use Rattle.graph.specs.declared.Graph.{Graph}
 use Rattle.graph.specs.Limits.{minVertices, maxVertices, maxEdges, maxCost, maxMark}
 
@@ -23,7 +23,7 @@ pub record EdgeValid (n a b : ℕ) (cost : ℤ) (mark : ℕ) : Type 0 where
   pub from : 1 ≤ a
   pub less : a < b
   pub to : b ≤ n
-  pub range : InRange maxCost cost
+  pub range : within maxCost cost ≡ true
   pub known : mark ≤ maxMark
 
 -- of the edge at place k

@@ -1,10 +1,13 @@
 // Numbers in bytes, little-endian; costs in two's complement.
 ghost use mathlib.Core.Path.{_≡_};
+ghost use mathlib.Core.List.{[], _∷_};
 ghost use Prim.Native.Nat.{_+_, _*_, _%_, _<_};
 ghost use lib.ListN.{length};
 ghost use Rattle.graph.specs.Chart.{u16At, u32At, signedOf, bitsOf};
 
-pub(crate) fn wide(x: u8) -> usize
+// A byte as the number that it is: a graph's n or m, an end.
+// Ruled out: another number; a byte taken as signed.
+pub fn wide(x: u8) -> usize
     ensures { λ r. ⌜ (r ≡ x) × (x < 256) ⌝ }
 {
     x as usize
@@ -50,7 +53,7 @@ pub(crate) fn signed(w: usize) -> i32
 // The number in four bytes, a cost or a program's ceiling.
 // Ruled out: the bytes taken in the other order; a negative number read as a large one.
 pub fn i32_of(a: u8, b: u8, c: u8, d: u8) -> i32
-    ensures { λ r. ⌜ r ≡ signedOf (a + 256 * b + 65536 * c + 16777216 * d) ⌝ }
+    ensures { λ r. ⌜ r ≡ signedOf (u32At (a ∷ b ∷ c ∷ d ∷ []) 0) ⌝ }
 {
     signed(word(a, b, c, d))
 }

@@ -8,6 +8,7 @@ mod valid;
 mod writer;
 
 pub use bytes::i32_of;
+pub use bytes::wide;
 pub use reader::read;
 pub use valid::check;
 pub use valid::check_parts;
@@ -32,14 +33,15 @@ pub const REQUIRED: u8 = 1;
 pub const EXCLUDED: u8 = 2;
 
 // A graph by value, with any contents: vertices 1 to n, edges 1 to m. Edge k stands at place k - 1 of the arrays and joins a and b;
-// what stands past m counts for nothing.
+// what stands past m counts for nothing. The fields stand widest first, so that no byte lies between them.
+#[repr(C)]
 pub struct Graph {
-    pub n: usize,
-    pub m: usize,
+    pub cost: [i32; 190],
     pub a: [u8; 190],
     pub b: [u8; 190],
-    pub cost: [i32; 190],
     pub mark: [u8; 190],
+    pub n: u8,
+    pub m: u8,
 }
 
 // What a reading answers: specs/Answers.antt has the number and the place of each case. An enum may hold no array, so the graph
@@ -62,16 +64,16 @@ pub enum WriteAnswer {
 
 impl Graph {
     // n vertices and no edges, zero at every place.
-    pub(crate) fn edgeless(n: usize) -> Graph
+    pub(crate) fn edgeless(n: u8) -> Graph
         ensures { λ r. ⌜ r ≡ edgeless n ⌝ }
     {
         Graph {
-            n: n,
-            m: 0,
+            cost: [0; 190],
             a: [0; 190],
             b: [0; 190],
-            cost: [0; 190],
             mark: [0; 190],
+            n: n,
+            m: 0,
         }
     }
 

@@ -134,11 +134,11 @@ fn record_fault(s: &[u8], met: &[bool; 1000], g: Graph, k: usize) -> u32
         return 6;
     }
     let p = 8 + 12 * (k - 1);
-    let f = body_fault(s, g.n, p);
+    let f = body_fault(s, wide(g.n), p);
     if f != 0 {
         return f;
     }
-    let m = g.m;
+    let m = wide(g.m);
     if pair_met(g, m, s[p], s[p + 1]) {
         return 10;
     }
@@ -150,12 +150,12 @@ fn append(g: Graph, x: u8, y: u8, z: i32, w: u8) -> Graph
     ensures { λ r. ⌜ r ≡ appended g x y z w ⌝ }
 {
     let mut h = g;
-    let m = g.m;
+    let m = wide(g.m);
     h.a[m] = x;
     h.b[m] = y;
     h.cost[m] = z;
     h.mark[m] = w;
-    h.m = m + 1;
+    h.m = g.m + 1;
     h
 }
 
@@ -192,7 +192,7 @@ fn follow(s: &[u8]) -> Reading
     ensures { λ r. ⌜ Gives r (chain (now (s .entry))) ⌝ }
 {
     let mut met = [false; 1000];
-    let mut g = Graph::edgeless(wide(s[0]));
+    let mut g = Graph::edgeless(s[0]);
     let mut k = u16_at(s, 2);
     while k != 0 {
         let f = record_fault(s, &met, g, k);

@@ -151,9 +151,9 @@ pub fn check_parts<'a>(
 }
 
 // Does the graph keep to 'Legs and marks'?
-// Ruled out: as above.
+// Ruled out: yes for a graph with a mark above 2 or an edge whose ends are swapped; no for what stands past m.
 pub fn check(g: Graph) -> bool
     ensures { λ r. ⌜ r ≡ valid g ⌝ }
 {
-    check_parts(g.n, g.m, &g.a, &g.b, &g.cost, &g.mark)
+    check_parts(wide(g.n), wide(g.m), &g.a, &g.b, &g.cost, &g.mark)
 }

@@ -19,6 +19,7 @@ use crate::Graph;
 use crate::WriteAnswer;
 use crate::bytes::bits;
 use crate::bytes::low;
+use crate::bytes::wide;
 use crate::valid::check;
 
 fn after(k: usize, m: usize) -> usize
@@ -56,7 +57,7 @@ fn put_record(out: &mut [u8], g: Graph, k: usize)
 {
     let p = 8 + 12 * k;
     let c = bits(g.cost[k]);
-    let t = after(k + 1, g.m);
+    let t = after(k + 1, wide(g.m));
     put4(out, p, g.a[k], g.b[k], g.mark[k], 0);
     put4(
         out,
@@ -73,8 +74,8 @@ fn put_all(out: &mut [u8], g: Graph)
     requires { ⌜ (g .n < 256) × (g .m ≤ maxEdges) × (length (now out) ≡ 8 + 12 * g .m) ⌝ }
     ensures { λ _. ⌜ now (out .exit) ≡ fileBytes g ⌝ }
 {
-    let n = g.n;
-    let m = g.m;
+    let n = wide(g.n);
+    let m = wide(g.m);
     put_header(out, n, m);
     for k in 0..m {
         put_record(out, g, k);
@@ -88,7 +89,7 @@ fn write_fault(g: Graph, len: usize) -> u32
     if !check(g) {
         return 15;
     }
-    let m = g.m;
+    let m = wide(g.m);
     if len != 8 + 12 * m {
         return 11;
     }

@@ -2,7 +2,7 @@
 use Prim.Native.Nat.{ℕ, zero, suc}
 use mathlib.Core.Path.{_≡_, refl}
 use mathlib.Core.List.{List}
-use Rattle.graph.specs.Chart.{head, nextOf}
+use Rattle.graph.specs.Chart.{chainHead, nextOf}
 
 -- what follows record k: its next, and nothing after the end
 unfoldable pub follow : List ℕ → ℕ → ℕ
@@ -11,10 +11,10 @@ follow s (suc k) = nextOf s (suc k)
 
 -- "The chain starts at head and goes on by next; zero ends it": the j-th record number along the chain, from 0; 0 from the end on
 unfoldable pub link : List ℕ → ℕ → ℕ
-link s zero = head s
+link s zero = chainHead s
 link s (suc j) = follow s (link s j)
 
-pub link-first : (s : List ℕ) → link s 0 ≡ head s
+pub link-first : (s : List ℕ) → link s 0 ≡ chainHead s
 unfolding link
 link-first s = refl
 

@@ -12,7 +12,7 @@ use borrow.Author.Tests.{ne-eqb}
 use Rattle.graph.specs.declared.Graph.{Graph}
 use Rattle.graph.specs.Limits.{maxEdges, maxRecords}
 use Rattle.graph.specs.Answers.{Outcome, accepted, refused}
-use Rattle.graph.specs.Chart.{vertices, head, startOf, nextOf, edgeless, withRecord, accept, refuse, chainFrom, chain, reading}
+use Rattle.graph.specs.Chart.{vertices, chainHead, startOf, nextOf, edgeless, withRecord, accept, refuse, chainFrom, chain, reading}
 use Rattle.graph.specs.NoFault.{HeaderOk}
 use Rattle.graph.specs.ChainSteps.{chain-end, chain-fault, chain-step}
 use Rattle.graph_theorems.specs.FromFacts.{header-none, record-none}
@@ -67,7 +67,7 @@ module _ (s : List ℕ) (h : HeaderOk s) (j : ℕ) (o : Outcome) (fine : (i : �
   unfolding reading chain
   whole =
       let n = vertices s in
-      let start : link s (edgeless n .m) ≡ head s = ap (link s) (start-size n) ∙ link-first s in
+      let start : link s (edgeless n .m) ≡ chainHead s = ap (link s) (start-size n) ∙ link-first s in
       rw (header-none s h, ← start)
       (walk (suc maxEdges) j (replicate maxRecords false) (edgeless n) (omega (arith, start-size n)) (omega (arith, start-size n))
       (track-start s h))

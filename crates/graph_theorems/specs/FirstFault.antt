@@ -6,7 +6,7 @@ use mathlib.Core.List.{List}
 use lib.ListN.{length, getD}
 use Rattle.integers.specs.Range.{InRange}
 use Rattle.graph.specs.Limits.{minVertices, maxVertices, maxCost, maxMark, maxRecords}
-use Rattle.graph.specs.Chart.{headerSize, vertices, count, sizeOf, startOf, costAt}
+use Rattle.graph.specs.Chart.{headerSize, vertices, recordCount, sizeOf, startOf, costAt}
 use Rattle.graph_theorems.specs.Along.{link}
 
 -- ---- the header, 1 to 4: "1 under 8 bytes; 2 n not 3 to 20; 3 a header zero byte not zero; 4 r over 1,000, or length not 8 + 12 × r"
@@ -21,8 +21,8 @@ pub record HeaderZeros (s : List ℕ) : Type 0 where
   pub byte7 : getD s 7 0 ≡ 0
 
 pub record LengthOk (s : List ℕ) : Type 0 where
-  pub few : count s ≤ maxRecords
-  pub size : length s ≡ sizeOf (count s)
+  pub few : recordCount s ≤ maxRecords
+  pub size : length s ≡ sizeOf (recordCount s)
 
 pub data HeaderRefusal (s : List ℕ) : ℕ → Type 0 where
   one : length s < headerSize → HeaderRefusal s 1
@@ -67,17 +67,17 @@ pub record PairBefore (s : List ℕ) (j : ℕ) : Type 0 where
   pub b : getD s (startAt s at + 1) 0 ≡ getD s (startAt s j + 1) 0
 
 pub data RecordRefusal (s : List ℕ) (j : ℕ) : ℕ → Type 0 where
-  five : count s < link s j → RecordRefusal s j 5
-  six : link s j ≤ count s → MetBefore s j → RecordRefusal s j 6
-  seven : link s j ≤ count s → (MetBefore s j → ⊥) → (EndsOk s j → ⊥) → RecordRefusal s j 7
-  eight : link s j ≤ count s → (MetBefore s j → ⊥) → EndsOk s j → (MarkOk s j → ⊥) → RecordRefusal s j 8
-  nine : link s j ≤ count s → (MetBefore s j → ⊥) → EndsOk s j → MarkOk s j → (CostOk s j → ⊥) → RecordRefusal s j 9
-  ten : link s j ≤ count s → (MetBefore s j → ⊥) → EndsOk s j → MarkOk s j → CostOk s j → PairBefore s j → RecordRefusal s j 10
+  five : recordCount s < link s j → RecordRefusal s j 5
+  six : link s j ≤ recordCount s → MetBefore s j → RecordRefusal s j 6
+  seven : link s j ≤ recordCount s → (MetBefore s j → ⊥) → (EndsOk s j → ⊥) → RecordRefusal s j 7
+  eight : link s j ≤ recordCount s → (MetBefore s j → ⊥) → EndsOk s j → (MarkOk s j → ⊥) → RecordRefusal s j 8
+  nine : link s j ≤ recordCount s → (MetBefore s j → ⊥) → EndsOk s j → MarkOk s j → (CostOk s j → ⊥) → RecordRefusal s j 9
+  ten : link s j ≤ recordCount s → (MetBefore s j → ⊥) → EndsOk s j → MarkOk s j → CostOk s j → PairBefore s j → RecordRefusal s j 10
 
 -- a record of the chain with none of these
 pub record RecordFine (s : List ℕ) (j : ℕ) : Type 0 where
   pub on : 0 < link s j
-  pub under : link s j ≤ count s
+  pub under : link s j ≤ recordCount s
   pub first : MetBefore s j → ⊥
   pub ends : EndsOk s j
   pub mark : MarkOk s j

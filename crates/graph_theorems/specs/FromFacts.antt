@@ -6,13 +6,12 @@ use mathlib.Core.Bool.{Bool}
 use mathlib.Core.List.{List}
 use lib.ListN.{length, getD}
 use borrow.Author.Tests.{le-ltb, le-leb, eq-eqb}
-use Rattle.integers.specs.Range.{range-within}
 use Rattle.graph.specs.declared.Graph.{Graph}
-use Rattle.graph.specs.Limits.{minVertices, maxVertices, maxCost, maxMark, maxRecords}
+use Rattle.graph.specs.Limits.{minVertices, maxVertices, maxMark, maxRecords}
 use Rattle.graph.specs.Chart.{
   headerSize,
   vertices,
-  count,
+  recordCount,
   sizeOf,
   startOf,
   costAt,
@@ -33,8 +32,8 @@ header-none s o =
       eq-eqb (getD s 1 0) 0 (o .zero1),
       eq-eqb (getD s 6 0) 0 (o .zero6),
       eq-eqb (getD s 7 0) 0 (o .zero7),
-      le-leb (count s) maxRecords (o .few),
-      eq-eqb (length s) (sizeOf (count s)) (o .size),
+      le-leb (recordCount s) maxRecords (o .few),
+      eq-eqb (length s) (sizeOf (recordCount s)) (o .size),
     )
 
 pub body-none : (s : List ℕ) (n p : ℕ) → BodyOk s n p → bodyFault s n p ≡ 0
@@ -46,10 +45,10 @@ body-none s n p o =
       eq-eqb (getD s (p + 3) 0) 0 (o .zero3),
       eq-eqb (getD s (p + 10) 0) 0 (o .zero10),
       eq-eqb (getD s (p + 11) 0) 0 (o .zero11),
-      range-within maxCost (costAt s p) (o .edge .range),
+      o .edge .range,
     )
 
 pub record-none : (s : List ℕ) (met : List Bool) (g : Graph) (k : ℕ) → RecordOk s met g k → recordFault s met g k ≡ 0
 unfolding recordFault
 record-none s met g k o =
-    rw (le-ltb (count s) k (o .under), o .unmet, body-none s (g .n) (startOf k) (o .body), o .new)
+    rw (le-ltb (recordCount s) k (o .under), o .unmet, body-none s (g .n) (startOf k) (o .body), o .new)

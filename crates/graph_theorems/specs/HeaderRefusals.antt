@@ -9,7 +9,7 @@ use lib.Dec.{ltb, leb, eqb}
 use borrow.Author.Tests.{ltb-true, ltb-false, leb-true, eqb-true, lt-ltb, le-ltb, le-leb, eq-eqb}
 use Rattle.lists.specs.Bools.{by-cases, and-both}
 use Rattle.graph.specs.Limits.{minVertices, maxVertices, maxRecords}
-use Rattle.graph.specs.Chart.{headerSize, vertices, count, sizeOf, headerFault}
+use Rattle.graph.specs.Chart.{headerSize, vertices, recordCount, sizeOf, headerFault}
 use Rattle.graph.specs.NoFault.{HeaderOk}
 use Rattle.graph_theorems.specs.FirstFault.{
   VerticesOk,
@@ -51,20 +51,20 @@ zeros-no : (s : List ℕ) → eqb (getD s 1 0) 0 && (eqb (getD s 6 0) 0 && eqb (
 zeros-no s t o =
     true≢false (rw (eq-eqb (getD s 1 0) 0 (o .byte1), eq-eqb (getD s 6 0) 0 (o .byte6), eq-eqb (getD s 7 0) 0 (o .byte7)) at t)
 
-length-yes : (s : List ℕ) → leb (count s) maxRecords && eqb (length s) (sizeOf (count s)) ≡ true → LengthOk s
+length-yes : (s : List ℕ) → leb (recordCount s) maxRecords && eqb (length s) (sizeOf (recordCount s)) ≡ true → LengthOk s
 length-yes s t =
-    let p = and-both (leb (count s) maxRecords) (eqb (length s) (sizeOf (count s))) t in
-    record { few = leb-true (count s) maxRecords (p .0); size = eqb-true (length s) (sizeOf (count s)) (p .1) }
+    let p = and-both (leb (recordCount s) maxRecords) (eqb (length s) (sizeOf (recordCount s))) t in
+    record { few = leb-true (recordCount s) maxRecords (p .0); size = eqb-true (length s) (sizeOf (recordCount s)) (p .1) }
 
-length-no : (s : List ℕ) → leb (count s) maxRecords && eqb (length s) (sizeOf (count s)) ≡ false → LengthOk s → ⊥
-length-no s t o = true≢false (rw (le-leb (count s) maxRecords (o .few), eq-eqb (length s) (sizeOf (count s)) (o .size)) at t)
+length-no : (s : List ℕ) → leb (recordCount s) maxRecords && eqb (length s) (sizeOf (recordCount s)) ≡ false → LengthOk s → ⊥
+length-no s t o = true≢false (rw (le-leb (recordCount s) maxRecords (o .few), eq-eqb (length s) (sizeOf (recordCount s)) (o .size)) at t)
 
 pub header-refusal : (s : List ℕ) → (headerFault s ≡ 0 → ⊥) → HeaderRefusal s (headerFault s)
 unfolding headerFault
 header-refusal s h =
     let tv = leb minVertices (vertices s) && leb (vertices s) maxVertices in
     let tz = eqb (getD s 1 0) 0 && (eqb (getD s 6 0) 0 && eqb (getD s 7 0) 0) in
-    let tl = leb (count s) maxRecords && eqb (length s) (sizeOf (count s)) in
+    let tl = leb (recordCount s) maxRecords && eqb (length s) (sizeOf (recordCount s)) in
     by-cases (ltb (length s) headerSize) (λ t. rw t (one (ltb-true (length s) headerSize t)))
     (λ t. let long = ltb-false (length s) headerSize t in
     by-cases tv
@@ -103,7 +103,7 @@ module _ (s : List ℕ) where
   no-zeros-test : (HeaderZeros s → ⊥) → eqb (getD s 1 0) 0 && (eqb (getD s 6 0) 0 && eqb (getD s 7 0) 0) ≡ false
   no-zeros-test n = by-cases _ (λ t. absurd (n (zeros-yes s t))) (λ t. t)
 
-  no-length-test : (LengthOk s → ⊥) → leb (count s) maxRecords && eqb (length s) (sizeOf (count s)) ≡ false
+  no-length-test : (LengthOk s → ⊥) → leb (recordCount s) maxRecords && eqb (length s) (sizeOf (recordCount s)) ≡ false
   no-length-test n = by-cases _ (λ t. absurd (n (length-yes s t))) (λ t. t)
 
   pub header-given : (e : ℕ) → HeaderRefusal s e → headerFault s ≡ e

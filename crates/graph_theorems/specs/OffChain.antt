@@ -15,8 +15,8 @@ use Rattle.graph.specs.Chart.{
   u16At,
   u32At,
   vertices,
-  head,
-  count,
+  chainHead,
+  recordCount,
   startOf,
   costAt,
   nextOf,
@@ -39,14 +39,14 @@ Alike s t k = (i : ℕ) → i < 12 → getD s (startOf k + i) 0 ≡ getD t (star
 pub record SameChain (s t : List ℕ) : Type 0 where
   pub long : length s ≡ length t
   pub header : (i : ℕ) → i < 8 → getD s i 0 ≡ getD t i 0
-  pub chain : (j : ℕ) → 0 < link s j → link s j ≤ count s → Alike s t (link s j)
+  pub chain : (j : ℕ) → 0 < link s j → link s j ≤ recordCount s → Alike s t (link s j)
 
 module _ (s t : List ℕ) (w : SameChain s t) where
-  same-count : count s ≡ count t
+  same-count : recordCount s ≡ recordCount t
   unfolding u16At
   same-count = rw (w .header 4 (omega arith), w .header 5 (omega arith))
 
-  same-head : head s ≡ head t
+  same-head : chainHead s ≡ chainHead t
   unfolding u16At
   same-head = rw (w .header 2 (omega arith), w .header 3 (omega arith))
 
@@ -99,11 +99,11 @@ module _ (s t : List ℕ) (w : SameChain s t) where
           same-cost,
         )
 
-  same-fault : (met : List Bool) (g : Graph) (k : ℕ) → (k ≤ count s → Alike s t k) → recordFault s met g k ≡ recordFault t met g k
+  same-fault : (met : List Bool) (g : Graph) (k : ℕ) → (k ≤ recordCount s → Alike s t k) → recordFault s met g k ≡ recordFault t met g k
   unfolding recordFault Alike
   same-fault met g k a =
-      by-cases (ltb (count s) k) (λ e. rw (← same-count, e))
-      (λ e. let b = a (ltb-false (count s) k e) in
+      by-cases (ltb (recordCount s) k) (λ e. rw (← same-count, e))
+      (λ e. let b = a (ltb-false (recordCount s) k e) in
       rw (← same-count, e, same-body k b (g .n), same-first k b, b 1 (omega arith)))
 
   above : (k : ℕ) → (k ≡ 0 → ⊥) → 0 < k
@@ -116,7 +116,7 @@ module _ (s t : List ℕ) (w : SameChain s t) where
       let k = link s j in
       by-cases (eqb k 0) (λ e. rw e)
       (λ e. let n = eqb-false k 0 e in
-      let a : k ≤ count s → Alike s t k = λ u. w .chain j (above k n) u in
+      let a : k ≤ recordCount s → Alike s t k = λ u. w .chain j (above k n) u in
       let q = same-fault met g k a in
       by-cases (eqb (recordFault s met g k) 0)
       (λ u. let b = a (record-ok s met g k (eqb-true (recordFault s met g k) 0 u) .under) in
@@ -129,9 +129,9 @@ module _ (s t : List ℕ) (w : SameChain s t) where
   same-chain =
       let v = replicate maxRecords false in
       let g = edgeless (vertices s) in
-      let start : chainFrom (suc maxEdges) s v g (head s) ≡ chainFrom (suc maxEdges) t v g (head s)
+      let start : chainFrom (suc maxEdges) s v g (chainHead s) ≡ chainFrom (suc maxEdges) t v g (chainHead s)
       = rw (link-first s) at (same-from (suc maxEdges) 0 v g) in
-      start ∙ ap (λ (n : ℕ). chainFrom (suc maxEdges) t v (edgeless n) (head s)) (w .header 0 (omega arith))
+      start ∙ ap (λ (n : ℕ). chainFrom (suc maxEdges) t v (edgeless n) (chainHead s)) (w .header 0 (omega arith))
       ∙ ap (λ (k : ℕ). chainFrom (suc maxEdges) t v (edgeless (vertices t)) k) same-head
 
 -- Records off the chain do not matter.

@@ -16,7 +16,7 @@ use Rattle.integers.specs.Range.{within, within-range, range-within}
 use Rattle.graph.specs.declared.Graph.{Graph}
 use Rattle.graph.specs.Limits.{maxEdges, maxCost, maxMark, maxRecords}
 use Rattle.graph.specs.Valid.{endsOk, pairMet}
-use Rattle.graph.specs.Chart.{vertices, count, costAt, bodyFault, recordFault, edgeless, appended, withRecord}
+use Rattle.graph.specs.Chart.{vertices, recordCount, costAt, bodyFault, recordFault, edgeless, appended, withRecord}
 use Rattle.graph.specs.Meaning.{pair-new}
 use Rattle.graph.specs.NoFault.{HeaderOk, RecordOk}
 use Rattle.graph.specs.Appending.{Sound, sound-edgeless, record-room, sound-record}
@@ -176,8 +176,8 @@ module _ (s : List ℕ) (met : List Bool) (g : Graph) (t : Track s met g) where
       let k = link s j in
       let p = startAt s j in
       let n = vertices s in
-      by-cases (ltb (count s) k) (λ c. rw c (five (ltb-true (count s) k c)))
-      (λ c. let under = ltb-false (count s) k c in
+      by-cases (ltb (recordCount s) k) (λ c. rw c (five (ltb-true (recordCount s) k c)))
+      (λ c. let under = ltb-false (recordCount s) k c in
       by-cases (getD met (k - 1) false) (λ d. rw (c, d) (six under (met-before o d)))
       (λ d. let first : MetBefore s j → ⊥ = λ r. true≢false (sym (before-met r) ∙ d) in
       by-cases (endsOk n (getD s p 0) (getD s (p + 1) 0))
@@ -210,28 +210,28 @@ module _ (s : List ℕ) (met : List Bool) (g : Graph) (t : Track s met g) where
 
     pub record-given : (e : ℕ) → RecordRefusal s (g .m) e → recordFault s met g (link s (g .m)) ≡ e
     unfolding recordFault
-    record-given e (five a) = rw (lt-ltb (count s) (link s (g .m)) a)
-    record-given e (six u m) = rw (le-ltb (count s) (link s (g .m)) u, before-met m)
+    record-given e (five a) = rw (lt-ltb (recordCount s) (link s (g .m)) a)
+    record-given e (six u m) = rw (le-ltb (recordCount s) (link s (g .m)) u, before-met m)
     record-given e (seven u f n) =
         let p = startAt s (g .m) in
         let body : bodyFault s (g .n) p ≡ 7 = rw (t .n, body-is s (vertices s) p, no-ends-test s (g .m) n) in
-        rw (le-ltb (count s) (link s (g .m)) u, unmet f, body)
+        rw (le-ltb (recordCount s) (link s (g .m)) u, unmet f, body)
     record-given e (eight u f x n) =
         let p = startAt s (g .m) in
         let body : bodyFault s (g .n) p ≡ 8
         = rw (t .n, body-is s (vertices s) p, ends-test s (g .m) x, no-mark-test s (g .m) n) in
-        rw (le-ltb (count s) (link s (g .m)) u, unmet f, body)
+        rw (le-ltb (recordCount s) (link s (g .m)) u, unmet f, body)
     record-given e (nine u f x y n) =
         let p = startAt s (g .m) in
         let body : bodyFault s (g .n) p ≡ 9
         = rw (t .n, body-is s (vertices s) p, ends-test s (g .m) x, mark-test s (g .m) y, no-cost-test s (g .m) n) in
-        rw (le-ltb (count s) (link s (g .m)) u, unmet f, body)
+        rw (le-ltb (recordCount s) (link s (g .m)) u, unmet f, body)
     record-given e (ten u f x y z r) =
         let p = startAt s (g .m) in
         let cost = range-within maxCost (costAt s p) z in
         let body : bodyFault s (g .n) p ≡ 0
         = rw (t .n, body-is s (vertices s) p, ends-test s (g .m) x, mark-test s (g .m) y, cost) in
-        rw (le-ltb (count s) (link s (g .m)) u, unmet f, body, pair-test r)
+        rw (le-ltb (recordCount s) (link s (g .m)) u, unmet f, body, pair-test r)
 
     pub fine-record : RecordFine s (g .m) → RecordOk s met g (link s (g .m))
     fine-record f =
@@ -245,7 +245,7 @@ module _ (s : List ℕ) (met : List Bool) (g : Graph) (t : Track s met g) where
                       from = f .ends .from;
                       less = f .ends .less;
                       to = omega (arith, f .ends .to, t .n);
-                      range = f .cost;
+                      range = range-within maxCost _ (f .cost);
                       known = f .mark .known;
                     };
                 zero3 = f .mark .byte3;
@@ -265,7 +265,7 @@ module _ (s : List ℕ) (met : List Bool) (g : Graph) (t : Track s met g) where
         first = λ m. true≢false (sym (before-met m) ∙ r .unmet);
         ends = record { from = e .from; less = e .less; to = omega (arith, e .to, t .n) };
         mark = record { known = e .known; byte3 = r .body .zero3; byte10 = r .body .zero10; byte11 = r .body .zero11 };
-        cost = e .range;
+        cost = within-range maxCost _ (e .range);
         new = before-pair (r .new);
       }
 

@@ -16,7 +16,7 @@ use Rattle.graph.specs.Limits.{maxEdges, maxRecords}
 use Rattle.graph.specs.Answers.{accepted, refused}
 use Rattle.graph.specs.Chart.{
   vertices,
-  head,
+  chainHead,
   startOf,
   nextOf,
   headerFault,
@@ -76,7 +76,7 @@ verdict s =
     by-cases (eqb (headerFault s) 0)
     (λ t. let h = header-ok s (eqb-true (headerFault s) 0 t) in
     let n = vertices s in
-    let q : link s (edgeless n .m) ≡ head s = ap (link s) (start-size n) ∙ link-first s in
+    let q : link s (edgeless n .m) ≡ chainHead s = ap (link s) (start-size n) ∙ link-first s in
     rw (t, ← q) (walk s h (suc maxEdges) (replicate maxRecords false) (edgeless n) (omega (arith, start-size n)) (track-start s h)))
     (λ t. rw t (refuses (headerFault s) 0 (in-header (headerFault s) (header-refusal s (eqb-false (headerFault s) 0 t)))))
 

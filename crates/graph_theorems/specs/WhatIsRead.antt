@@ -19,7 +19,7 @@ use Rattle.graph.specs.Same.{Clear}
 use Rattle.graph.specs.Answers.{accepted, refused}
 use Rattle.graph.specs.Chart.{
   vertices,
-  head,
+  chainHead,
   startOf,
   costAt,
   nextOf,
@@ -136,7 +136,7 @@ unfolding chain
 read-good s g h =
     let p = read-split s g h in
     let o = header-ok s (p .0) in
-    good-chain (suc maxEdges) s (replicate maxRecords false) (edgeless (vertices s)) (head s) g (vertices s)
+    good-chain (suc maxEdges) s (replicate maxRecords false) (edgeless (vertices s)) (chainHead s) g (vertices s)
     (good-start (vertices s) (o .low) (o .high)) (p .1)
 
 -- What is read is valid.

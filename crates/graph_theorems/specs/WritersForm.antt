@@ -21,8 +21,8 @@ use Rattle.graph.specs.Chart.{
   u32At,
   bitsOf,
   vertices,
-  head,
-  count,
+  chainHead,
+  recordCount,
   sizeOf,
   startOf,
   costAt,
@@ -50,8 +50,8 @@ use Rattle.graph_theorems.specs.WhatIsRead.{accepted-is, read-split, cha
 -- "The writer puts leg k in record k, r = m; head is 1 (0 where m = 0), each next is k + 1, the last 0": head and each next are as the
 -- writer puts them. The chain then goes through all r records, so that r = m, and edge k stands in record k.
 pub record WritersForm (s : List ℕ) : Type 0 where
-  pub head : head s ≡ after 0 (count s)
-  pub next : (k : ℕ) → k < count s → nextOf s (suc k) ≡ after (suc k) (count s)
+  pub head : chainHead s ≡ after 0 (recordCount s)
+  pub next : (k : ℕ) → k < recordCount s → nextOf s (suc k) ≡ after (suc k) (recordCount s)
 
 -- the bytes of a slice are bytes
 unfoldable pub Bytes : List ℕ → Type 0
@@ -127,7 +127,7 @@ taken-more s met h o e t =
     (last s met h o e) i (omega (arith, taken-size s h (startOf (suc (h .m)))))
 
 record Whole (s : List ℕ) (n : ℕ) (g : Graph) : Type 0 where
-  pub size : g .m ≡ count s
+  pub size : g .m ≡ recordCount s
   pub vertices : g .n ≡ n
   pub taken : Taken s g
 
@@ -138,23 +138,23 @@ next-is f r s met h g p x q e =
     subst (λ (i : ℕ). chainFrom f s met (withRecord s h p) i ≡ accept g)
     (q ∙ ap (λ (i : ℕ). after i r) (sym (taken-size s h p ∙ add-one (h .m)))) e
 
-form-walk : (f j : ℕ) (s : List ℕ) (met : List Bool) (h g : Graph) → WritersForm s → j + h .m ≡ count s → Sound h → Taken s h
-    → chainFrom f s met h (after (h .m) (count s)) ≡ accept g → Whole s (h .n) g
+form-walk : (f j : ℕ) (s : List ℕ) (met : List Bool) (h g : Graph) → WritersForm s → j + h .m ≡ recordCount s → Sound h → Taken s h
+    → chainFrom f s met h (after (h .m) (recordCount s)) ≡ accept g → Whole s (h .n) g
 unfolding withRecord appended
-form-walk zero j s met h g w q o t e = absurd (no-fuel s met h (after (h .m) (count s)) g e)
+form-walk zero j s met h g w q o t e = absurd (no-fuel s met h (after (h .m) (recordCount s)) g e)
 form-walk (suc f) zero s met h g w q o t e =
-    let r : h .m ≡ count s = omega arith in
+    let r : h .m ≡ recordCount s = omega arith in
     ⊎-elim (λ d. subst (λ (x : Graph). Whole s (h .n) x) (d .1) (record { size = r; vertices = refl; taken = t }))
-    (λ d. absurd (d .on (after-top (h .m) (count s) (omega arith))))
-    (chain-split f s met h (after (h .m) (count s)) g e)
+    (λ d. absurd (d .on (after-top (h .m) (recordCount s) (omega arith))))
+    (chain-split f s met h (after (h .m) (recordCount s)) g e)
 form-walk (suc f) (suc j) s met h g w q o t e =
-    let l : h .m < count s = omega arith in
+    let l : h .m < recordCount s = omega arith in
     let k = suc (h .m) in
     ⊎-elim (λ d. absurd (let z : k ≡ 0 = d .0 in omega arith))
     (λ d. form-walk f j s (set met (k - 1) true) (withRecord s h (startOf k)) g w (omega (arith, taken-size s h (startOf k)))
     (sound-record s met h k o (record-ok s met h k (d .none))) (taken-more s met h o (d .none) t)
-    (next-is f (count s) s (set met (k - 1) true) h g (startOf k) (nextOf s k) (w .next (h .m) l) (d .rest)))
-    (chain-split f s met h k g (rw (after-low (h .m) (count s) l) at e))
+    (next-is f (recordCount s) s (set met (k - 1) true) h g (startOf k) (nextOf s k) (w .next (h .m) l) (d .rest)))
+    (chain-split f s met h k g (rw (after-low (h .m) (recordCount s) l) at e))
 
 start-size : (n : ℕ) → edgeless n .m ≡ 0
 unfolding edgeless
@@ -175,11 +175,11 @@ form-whole s g h w =
     let o = header-ok s (p .0) in
     let n = vertices s in
     let v = replicate maxRecords false in
-    let walk : chainFrom (suc maxEdges) s v (edgeless n) (after (edgeless n .m) (count s)) ≡ accept g
+    let walk : chainFrom (suc maxEdges) s v (edgeless n) (after (edgeless n .m) (recordCount s)) ≡ accept g
     = subst (λ (i : ℕ). chainFrom (suc maxEdges) s v (edgeless n) i ≡ accept g)
-    (w .head ∙ ap (λ (i : ℕ). after i (count s)) (sym (start-size n))) (p .1) in
+    (w .head ∙ ap (λ (i : ℕ). after i (recordCount s)) (sym (start-size n))) (p .1) in
     subst (λ (i : ℕ). Whole s i g) (start-n n)
-    (form-walk (suc maxEdges) (count s) s v (edgeless n) g w (omega (arith, start-size n)) (sound-edgeless n (o .low) (o .high))
+    (form-walk (suc maxEdges) (recordCount s) s v (edgeless n) g w (omega (arith, start-size n)) (sound-edgeless n (o .low) (o .high))
     (start-taken s n) walk)
 
 -- ---- so every byte is the writer's
@@ -212,7 +212,7 @@ module _ (s : List ℕ) (g : Graph) (y : Bytes s) (o : HeaderOk s) (w : WritersF
   header-back : take 8 s ≡ headerBytes (g .n) (g .m)
   unfolding headerBytes
   header-back =
-      let m : count s ≡ g .m = sym (h .size) in
+      let m : recordCount s ≡ g .m = sym (h .size) in
       let c = two 4 (g .m) m in
       let f = two 2 (after 0 (g .m)) (w .head ∙ ap (λ (i : ℕ). after 0 i) m) in
       peel s _ 0 0 (g .n) 7 (omega (arith, o .long)) (sym (h .vertices))
@@ -239,7 +239,7 @@ module _ (s : List ℕ) (g : Graph) (y : Bytes s) (o : HeaderOk s) (w : WritersF
     next-back : u16At s (startOf (suc k) + 8) ≡ after (k + 1) (g .m)
     unfolding nextOf
     next-back =
-        let m : count s ≡ g .m = sym (h .size) in
+        let m : recordCount s ≡ g .m = sym (h .size) in
         w .next k (omega (arith, m)) ∙ ap (λ (i : ℕ). after (suc k) i) m ∙ ap (λ (i : ℕ). after i (g .m)) (sym (add-one k))
 
     record-back : take 12 (drop (startOf (suc k) + 0) s) ≡ recordBytes g k

@@ -9,7 +9,9 @@ use lib.Dec.{ltb}
 use lib.IntN.{pos}
 use borrow.Author.Tests.{ltb-true, ltb-false, lt-ltb, le-ltb}
 use Rattle.lists.specs.Bools.{by-cases}
+use Rattle.integers.specs.Range.{within-range}
 use Rattle.graph.specs.declared.Graph.{Graph}
+use Rattle.graph.specs.Limits.{maxCost}
 use Rattle.graph.specs.Valid.{Valid}
 use Rattle.graph.specs.Chart.{
   u16At,
@@ -130,7 +132,7 @@ module _ (g : Graph) (v : Valid g) where
     cost-written =
         let p = startOf (suc k) in
         let z = getD (g .cost) k (pos 0) in
-        let t = signed-bits z (v .each k h .range) in
+        let t = signed-bits z (within-range maxCost z (v .each k h .range)) in
         let e1 : p + 4 + 1 ≡ p + 5 = omega arith in
         let e2 : p + 4 + 2 ≡ p + 6 = omega arith in
         let e3 : p + 4 + 3 ≡ p + 7 = omega arith in

@@ -11,23 +11,23 @@ use lib.ListN.{length}
 use borrow.Author.Tests.{eq-eqb, ne-eqb}
 use Rattle.lists.specs.Bools.{by-cases, or-right, or-none, or-case, not-not}
 use Rattle.lists.specs.Members.{_∈_}
-use Rattle.lists.specs.All.{all, all-in, not-all}
+use Rattle.lists.specs.All.{everyOf, everyOf-in, not-everyOf}
 use Rattle.lists.specs.Select.{keep, select, select-cong, select-mono}
 use Rattle.lists.specs.Distinct.{Distinct}
 use Rattle.lists.specs.Weights.{weight}
 use Rattle.lists.specs.Same.{Shuffle, under, turn, chain, shuffle-self, shuffle-length, shuffle-weight}
 
-abbrev pub Set : Type 0
-Set = ℕ → Bool
+abbrev pub NumberSet : Type 0
+NumberSet = ℕ → Bool
 
 infixl 60 _⊕_ _⊖_
-unfoldable pub _⊕_ : Set → ℕ → Set
+unfoldable pub _⊕_ : NumberSet → ℕ → NumberSet
 _⊕_ t e k = eqb k e || t k
 
-unfoldable pub _⊖_ : Set → ℕ → Set
+unfoldable pub _⊖_ : NumberSet → ℕ → NumberSet
 _⊖_ t e k = not (eqb k e) && t k
 
-module _ (t : Set) (e : ℕ) where
+module _ (t : NumberSet) (e : ℕ) where
   pub plus-self : (t ⊕ e) e ≡ true
   unfolding _⊕_
   plus-self = rw (eq-eqb e e refl)
@@ -65,7 +65,7 @@ module _ (t : Set) (e : ℕ) where
   minus-false k h = by-cases ((t ⊖ e) k) (λ i. absurd (true≢false (sym (minus-is k i .1) ∙ h))) (λ i. i)
 
 -- taken out and put back
-pub put-back : (t : Set) (e : ℕ) → t e ≡ true → (k : ℕ) → (t ⊖ e ⊕ e) k ≡ t k
+pub put-back : (t : NumberSet) (e : ℕ) → t e ≡ true → (k : ℕ) → (t ⊖ e ⊕ e) k ≡ t k
 put-back t e h k = go (ℕ-discrete k e)
   where
     go : Dec (k ≡ e) → (t ⊖ e ⊕ e) k ≡ t k
@@ -75,7 +75,7 @@ put-back t e h k = go (ℕ-discrete k e)
 -- ---- selections
 
 -- one member more
-pub select-plus : (t : Set) (e : ℕ) (xs : List ℕ) → Distinct xs → e ∈ xs → t e ≡ false → Shuffle (select (t ⊕ e) xs) (e ∷ select t xs)
+pub select-plus : (t : NumberSet) (e : ℕ) (xs : List ℕ) → Distinct xs → e ∈ xs → t e ≡ false → Shuffle (select (t ⊕ e) xs) (e ∷ select t xs)
 unfolding select
 select-plus t e [] d m h = absurd m
 select-plus t e (x ∷ xs) d (inl k) h =
@@ -92,12 +92,12 @@ select-plus t e (x ∷ xs) d (inr m) h = rw (plus-other t e x (λ f. d .0 (rw f 
     go false below = below
 
 -- one member less
-pub select-minus : (t : Set) (e : ℕ) (xs : List ℕ) → Distinct xs → e ∈ xs → t e ≡ true → Shuffle (select t xs) (e ∷ select (t ⊖ e) xs)
+pub select-minus : (t : NumberSet) (e : ℕ) (xs : List ℕ) → Distinct xs → e ∈ xs → t e ≡ true → Shuffle (select t xs) (e ∷ select (t ⊖ e) xs)
 select-minus t e xs d m h =
     rw (← select-cong (t ⊖ e ⊕ e) t xs (λ k i. put-back t e h k)) (select-plus (t ⊖ e) e xs d m (minus-self t e))
 
 -- a gives way to b: as many members, and the weight changes by theirs
-module _ (xs : List ℕ) (d : Distinct xs) (s : Set) (a b : ℕ) (ma : a ∈ xs) (mb : b ∈ xs) (sa : s a ≡ true) (sb : s b ≡ false) where
+module _ (xs : List ℕ) (d : Distinct xs) (s : NumberSet) (a b : ℕ) (ma : a ∈ xs) (mb : b ∈ xs) (sa : s a ≡ true) (sb : s b ≡ false) where
   new : Shuffle (select (s ⊖ a ⊕ b) xs) (b ∷ select (s ⊖ a) xs)
   new = select-plus (s ⊖ a) b xs d mb (minus-false s a b sb)
 
@@ -112,16 +112,16 @@ module _ (xs : List ℕ) (d : Distinct xs) (s : Set) (a b : ℕ) (ma : a ∈ xs)
   swapped-weight w = omega (arith, shuffle-weight w new, shuffle-weight w old)
 
 -- nothing moves in a list that has neither
-pub unmoved : (xs : List ℕ) (s : Set) (a b : ℕ) → ¬ (a ∈ xs) → ¬ (b ∈ xs) → select (s ⊖ a ⊕ b) xs ≡ select s xs
+pub unmoved : (xs : List ℕ) (s : NumberSet) (a b : ℕ) → ¬ (a ∈ xs) → ¬ (b ∈ xs) → select (s ⊖ a ⊕ b) xs ≡ select s xs
 unmoved xs s a b na nb =
     select-cong (s ⊖ a ⊕ b) s xs
     (λ k m. plus-other (s ⊖ a) b k (λ f. nb (rw (← f) m)) ∙ minus-other s a k (λ f. na (rw (← f) m)))
 
 -- two sets with as many members each: where one lacks e and the other has it, the one has some f that the other lacks
-pub partner : (xs : List ℕ) → Distinct xs → (s t : Set) → length (select s xs) ≡ length (select t xs)
+pub partner : (xs : List ℕ) → Distinct xs → (s t : NumberSet) → length (select s xs) ≡ length (select t xs)
     → (e : ℕ) → e ∈ xs → s e ≡ false → t e ≡ true → (f : ℕ) × (f ∈ xs) × (s f ≡ true) × (t f ≡ false)
 partner xs nd s t size e m se te =
-    by-cases (all (λ k. not (s k) || t k) xs) (λ h. absurd (too-many (all-in (λ k. not (s k) || t k) xs h))) (λ h. found (not-all _ xs h))
+    by-cases (everyOf (λ k. not (s k) || t k) xs) (λ h. absurd (too-many (everyOf-in (λ k. not (s k) || t k) xs h))) (λ h. found (not-everyOf _ xs h))
   where
     found : (k : ℕ) × (k ∈ xs) × (not (s k) || t k ≡ false) → (f : ℕ) × (f ∈ xs) × (s f ≡ true) × (t f ≡ false)
     found r = let o = or-none (not (s (r .0))) (t (r .0)) (r .2) in (r .0, r .1, not-not (s (r .0)) (ap not (o .0)), o .1)

@@ -14,7 +14,7 @@ use Rattle.lists.specs.Members.{_∈_}
 use Rattle.lists.specs.Select.{keep, select, select-in, in-select, select-full}
 use Rattle.lists.specs.Distinct.{Distinct, distinct-select}
 use Rattle.lists.specs.Weights.{weight, keep-length, keep-weight}
-use Rattle.lists.specs.Sets.{Set}
+use Rattle.lists.specs.Sets.{NumberSet}
 use Rattle.lists.specs.Same.{Shuffle, under, turn, chain, shuffle-self, shuffle-same, shuffle-length, shuffle-weight}
 
 -- ---- the choice
@@ -104,7 +104,7 @@ Desc w c (e ∷ es) = (w e ≤ c) × Desc w (w e) es
 -- ---- summation by parts
 
 -- wherever the looking stops, in front of base, the set t has no more of the edges than are kept
-abbrev pub Dominates : (List ℕ → ℕ → Bool) → Set → List ℕ → List ℕ → Type 0
+abbrev pub Dominates : (List ℕ → ℕ → Bool) → NumberSet → List ℕ → List ℕ → Type 0
 Dominates j t base [] = Unit {0}
 Dominates j t base (e ∷ es) =
     (length (select t (e ∷ (es ++ base))) ≤ length (choose j (e ∷ (es ++ base)))) × Dominates j t base es
@@ -116,7 +116,7 @@ one-more : (A B x y w a b : ℕ) {A′ B′ x′ y′ : ℕ} → A′ ≡ w * a 
     → A + w * x ≤ B + w * y → A′ + w * x′ ≤ B′ + w * y′
 one-more A B x y w a b e f g h k = rw (e, f, g, h) (omega arith)
 
-module _ (j : List ℕ → ℕ → Bool) (w : ℕ → ℕ) (t : Set) (base : List ℕ) (same : choose j base ≡ select t base) where
+module _ (j : List ℕ → ℕ → Bool) (w : ℕ → ℕ) (t : NumberSet) (base : List ℕ) (same : choose j base ≡ select t base) where
   -- but for c at each edge that one of the two lacks
   by-parts : (c : ℕ) (es : List ℕ) → Dominates j t base es → Desc w c es
       → weight w (choose j (es ++ base)) + c * length (select t (es ++ base))
@@ -153,7 +153,7 @@ pub record Listing (all es : List ℕ) : Type 0 where
   pub there : (k : ℕ) → k ∈ all → k ∈ es
   pub back : (k : ℕ) → k ∈ es → k ∈ all
 
-module _ (all es : List ℕ) (l : Listing all es) (t : Set) where
+module _ (all es : List ℕ) (l : Listing all es) (t : NumberSet) where
   -- a set selects the same from both, in another order
   pub select-listing : Shuffle (select t es) (select t all)
   select-listing =
@@ -178,14 +178,14 @@ module _ (all es : List ℕ) (l : Listing all es) (t : Set) where
       back k m = in-select t all k (l .back k (choose-in j es k m)) (of k m)
 
 -- picked has as many edges as t has of all, weighs no more, and has the edges that must be in
-pub record Beats (w : ℕ → ℕ) (all must picked : List ℕ) (t : Set) : Type 0 where
+pub record Beats (w : ℕ → ℕ) (all must picked : List ℕ) (t : NumberSet) : Type 0 where
   pub size : length picked ≡ length (select t all)
   pub lighter : weight w picked ≤ weight w (select t all)
   pub base : (k : ℕ) → k ∈ must → k ∈ picked
 
 -- THE CHOICE IS LEAST: first the edges rs that must be in, then the edges fs by weight
 pub choose-beats : (j : List ℕ → ℕ → Bool) (w : ℕ → ℕ) (all fs rs : List ℕ) → Listing all (fs ++ rs) → (c : ℕ) → Desc w c fs
-    → (t : Set) → ((k : ℕ) → k ∈ rs → t k ≡ true) → choose j rs ≡ rs → Dominates j t rs fs
+    → (t : NumberSet) → ((k : ℕ) → k ∈ rs → t k ≡ true) → choose j rs ≡ rs → Dominates j t rs fs
     → length (choose j (fs ++ rs)) ≡ length (select t (fs ++ rs)) → Beats w all rs (choose j (fs ++ rs)) t
 choose-beats j w all fs rs l c d t keeps whole m size = record {
   size = size ∙ shuffle-length (select-listing all (fs ++ rs) l t);

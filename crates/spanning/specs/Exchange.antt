@@ -15,7 +15,7 @@ use Rattle.lists.specs.Members.{_∈_, in-left, in-right, in-either}
 use Rattle.lists.specs.Select.{select, select-in, in-select, parts-length}
 use Rattle.lists.specs.Distinct.{Distinct, distinct-select}
 use Rattle.lists.specs.Same.{Shuffle, shuffle-back, shuffle-in, shuffle-fills}
-use Rattle.lists.specs.Sets.{Set, _⊕_, _⊖_, plus-is, minus-other, minus-is, swapped-length}
+use Rattle.lists.specs.Sets.{NumberSet, _⊕_, _⊖_, plus-is, minus-other, minus-is, swapped-length}
 use Rattle.spanning.specs.Walks.{label, label-edge, walk-respects, label-walk}
 use Rattle.spanning.specs.Components.{rank, joins, sub-inside, inside-rank, same-rank}
 use Rattle.spanning.specs.Choice.{choose, Dropped, dropped}
@@ -25,7 +25,7 @@ use Rattle.spanning.specs.Trees.{Tree, minus-apart, swap-tree}
 -- ---- the cut property
 
 -- L tells two sides apart, and e crosses between them; then some edge g of the tree t crosses too, and e can take its place
-pub record Crossing (p q : ℕ → ℕ) (all : List ℕ) (L : ℕ → ℕ) (t : Set) (e : ℕ) : Type 0 where
+pub record Crossing (p q : ℕ → ℕ) (all : List ℕ) (L : ℕ → ℕ) (t : NumberSet) (e : ℕ) : Type 0 where
   pub g : ℕ
   pub listed : g ∈ all
   pub taken : t g ≡ true
@@ -33,9 +33,9 @@ pub record Crossing (p q : ℕ → ℕ) (all : List ℕ) (L : ℕ → ℕ) (t : 
   pub tree : Tree p q all (t ⊖ g ⊕ e)
 
 -- Of the edges of t that do not cross, e, and then those that cross, the greedy choice drops one, and it is one that crosses.
-module _ (p q : ℕ → ℕ) (all : List ℕ) (nd : Distinct all) (L : ℕ → ℕ) (t : Set) (e : ℕ) (tree : Tree p q all t) (me : e ∈ all)
+module _ (p q : ℕ → ℕ) (all : List ℕ) (nd : Distinct all) (L : ℕ → ℕ) (t : NumberSet) (e : ℕ) (tree : Tree p q all t) (me : e ∈ all)
     (te : t e ≡ false) (far : L (p e) ≢ L (q e)) where
-  crosses : Set
+  crosses : NumberSet
   crosses k = not (eqb (L (p k)) (L (q k)))
 
   over : List ℕ
@@ -121,7 +121,7 @@ module _ (p q : ℕ → ℕ) (all : List ℕ) (nd : Distinct all) (L : ℕ → �
       m : (g ∈ all) × (t g ≡ true)
       m = select-in t all (x .g) (over-in (x .g) (x .from) .0)
 
-      s : Set
+      s : NumberSet
       s = t ⊖ g ⊕ e
 
       kept : List ℕ
@@ -164,7 +164,7 @@ module _ (p q : ℕ → ℕ) (all : List ℕ) (nd : Distinct all) (L : ℕ → �
 -- ---- symmetric exchange
 
 -- e is in the tree t and not in the tree s; then some g is in s and not in t, and each tree stays one where e and g change places
-pub record Traded (p q : ℕ → ℕ) (all : List ℕ) (s t : Set) (e : ℕ) : Type 0 where
+pub record Traded (p q : ℕ → ℕ) (all : List ℕ) (s t : NumberSet) (e : ℕ) : Type 0 where
   pub g : ℕ
   pub listed : g ∈ all
   pub mine : s g ≡ true
@@ -172,7 +172,7 @@ pub record Traded (p q : ℕ → ℕ) (all : List ℕ) (s t : Set) (e : ℕ) : T
   pub tree : Tree p q all (s ⊖ g ⊕ e)
   pub tree′ : Tree p q all (t ⊖ e ⊕ g)
 
-pub trade : (p q : ℕ → ℕ) (all : List ℕ) → Distinct all → (s t : Set) (e : ℕ) → Tree p q all s → Tree p q all t → e ∈ all
+pub trade : (p q : ℕ → ℕ) (all : List ℕ) → Distinct all → (s t : NumberSet) (e : ℕ) → Tree p q all s → Tree p q all t → e ∈ all
     → s e ≡ false → t e ≡ true → Traded p q all s t e
 trade p q all nd s t e ts tt′ me se te =
     record { g = x .g; listed = x .listed; mine = x .taken; other = other; tree = x .tree; tree′ = tree′ }

@@ -12,7 +12,7 @@ use Rattle.lists.specs.Members.{_∈_}
 use Rattle.lists.specs.Select.{select, select-append, select-length, select-full}
 use Rattle.lists.specs.Weights.{keep-length}
 use Rattle.lists.specs.Same.{shuffle-length}
-use Rattle.lists.specs.Sets.{Set}
+use Rattle.lists.specs.Sets.{NumberSet}
 use Rattle.spanning.specs.Choice.{choose, choose-full, Desc, Dominates, Listing, select-listing, Beats, choose-beats}
 
 -- fewer than two are behind it
@@ -29,10 +29,10 @@ fewer-length (e ∷ es) = keep-length (fewer es e) e (choose fewer es) ∙ rw (f
     go false h = omega (arith, ltb-false (length es) 2 h)
 
 -- a set has no fewer in a longer list
-behind : (t : Set) (xs base : List ℕ) → length (select t base) ≤ length (select t (xs ++ base))
+behind : (t : NumberSet) (xs base : List ℕ) → length (select t base) ≤ length (select t (xs ++ base))
 behind t xs base = rw (select-append t xs base) (simp length-append (omega arith))
 
-fewer-dominates : (t : Set) (base es : List ℕ) → length (select t (es ++ base)) ≤ 2 → Dominates fewer t base es
+fewer-dominates : (t : NumberSet) (base es : List ℕ) → length (select t (es ++ base)) ≤ 2 → Dominates fewer t base es
 fewer-dominates t base [] h = tt
 fewer-dominates t base (e ∷ es) h = (
   omega (arith, select-length t (e ∷ (es ++ base)), fewer-length (e ∷ (es ++ base))),
@@ -40,7 +40,7 @@ fewer-dominates t base (e ∷ es) h = (
 )
 
 pub few-least : (w : ℕ → ℕ) (all fs rs : List ℕ) → Listing all (fs ++ rs) → (c : ℕ) → Desc w c fs
-    → (t : Set) → length (select t all) ≡ 2 → ((k : ℕ) → k ∈ rs → t k ≡ true) → Beats w all rs (choose fewer (fs ++ rs)) t
+    → (t : NumberSet) → length (select t all) ≡ 2 → ((k : ℕ) → k ∈ rs → t k ≡ true) → Beats w all rs (choose fewer (fs ++ rs)) t
 few-least w all fs rs l c d t two keeps =
     choose-beats fewer w all fs rs l c d t keeps
     (choose-full fewer rs (omega (arith, fewer-length rs, short)))

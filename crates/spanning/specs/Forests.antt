@@ -10,7 +10,7 @@ use lib.ListN.{length}
 use Rattle.lists.specs.Bools.{bit}
 use Rattle.lists.specs.Select.{keep, select, select-in, select-append}
 use Rattle.lists.specs.Weights.{keep-length}
-use Rattle.lists.specs.Sets.{Set}
+use Rattle.lists.specs.Sets.{NumberSet}
 use Rattle.spanning.specs.Walks.{label, label-edge, label-idle}
 use Rattle.spanning.specs.Components.{joins, joins-is, Joining, rank, rank-le, Inside, sub-inside, inside-label, inside-rank}
 use Rattle.spanning.specs.Choice.{choose, choose-in, choose-full, Dominates}
@@ -48,11 +48,11 @@ module _ (p q : ℕ → ℕ) where
   forest-behind [] base h = h
   forest-behind (e ∷ xs) base h = forest-behind xs base (forest-tail e (xs ++ base) h)
 
-  pub forest-base : (t : Set) (xs base : List ℕ) → Forest (select t (xs ++ base)) → Forest (select t base)
+  pub forest-base : (t : NumberSet) (xs base : List ℕ) → Forest (select t (xs ++ base)) → Forest (select t base)
   forest-base t xs base h = forest-behind (select t xs) (select t base) (rw select-append at h)
 
   -- some of a forest's edges are one
-  pub forest-select : (c : Set) (es : List ℕ) → Forest es → Forest (select c es)
+  pub forest-select : (c : NumberSet) (es : List ℕ) → Forest es → Forest (select c es)
   unfolding select
   forest-select c [] h = h
   forest-select c (e ∷ es) h = go (c e) (forest-select c es (forest-tail e es h))
@@ -101,7 +101,7 @@ module _ (p q : ℕ → ℕ) where
   greedy-all es h = choose-full (joins p q) es (greedy-length es ∙ h)
 
   -- no forest has more edges among those looked at
-  pub greedy-dominates : (t : Set) (base es : List ℕ) → Forest (select t (es ++ base)) → Dominates (joins p q) t base es
+  pub greedy-dominates : (t : NumberSet) (base es : List ℕ) → Forest (select t (es ++ base)) → Dominates (joins p q) t base es
   unfolding select Forest greedy
   greedy-dominates t base [] f = tt
   greedy-dominates t base (e ∷ es) f = (more, greedy-dominates t base es (forest-base t (e ∷ []) (es ++ base) f))

@@ -8,7 +8,7 @@ use lib.ListN.{length}
 use Rattle.lists.specs.Members.{_∈_}
 use Rattle.lists.specs.Select.{select, select-full}
 use Rattle.lists.specs.Same.{Shuffle, shuffle-back, shuffle-in, shuffle-length}
-use Rattle.lists.specs.Sets.{Set}
+use Rattle.lists.specs.Sets.{NumberSet}
 use Rattle.spanning.specs.Components.{joins, rank, same-rank}
 use Rattle.spanning.specs.Choice.{choose, Desc, Listing, select-listing, select-chosen, Beats, choose-beats}
 use Rattle.spanning.specs.Forests.{Forest, forest-base, greedy, greedy-length, greedy-rank, greedy-all, greedy-dominates}
@@ -19,7 +19,7 @@ module _ (p q : ℕ → ℕ) (all es : List ℕ) (l : Listing all es) where
   rank-all = same-rank p q es all (l .back) (l .there)
 
   -- a set that has just the greedy edges of all is a tree
-  pub greedy-tree : (t : Set) → ((k : ℕ) → k ∈ all → t k ≡ true → k ∈ greedy p q es) → ((k : ℕ) → k ∈ greedy p q es → t k ≡ true)
+  pub greedy-tree : (t : NumberSet) → ((k : ℕ) → k ∈ all → t k ≡ true → k ∈ greedy p q es) → ((k : ℕ) → k ∈ greedy p q es → t k ≡ true)
       → Tree p q all t
   unfolding greedy Forest
   greedy-tree t into of = record { forest = ranks ∙ sym size; size = size }
@@ -37,7 +37,7 @@ module _ (p q : ℕ → ℕ) (all es : List ℕ) (l : Listing all es) where
 
 -- THE GREEDY TREE IS LEAST
 pub kruskal : (p q : ℕ → ℕ) (w : ℕ → ℕ) (all fs rs : List ℕ) → Listing all (fs ++ rs) → (c : ℕ) → Desc w c fs
-    → (t : Set) → Tree p q all t → ((k : ℕ) → k ∈ rs → t k ≡ true) → Beats w all rs (greedy p q (fs ++ rs)) t
+    → (t : NumberSet) → Tree p q all t → ((k : ℕ) → k ∈ rs → t k ≡ true) → Beats w all rs (greedy p q (fs ++ rs)) t
 unfolding greedy Forest
 kruskal p q w all fs rs l c d t tree keeps =
     choose-beats (joins p q) w all fs rs l c d t keeps

@@ -1,7 +1,7 @@
 -- A signed local is held as its bits.
 use mathlib.Core.Path.{_∙_, ap}
 use Rattle.integers.specs.Words.{back32}
-use Rattle.graph.specs.Chart.{signedOf}
+use Rattle.graph.specs.Chart.{u32At, signedOf}
 use borrow.Author.Needs.{needs}
 use Rattle.graph.proofs.bytes.i32_of.Statement.{statement}
 use Rattle.graph.proofs.bytes.i32_of.Tie as tie
@@ -13,6 +13,7 @@ signed-requires : tie.Need-signed-requires
 signed-requires c κs = search needs
 
 returns : tie.Need-returns
+unfolding u32At
 returns c =
     rw (back32 (c .signed .result) (c .signed .ok)) (c .signed .ensures ∙ ap signedOf (c .before .word .ensures .0))
 

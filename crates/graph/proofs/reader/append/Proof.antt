@@ -4,6 +4,9 @@ use Rattle.graph.specs.Chart.{appended}
 use Rattle.graph.proofs.reader.append.Statement.{statement}
 use Rattle.graph.proofs.reader.append.Tie as tie
 
+wide-requires : tie.Need-wide-requires
+wide-requires c κs = search needs
+
 element-write-h : tie.Need-element-write-h
 element-write-h c = search needs
 
@@ -24,12 +27,13 @@ add-h c = search needs
 
 returns : tie.Need-returns
 unfolding appended
-returns c = search needs
+returns c = rw (c .before .wide .ensures .0) (search needs)
 
 pub append-spec : {M : Type 1} → statement M
 append-spec =
     tie.close
     (tie.spec
+    wide-requires
     element-write-h
     element-write-h-2
     mul-z

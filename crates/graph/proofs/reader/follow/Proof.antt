@@ -1,9 +1,9 @@
 -- The loop keeps `Reached`; specs/ReadLoop.antt says what each answer then means.
 use borrow.Author.Needs.{needs}
-use mathlib.Core.Path.{_≡_, sym, _∙_, ap}
+use mathlib.Core.Path.{_≡_, sym, _∙_}
 use Prim.Native.Nat.{suc, _-_}
 use Rattle.graph.specs.Limits.{maxEdges}
-use Rattle.graph.specs.Chart.{startOf, nextOf, recordFault, edgeless}
+use Rattle.graph.specs.Chart.{startOf, nextOf, recordFault}
 use Rattle.graph.specs.NoFault.{header-ok}
 use Rattle.graph.specs.ReadLoop.{
   Reached,
@@ -28,33 +28,29 @@ abbrev μ-loop : tie.MeasureT-loop
 -- the record at k has no fault
 none : (c : tie.Else1 Inv-loop μ-loop)
     → let at = c .before .before .before .before in
-    recordFault (at .before .before .before .before .before .before .args .s .now) (at .loop .met) (at .loop .g) (at .loop .k) ≡ 0
+    recordFault (at .before .before .before .before .before .args .s .now) (at .loop .met) (at .loop .g) (at .loop .k) ≡ 0
 none c = sym (c .before .record-fault .ensures) ∙ c .if1 .left
 
-shared-slice-read-wide : tie.Need-shared-slice-read-wide Inv-loop μ-loop
-shared-slice-read-wide c = omega (arith, header-ok (c .before .before .args .s .now) (c .before .before .pre))
-
-wide-requires : tie.Need-wide-requires Inv-loop μ-loop
-wide-requires c κs = search needs
+shared-slice-read-edgeless : tie.Need-shared-slice-read-edgeless Inv-loop μ-loop
+shared-slice-read-edgeless c = omega (arith, header-ok (c .before .before .args .s .now) (c .before .before .pre))
 
 edgeless-requires : tie.Need-edgeless-requires Inv-loop μ-loop
 edgeless-requires c κs = search needs
 
 u16-at-requires : tie.Need-u16-at-requires Inv-loop μ-loop
-u16-at-requires c κs = omega (arith, header-ok (c .before .before .before .before .args .s .now) (c .before .before .before .before .pre))
+u16-at-requires c κs = omega (arith, header-ok (c .before .before .before .args .s .now) (c .before .before .before .pre))
 
 loop-holds : tie.Need-loop-holds Inv-loop μ-loop
 loop-holds c =
-    let start = c .before .before .before .before .before in
-    let size = c .before .before .wide in
+    let start = c .before .before .before .before in
     let none = c .before .edgeless in
-    reached-start (start .args .s .now) (none .result) (c .u16-at .result) (start .pre) (none .ensures ∙ ap edgeless (size .ensures .0))
+    reached-start (start .args .s .now) (none .result) (c .u16-at .result) (start .pre) (none .ensures)
     (c .u16-at .ensures .0) (c .u16-at .ensures .1)
 
 record-fault-requires : tie.Need-record-fault-requires Inv-loop μ-loop
 record-fault-requires c κs =
     let at = c .before .before in
-    (at .before .before .before .before .before .before .pre, omega arith, at .loop .inv .sound .valid .few)
+    (at .before .before .before .before .before .pre, omega arith, at .loop .inv .sound .valid .few)
 
 refused-requires : tie.Need-refused-requires Inv-loop μ-loop
 refused-requires c κs = search needs
@@ -63,7 +59,7 @@ returns : tie.Need-returns Inv-loop μ-loop
 returns c =
     let at = c .before .before .before .before .before in
     let turn = at .loop in
-    let s = at .before .before .before .before .before .before .args .s .now in
+    let s = at .before .before .before .before .before .args .s .now in
     let said = c .before .before .record-fault .ensures in
     let on = c .before .before .before .before .loop-test .taken in
     let e = reached-fault s (turn .met) (turn .g) (turn .k) (turn .inv) on (λ z. c .before .if1 .taken (said ∙ z)) in
@@ -76,7 +72,7 @@ array-write-met : tie.Need-array-write-met Inv-loop μ-loop
 array-write-met c =
     let at = c .before .before .before .before in
     let turn = at .loop in
-    let s = at .before .before .before .before .before .before .args .s .now in
+    let s = at .before .before .before .before .before .args .s .now in
     omega (arith, turn .inv .header, record-fine s (turn .met) (turn .g) (turn .k) (turn .inv) (none c))
 
 sub-p : tie.Need-sub-p Inv-loop μ-loop
@@ -92,7 +88,7 @@ with-record-requires : tie.Need-with-record-requires Inv-loop μ-loop
 with-record-requires c κs =
     let at = c .before .before .before .before in
     let turn = at .loop in
-    let s = at .before .before .before .before .before .before .args .s .now in (
+    let s = at .before .before .before .before .before .args .s .now in (
       omega (arith, turn .inv .header, record-fine s (turn .met) (turn .g) (turn .k) (turn .inv) (none c)),
       record-place s (turn .met) (turn .g) (turn .k) (turn .inv) (none c),
     )
@@ -104,7 +100,7 @@ u16-at-requires-2 : tie.Need-u16-at-requires-2 Inv-loop μ-loop
 u16-at-requires-2 c κs =
     let at = c .before .before .before .before .before in
     let turn = at .loop in
-    let s = at .before .before .before .before .before .before .args .s .now in
+    let s = at .before .before .before .before .before .args .s .now in
     omega (arith, turn .inv .header, record-fine s (turn .met) (turn .g) (turn .k) (turn .inv) (none (c .before)))
 
 loop-less : tie.Need-loop-less Inv-loop μ-loop
@@ -112,7 +108,7 @@ unfolding startOf
 loop-less c =
     let at = c .before .before .before .before .before .before in
     let turn = at .loop in
-    let s = at .before .before .before .before .before .before .args .s .now in
+    let s = at .before .before .before .before .before .args .s .now in
     let grown = c .before .with-record in
     omega (
       arith,
@@ -125,7 +121,7 @@ unfolding startOf nextOf
 loop-again c =
     let at = c .before .before .before .before .before .before in
     let turn = at .loop in
-    let s = at .before .before .before .before .before .before .args .s .now in
+    let s = at .before .before .before .before .before .args .s .now in
     let grown = c .before .with-record in
     let next = c .u16-at2 in
     let on = c .before .before .before .before .before .loop-test .taken in
@@ -139,7 +135,7 @@ returns-2 : tie.Need-returns-2 Inv-loop μ-loop
 returns-2 c =
     let at = c .before .before in
     let turn = at .loop in
-    let s = at .before .before .before .before .before .before .args .s .now in
+    let s = at .before .before .before .before .before .args .s .now in
     rw (reached-end s (turn .met) (turn .g) (turn .k) (turn .inv) (c .before .loop-test .left)) (c .accepted .ensures)
 
 pub follow-spec : {M : Type 1} → statement M
@@ -148,8 +144,7 @@ follow-spec =
     (tie.spec
     Inv-loop
     μ-loop
-    shared-slice-read-wide
-    wide-requires
+    shared-slice-read-edgeless
     edgeless-requires
     u16-at-requires
     loop-holds

@@ -1,8 +1,8 @@
 -- Each return by the tests that led there; the header says where records stand.
 use borrow.Author.Needs.{needs}
-use mathlib.Core.Path.{sym, _∙_}
+use mathlib.Core.Path.{_≡_, sym, _∙_}
 use borrow.Author.Tests.{lt-ltb, le-ltb, eq-eqb, ne-eqb}
-use Rattle.graph.specs.Chart.{startOf, recordFault}
+use Rattle.graph.specs.Chart.{startOf, bodyFault, recordFault}
 use Rattle.graph.specs.NoFault.{header-ok}
 use native.Mathlib.Omega.{arith}
 use Rattle.graph.proofs.reader.record_fault.Statement.{statement}
@@ -44,25 +44,38 @@ mul-p c = search needs
 add-p : tie.Need-add-p
 add-p c = search needs
 
+wide-requires : tie.Need-wide-requires
+wide-requires c κs = search needs
+
 body-fault-requires : tie.Need-body-fault-requires
 body-fault-requires c κs =
-    let at = c .before .before .before in
+    let at = c .before .before .before .before in
     let start = at .before .before in
     omega (arith, at .u16-at .ensures .0, header-ok (start .args .s .now) (start .pre .0))
+
+-- what `body_fault` says of the graph's own n
+body : (c : tie.After-body-fault)
+    → let args = c .before .before .before .before .before .before .before .args in
+    bodyFault (args .s .now) (args .g .n) (startOf (args .k)) ≡ c .body-fault .result
+unfolding startOf
+body c = sym (rw (c .before .wide .ensures .0) at (c .body-fault .ensures))
 
 returns-3 : tie.Need-returns-3
 unfolding recordFault startOf
 returns-3 c =
-    let at = c .before .before .before .before .before in
+    let at = c .before .before .before .before .before .before in
     let count = sym (at .u16-at .ensures .0) in
-    let under = le-ltb _ _ (c .before .before .before .before .if1 .left) in
-    let unmet = c .before .before .if2 .left in
-    let body = sym (c .before .body-fault .ensures) in
+    let under = le-ltb _ _ (c .before .before .before .before .before .if1 .left) in
+    let unmet = c .before .before .before .if2 .left in
+    let body = body (c .before) in
     simp (count, under, unmet, body, ne-eqb _ _ (c .if3 .taken))
+
+wide-requires-2 : tie.Need-wide-requires-2
+wide-requires-2 c κs = search needs
 
 shared-slice-read-pair-met : tie.Need-shared-slice-read-pair-met
 shared-slice-read-pair-met c =
-    let at = c .before .before .before .before .before .before in
+    let at = c .before .before .before .before .before .before .before .before in
     let start = at .before .before in
     omega (arith, at .u16-at .ensures .0, header-ok (start .args .s .now) (start .pre .0))
 
@@ -71,7 +84,7 @@ add-pair-met c = search needs
 
 shared-slice-read-pair-met-2 : tie.Need-shared-slice-read-pair-met-2
 shared-slice-read-pair-met-2 c =
-    let at = c .before .before .before .before .before .before .before in
+    let at = c .before .before .before .before .before .before .before .before .before in
     let start = at .before .before in
     omega (arith, at .u16-at .ensures .0, header-ok (start .args .s .now) (start .pre .0))
 
@@ -81,24 +94,28 @@ pair-met-requires c κs = search needs
 returns-4 : tie.Need-returns-4
 unfolding recordFault startOf
 returns-4 c =
-    let at = c .before .before .before .before .before .before .before .before .before in
+    let tested = c .before .before .before .before .before in
+    let at = tested .before .before .before .before .before .before in
     let count = sym (at .u16-at .ensures .0) in
-    let under = le-ltb _ _ (c .before .before .before .before .before .before .before .before .if1 .left) in
-    let unmet = c .before .before .before .before .before .before .if2 .left in
-    let body = sym (c .before .before .before .before .before .body-fault .ensures) in
-    let fine = eq-eqb _ _ (c .before .before .before .before .if3 .left) in
-    simp (count, under, unmet, body, fine, sym (c .before .pair-met .ensures) ∙ c .if4 .taken)
+    let under = le-ltb _ _ (tested .before .before .before .before .before .if1 .left) in
+    let unmet = tested .before .before .before .if2 .left in
+    let body = body (tested .before) in
+    let fine = eq-eqb _ _ (tested .if3 .left) in
+    let pair = rw (c .before .before .before .before .wide2 .ensures .0) at (c .before .pair-met .ensures) in
+    simp (count, under, unmet, body, fine, sym pair ∙ c .if4 .taken)
 
 returns-5 : tie.Need-returns-5
 unfolding recordFault startOf
 returns-5 c =
-    let at = c .before .before .before .before .before .before .before .before .before in
+    let tested = c .before .before .before .before .before in
+    let at = tested .before .before .before .before .before .before in
     let count = sym (at .u16-at .ensures .0) in
-    let under = le-ltb _ _ (c .before .before .before .before .before .before .before .before .if1 .left) in
-    let unmet = c .before .before .before .before .before .before .if2 .left in
-    let body = sym (c .before .before .before .before .before .body-fault .ensures) in
-    let fine = eq-eqb _ _ (c .before .before .before .before .if3 .left) in
-    simp (count, under, unmet, body, fine, sym (c .before .pair-met .ensures) ∙ c .if4 .left)
+    let under = le-ltb _ _ (tested .before .before .before .before .before .if1 .left) in
+    let unmet = tested .before .before .before .if2 .left in
+    let body = body (tested .before) in
+    let fine = eq-eqb _ _ (tested .if3 .left) in
+    let pair = rw (c .before .before .before .before .wide2 .ensures .0) at (c .before .pair-met .ensures) in
+    simp (count, under, unmet, body, fine, sym pair ∙ c .if4 .left)
 
 pub record-fault-spec : {M : Type 1} → statement M
 record-fault-spec =
@@ -112,8 +129,10 @@ record-fault-spec =
     sub-p
     mul-p
     add-p
+    wide-requires
     body-fault-requires
     returns-3
+    wide-requires-2
     shared-slice-read-pair-met
     add-pair-met
     shared-slice-read-pair-met-2

@@ -18,18 +18,26 @@ Inv-loop out₀ g n m k₀ out k =
 abbrev μ-loop : tie.MeasureT-loop
 μ-loop out₀ g n m k₀ out k = g .m - k
 
+wide-requires : tie.Need-wide-requires Inv-loop μ-loop
+wide-requires c κs = search needs
+
+wide-requires-2 : tie.Need-wide-requires-2 Inv-loop μ-loop
+wide-requires-2 c κs = search needs
+
 put-header-requires : tie.Need-put-header-requires Inv-loop μ-loop
-put-header-requires c κs = (c .before .before .pre .0, omega (arith, c .before .before .pre))
+put-header-requires c κs =
+    let start = c .before .before .before .before in
+    (omega (arith, c .before .before .wide .ensures), omega (arith, start .pre))
 
 loop-holds : tie.Need-loop-holds Inv-loop μ-loop
 loop-holds c =
-    let start = c .before .before .before .before .before in
+    let start = c .before .before .before .before .before .before .before in
     let g = start .args .g in
     let put = c .before .before .put-header in (
       omega arith,
       start .pre .1,
       put .kept .0 ∙ start .pre .2,
-      (rw (put .ensures) (write-start (g .n) (g .m) g (start .args .out .now) (omega (arith, start .pre)))),
+      (rw (put .ensures, c .before .before .before .before .before .wide .ensures .0, c .before .before .before .before .wide2 .ensures .0) (write-start (g .n) (g .m) g (start .args .out .now) (omega (arith, start .pre)))),
     )
 
 put-record-requires : tie.Need-put-record-requires Inv-loop μ-loop
@@ -45,7 +53,7 @@ loop-again : tie.Need-loop-again Inv-loop μ-loop
 loop-again c =
     let at = c .before .before .before .before .before in
     let turn = at .loop in
-    let g = at .before .before .before .before .before .before .args .g in
+    let g = at .before .before .before .before .before .before .before .before .args .g in
     let put = c .before .before .put-record in (
       omega arith,
       turn .inv .1,
@@ -54,12 +62,12 @@ loop-again c =
     )
 
 same-length : tie.Need-same-length Inv-loop μ-loop
-same-length c = c .before .loop .inv .2 ∙ sym (c .before .before .before .before .before .before .before .pre .2)
+same-length c = c .before .loop .inv .2 ∙ sym (c .before .before .before .before .before .before .before .before .before .pre .2)
 
 returns : tie.Need-returns Inv-loop μ-loop
 unfolding fileBytes
 returns c =
-    let g = c .before .before .before .before .before .before .before .args .g in
+    let g = c .before .before .before .before .before .before .before .before .before .args .g in
     let turn = c .before .loop in
     let e : turn .k ≡ g .m = omega arith in
     write-end (turn .out) _ (sizeOf (g .m)) (turn .inv .2) (rw e at (turn .inv .3))
@@ -70,6 +78,8 @@ put-all-spec =
     (tie.spec
     Inv-loop
     μ-loop
+    wide-requires
+    wide-requires-2
     put-header-requires
     loop-holds
     put-record-requires

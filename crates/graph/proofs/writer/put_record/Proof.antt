@@ -24,6 +24,9 @@ bits-requires c κs = search needs
 add-after : tie.Need-add-after
 add-after c = search needs
 
+wide-requires : tie.Need-wide-requires
+wide-requires c κs = search needs
+
 after-requires : tie.Need-after-requires
 after-requires c κs = search needs
 
@@ -78,7 +81,8 @@ returns c =
     let third = c .before .before in
     let second = third .before .before .before .before .before .before in
     let first = second .before .before .before .before .before .before .before .before in
-    let cost = first .before .before .before .before .before .before in
+    let size = first .before .before .before .before .before .before in
+    let cost = size .before in
     simp (
       third .put43 .ensures,
       second .put42 .ensures,
@@ -90,6 +94,7 @@ returns c =
       second .before .before .before .low2 .ensures,
       second .before .before .before .before .low .ensures,
       first .before .before .before .before .before .after .ensures,
+      size .wide .ensures .0,
       (rw (back32 _ (cost .before .bits-arg .given)) at (cost .bits .ensures .0)),
       add-four,
       add-eight,
@@ -105,6 +110,7 @@ put-record-spec =
     element-copy-out-bits
     bits-requires
     add-after
+    wide-requires
     after-requires
     element-copy-out-put4
     element-copy-out-put4-2

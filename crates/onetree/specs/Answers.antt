@@ -1,6 +1,6 @@
 -- What the tree call and the rule call answer, and what they leave in the lent list, for every input: refusals first, in document 01's
 -- order, then by the least 1-tree. The contracts cite these. Definitions only.
-use mathlib.Core.Bool.{cond, _&&_}
+use mathlib.Core.Bool.{not, cond, _&&_}
 use mathlib.Core.List.{List}
 use Prim.Native.Nat.{ℕ, zero, suc}
 use lib.Dec.{eqb, leb}
@@ -45,7 +45,10 @@ ruleMeaning (rule.Refused number place) = refused number place
 -- rulings and round m, ..); 12 a due out of range or d(1) not 0"; then what is left to test. 0 is no fault; len is the lent list's length
 unfoldable pub inputFault : Graph → List ℤ → ℕ → ℕ → ℕ
 inputFault g d len left =
-    cond (valid g) (cond (eqb (length d) (g .n) && eqb len (g .m)) (cond (multipliersFit d) left 12) 11) 15
+    cond (not (valid g)) 15
+    (cond (not (eqb (length d) (g .n) && eqb len (g .m))) 11
+    (cond (not (multipliersFit d)) 12
+    left))
 
 unfoldable pub treeFault : Graph → List ℤ → ℕ → ℕ
 unfolding inputFault
@@ -54,7 +57,7 @@ treeFault g d len = inputFault g d len 0
 -- "13 ceiling"
 unfoldable pub ruleFault : Graph → List ℤ → ℤ → ℕ → ℕ
 unfolding inputFault
-ruleFault g d ceiling len = inputFault g d len (cond (ceilingFits ceiling) 0 13)
+ruleFault g d ceiling len = inputFault g d len (cond (not (ceilingFits ceiling)) 13 0)
 
 -- a fault is refused, with place 0 ("otherwise 0"); without one the reply is r
 abbrev pub unlessFault : ℕ → Reply → Reply

@@ -7,7 +7,7 @@ use lib.ListN.{getD}
 use lib.IntN.{ℤ}
 use Rattle.integers.specs.Parts.{IsDiff}
 use Rattle.graph.specs.declared.Graph.{Graph}
-use Rattle.graph.specs.Limits.{maxCost, maxMultiplier}
+use Rattle.graph.specs.Limits.{maxVertices, maxEdges, maxCost, maxMultiplier, maxCeiling}
 use Rattle.graph.specs.Network.{network}
 use Rattle.onetree.specs.OneTree.{charge}
 use Rattle.onetree.specs.Inputs.{multiplier}
@@ -21,6 +21,17 @@ offset = maxCost + 2 * maxMultiplier + 1
 -- and this much at most, when it is moved up
 abbrev pub maxCharge : ℕ
 maxCharge = 2 * (maxCost + 2 * maxMultiplier) + 1
+
+-- how far above and below 0 a bound can be: it is a sum of charges, moved up, less maxCost + 1 and at most 4 × maxMultiplier for each vertex
+abbrev pub highBound : ℕ
+highBound = maxCharge * maxEdges
+
+abbrev pub lowBound : ℕ
+lowBound = (maxCost + 1 + 4 * maxMultiplier) * maxVertices
+
+-- and so how far below a ceiling
+abbrev pub maxSlack : ℕ
+maxSlack = maxCeiling + lowBound
 
 -- x is the charge of edge k + 1
 pub record ChargeAt (g : Graph) (d : List ℤ) (k x : ℕ) : Type 0 where

@@ -13,7 +13,7 @@ use Rattle.lists.specs.Select.{select}
 use Rattle.lists.specs.Numbers.{upTo}
 use Rattle.lists.specs.Weights.{weight}
 use Rattle.integers.specs.Parts.{IsDiff, up, dn, add-parts, diff-one, diff-add}
-use Rattle.integers.specs.Range.{InRange}
+use Rattle.integers.specs.Range.{InRange, within-range}
 use Rattle.integers.specs.Sums.{sumZ, twice}
 use Rattle.graph.specs.declared.Graph.{Graph}
 use Rattle.graph.specs.Limits.{maxCost, maxMultiplier}
@@ -65,7 +65,7 @@ pub chargeable : (g : Graph) (n : ℕ) → value.Valid g → n ≡ g .n
     → (k : ℕ) → k < g .m → Chargeable n (getD (g .a) k 0) (getD (g .b) k 0) (getD (g .cost) k (pos 0))
 chargeable g n v e k h =
     let x = v .each k h in
-    (x .from, omega (arith, x .less, x .to), omega (arith, x .from, x .less), omega (arith, x .to), x .range)
+    (x .from, omega (arith, x .less, x .to), omega (arith, x .from, x .less), omega (arith, x .to), within-range maxCost _ (x .range))
 
 -- ---- the sum of the multipliers
 

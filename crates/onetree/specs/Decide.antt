@@ -12,13 +12,13 @@ use lib.Signed.{ltZ, _<ℤ_}
 use borrow.Author.Tests.{eqb-true, eq-eqb, not-true}
 use Rattle.lists.specs.Bools.{and-both, T-true, true-T}
 use Rattle.lists.specs.Members.{_∈_}
-use Rattle.lists.specs.All.{all, all-in, in-all}
+use Rattle.lists.specs.All.{everyOf, everyOf-in, in-everyOf}
 use Rattle.lists.specs.Select.{select-in, in-select}
 use Rattle.lists.specs.Numbers.{upTo}
 use Rattle.graph.specs.Network.{Network, Mark, free, required, excluded}
 use Rattle.spanning.specs.Walks.{label, label-walk}
 use Rattle.onetree.specs.OneTree.{Edges, OneTree, Barred, Forced, others, away, atOne, bound}
-use Rattle.onetree.specs.Enumeration.{sets, marked, alike, isOneTree, oneTrees, barredB, forcedB}
+use Rattle.onetree.specs.Enumeration.{edgeSets, marked, alike, isOneTree, oneTrees, barredB, forcedB}
 use Rattle.onetree.specs.Agree.{Agree, tree-agree, bound-agree}
 use Rattle.onetree.specs.Subsets.{covers}
 
@@ -41,18 +41,18 @@ alike-same L (w ∷ vs) h u v i j = to u i ∙ sym (to v j)
   where
     to : (x : ℕ) → (x ≡ w) ⊎ (x ∈ vs) → L x ≡ L w
     to x (inl e) = ap L e
-    to x (inr m) = eqb-true (L x) (L w) (all-in (λ y. eqb (L y) (L w)) vs h x m)
+    to x (inr m) = eqb-true (L x) (L w) (everyOf-in (λ y. eqb (L y) (L w)) vs h x m)
 
 same-alike : (L : ℕ → ℕ) (vs : List ℕ) → ((u v : ℕ) → u ∈ vs → v ∈ vs → L u ≡ L v) → alike L vs ≡ true
 unfolding alike
 same-alike L [] h = refl
-same-alike L (w ∷ vs) h = in-all (λ y. eqb (L y) (L w)) vs (λ u m. eq-eqb (L u) (L w) (h u w (inr m) (inl refl)))
+same-alike L (w ∷ vs) h = in-everyOf (λ y. eqb (L y) (L w)) vs (λ u m. eq-eqb (L u) (L w) (h u w (inr m) (inl refl)))
 
 -- what the four parts of the test say
 record Passes (g : Network) (t : Edges) : Type 0 where
   two : eqb (length (atOne g t)) 2 ≡ true
   rest : eqb (2 + length (away g t)) (g .n) ≡ true
-  marks : all (λ k. marked (g .mark k) (t k)) (upTo (g .m)) ≡ true
+  marks : everyOf (λ k. marked (g .mark k) (t k)) (upTo (g .m)) ≡ true
   one : alike (label (g .a) (g .b) (away g t)) (others g) ≡ true
 
 module _ (g : Network) (t : Edges) where
@@ -60,7 +60,7 @@ module _ (g : Network) (t : Edges) where
   unfolding isOneTree
   passes h =
       let x = and-both _ (alike (label (g .a) (g .b) (away g t)) (others g)) h in
-      let y = and-both _ (all (λ k. marked (g .mark k) (t k)) (upTo (g .m))) (x .0) in
+      let y = and-both _ (everyOf (λ k. marked (g .mark k) (t k)) (upTo (g .m))) (x .0) in
       let z = and-both (eqb (length (atOne g t)) 2) (eqb (2 + length (away g t)) (g .n)) (y .0) in
       record { two = z .0; rest = z .1; marks = y .1; one = x .1 }
 
@@ -74,7 +74,7 @@ module _ (g : Network) (t : Edges) where
   }
     where
       mark : (k : ℕ) → k ∈ upTo (g .m) → marked (g .mark k) (t k) ≡ true
-      mark k m = all-in (λ j. marked (g .mark j) (t j)) (upTo (g .m)) (passes h .marks) k m
+      mark k m = everyOf-in (λ j. marked (g .mark j) (t j)) (upTo (g .m)) (passes h .marks) k m
 
   pub tree-test : OneTree g t → isOneTree g t ≡ true
   unfolding isOneTree
@@ -82,7 +82,7 @@ module _ (g : Network) (t : Edges) where
       rw (
         eq-eqb (length (atOne g t)) 2 (o .two),
         eq-eqb (2 + length (away g t)) (g .n) (o .rest),
-        in-all (λ k. marked (g .mark k) (t k)) (upTo (g .m)) (λ k m. is-marked (g .mark k) (t k) (o .keeps k m) (o .avoids k m)),
+        in-everyOf (λ k. marked (g .mark k) (t k)) (upTo (g .m)) (λ k m. is-marked (g .mark k) (t k) (o .keeps k m) (o .avoids k m)),
       )
       (same-alike (label (g .a) (g .b) (away g t)) (others g) one)
     where
@@ -98,34 +98,34 @@ or-is false y = ((λ h e. h), λ h. h refl)
 module _ (g : Network) where
   pub is-tree : (t : Edges) → t ∈ oneTrees g → OneTree g t
   unfolding oneTrees
-  is-tree t m = test-tree g t (select-in (isOneTree g) (sets (g .m)) t m .1)
+  is-tree t m = test-tree g t (select-in (isOneTree g) (edgeSets (g .m)) t m .1)
 
   -- each 1-tree is listed, as far as the edges go
   pub listed : (t : Edges) → OneTree g t → (s : Edges) × (s ∈ oneTrees g) × Agree (g .m) s t
   unfolding oneTrees
   listed t o =
       let r = covers (g .m) t in
-      (r .0, in-select (isOneTree g) (sets (g .m)) (r .0) (r .1) (tree-test g (r .0) (tree-agree g (r .0) t (r .2) o)), r .2)
+      (r .0, in-select (isOneTree g) (edgeSets (g .m)) (r .0) (r .1) (tree-test g (r .0) (tree-agree g (r .0) t (r .2) o)), r .2)
 
   -- a test that reads only the edges passes at all 1-trees exactly when it passes at the listed ones
   pub every : (f : Edges → Bool) → ((s t : Edges) → Agree (g .m) s t → f s ≡ f t)
-      → all f (oneTrees g) ≡ true ↔ ((t : Edges) → OneTree g t → f t ≡ true)
-  every f agree = ((λ h t o. at h t (listed t o)), λ h. in-all f (oneTrees g) (λ t m. h t (is-tree t m)))
+      → everyOf f (oneTrees g) ≡ true ↔ ((t : Edges) → OneTree g t → f t ≡ true)
+  every f agree = ((λ h t o. at h t (listed t o)), λ h. in-everyOf f (oneTrees g) (λ t m. h t (is-tree t m)))
     where
-      at : all f (oneTrees g) ≡ true → (t : Edges) → (s : Edges) × (s ∈ oneTrees g) × Agree (g .m) s t → f t ≡ true
-      at h t r = sym (agree (r .0) t (r .2)) ∙ all-in f (oneTrees g) h (r .0) (r .1)
+      at : everyOf f (oneTrees g) ≡ true → (t : Edges) → (s : Edges) × (s ∈ oneTrees g) × Agree (g .m) s t → f t ≡ true
+      at h t r = sym (agree (r .0) t (r .2)) ∙ everyOf-in f (oneTrees g) h (r .0) (r .1)
 
   module _ (d : ℕ → ℤ) (ceiling : ℤ) where
     -- all 1-trees outside of h are above the ceiling
     above : (h : Edges → Bool) → ((s t : Edges) → Agree (g .m) s t → h s ≡ h t)
-        → all (λ t. h t || ltZ ceiling (bound g d t)) (oneTrees g) ≡ true
+        → everyOf (λ t. h t || ltZ ceiling (bound g d t)) (oneTrees g) ≡ true
         ↔ ((t : Edges) → OneTree g t → h t ≡ false → ceiling <ℤ bound g d t)
     above h agree = (
       (λ p t o e. record { lt = true-T _ (or-is (h t) _ .0 (all-above .0 p t o) e) }),
       λ p. all-above .1 (λ t o. or-is (h t) _ .1 (λ e. T-true _ (p t o e .lt))),
     )
       where
-        all-above : all (λ t. h t || ltZ ceiling (bound g d t)) (oneTrees g) ≡ true
+        all-above : everyOf (λ t. h t || ltZ ceiling (bound g d t)) (oneTrees g) ≡ true
             ↔ ((t : Edges) → OneTree g t → h t || ltZ ceiling (bound g d t) ≡ true)
         all-above = every (λ t. h t || ltZ ceiling (bound g d t)) (λ s t i. rw (agree s t i, bound-agree g s t i d))
 

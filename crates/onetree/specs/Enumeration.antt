@@ -7,7 +7,7 @@ use lib.Dec.{eqb}
 use lib.ListN.{length}
 use lib.IntN.{ℤ}
 use lib.Signed.{ltZ}
-use Rattle.lists.specs.All.{all}
+use Rattle.lists.specs.All.{everyOf}
 use Rattle.lists.specs.Select.{select}
 use Rattle.lists.specs.Numbers.{upTo}
 use Rattle.lists.specs.Sets.{_⊕_}
@@ -16,10 +16,10 @@ use Rattle.spanning.specs.Walks.{label, relabel}
 use Rattle.onetree.specs.OneTree.{Edges, others, atOne, away, bound}
 
 -- all sets of edges among 1 to m, in the order of `lacksFirst`
-unfoldable pub sets : ℕ → List Edges
+unfoldable pub edgeSets : ℕ → List Edges
 unfolding _⊕_
-sets zero = (λ k. false) ∷ []
-sets (suc m) = let r = sets m in r ++ map (λ t. t ⊕ suc m) r
+edgeSets zero = (λ k. false) ∷ []
+edgeSets (suc m) = let r = edgeSets m in r ++ map (λ t. t ⊕ suc m) r
 
 -- ---- 1-trees
 
@@ -31,21 +31,21 @@ marked excluded x = not x
 
 -- the listed vertices have one label
 unfoldable pub alike : (ℕ → ℕ) → List ℕ → Bool
-unfolding all
+unfolding everyOf
 alike L [] = true
-alike L (v ∷ vs) = all (λ u. eqb (L u) (L v)) vs
+alike L (v ∷ vs) = everyOf (λ u. eqb (L u) (L v)) vs
 
 unfoldable pub isOneTree : Network → Edges → Bool
-unfolding atOne away others upTo label all relabel alike
+unfolding atOne away others upTo label everyOf relabel alike
 isOneTree g t =
     eqb (length (atOne g t)) 2
     && eqb (2 + length (away g t)) (g .n)
-    && all (λ k. marked (g .mark k) (t k)) (upTo (g .m))
+    && everyOf (λ k. marked (g .mark k) (t k)) (upTo (g .m))
     && alike (label (g .a) (g .b) (away g t)) (others g)
 
 unfoldable pub oneTrees : Network → List Edges
-unfolding sets isOneTree select
-oneTrees g = select (isOneTree g) (sets (g .m))
+unfolding edgeSets isOneTree select
+oneTrees g = select (isOneTree g) (edgeSets (g .m))
 
 -- ---- the least
 
@@ -73,12 +73,12 @@ leastTree g d = leastOf g d (oneTrees g)
 -- ---- rulings
 
 unfoldable pub barredB : Network → (ℕ → ℤ) → ℤ → ℕ → Bool
-unfolding oneTrees all bound
-barredB g d ceiling e = all (λ t. not (t e) || ltZ ceiling (bound g d t)) (oneTrees g)
+unfolding oneTrees everyOf bound
+barredB g d ceiling e = everyOf (λ t. not (t e) || ltZ ceiling (bound g d t)) (oneTrees g)
 
 unfoldable pub forcedB : Network → (ℕ → ℤ) → ℤ → ℕ → Bool
-unfolding oneTrees all bound
-forcedB g d ceiling e = all (λ t. t e || ltZ ceiling (bound g d t)) (oneTrees g)
+unfolding oneTrees everyOf bound
+forcedB g d ceiling e = everyOf (λ t. t e || ltZ ceiling (bound g d t)) (oneTrees g)
 
 -- "one ruling per leg: 0 keep, 1 force, 2 bar, 3 already required, 4 already struck"
 pub data Ruling : Type 0 where

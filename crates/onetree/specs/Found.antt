@@ -13,14 +13,7 @@ use Rattle.graph.specs.Network.{network}
 use Rattle.onetree.specs.OneTree.{Edges, OneTree, Least, bound}
 use Rattle.onetree.specs.Inputs.{multiplier}
 use Rattle.onetree.specs.Arrays.{bytes}
-use Rattle.onetree.specs.Charged.{Charged}
-
--- how far above and below 0 a bound can be
-abbrev pub highBound : ℕ
-highBound = 2000000000
-
-abbrev pub lowBound : ℕ
-lowBound = 200000000
+use Rattle.onetree.specs.Charged.{highBound, lowBound, Charged}
 
 -- any says whether there is a 1-tree; if so w is the least and b its bound. c are the charges
 pub record FoundIs (g : Graph) (d : List ℤ) (any : Bool) (b : ℤ) (w c : List ℕ) : Type 0 where

@@ -4,7 +4,7 @@ use mathlib.Core.List.{List, _∷_}
 use Prim.Native.Nat.{ℕ}
 use lib.ListN.{getD}
 use lib.IntN.{ℤ, pos}
-use Rattle.lists.specs.All.{all}
+use Rattle.lists.specs.All.{everyOf}
 use Rattle.integers.specs.Range.{within}
 use Rattle.graph.specs.Limits.{maxMultiplier, maxCeiling}
 
@@ -14,8 +14,8 @@ multiplier d v = getD (pos 0 ∷ d) v (pos 0)
 
 -- "whole numbers, −1,000,000 to 1,000,000, with d(1) = 0"; otherwise "12 a due out of range or d(1) not 0"
 unfoldable pub multipliersFit : List ℤ → Bool
-unfolding all within multiplier
-multipliersFit d = all (within maxMultiplier) d && within 0 (multiplier d 1)
+unfolding everyOf within multiplier
+multipliersFit d = everyOf (within maxMultiplier) d && within 0 (multiplier d 1)
 
 -- "a ceiling (−50,000,000 to 50,000,000)"; otherwise "13 ceiling"
 unfoldable pub ceilingFits : ℤ → Bool

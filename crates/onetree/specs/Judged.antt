@@ -17,18 +17,16 @@ use Rattle.onetree.specs.Enumeration.{Tree, noTree, aTree, leastTree, ru
 use Rattle.onetree.specs.LeastTree.{tree-found, tree-missing}
 use Rattle.onetree.specs.Answers.{rulingByte, blank}
 use Rattle.onetree.specs.Arrays.{bytes, in-edge}
+use Rattle.onetree.specs.Charged.{highBound, lowBound, maxSlack}
 use Rattle.onetree.specs.Found.{FoundIs}
 use Rattle.onetree.specs.TreeCall.{byte-is}
 use Rattle.onetree.specs.Slack.{SlackIs}
 use Rattle.onetree.specs.Ruled.{RuledBy}
 
--- a bound of a 1-tree, from 20 charges and the multipliers, and so the slack below a ceiling
-abbrev pub maxSlack : ℕ
-maxSlack = 1000000000
-
+-- what the code knows of the bound of any 1-tree
 pub record BoundFits (b : ℤ) : Type 0 where
-  pub high : up b ≤ 2000000000
-  pub low : dn b ≤ 200000000
+  pub high : up b ≤ highBound
+  pub low : dn b ≤ lowBound
 
 -- no 1-tree is within the ceiling: there is none, or the least one is above it
 abbrev pub Over : ℤ → Tree → Type 0

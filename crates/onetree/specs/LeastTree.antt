@@ -11,9 +11,9 @@ use Rattle.lists.specs.Members.{_∈_}
 use Rattle.integers.specs.Order.{le-trans, lt-le, le-lt-clash, test-lt, test-not-lt}
 use Rattle.graph.specs.Network.{Network}
 use Rattle.onetree.specs.OneTree.{Edges, OneTree, Least, Infeasible, bound, lacksFirst, unless}
-use Rattle.onetree.specs.Enumeration.{sets, isOneTree, oneTrees, minFrom, Tree, noTree, aTree, leastOf, leastTree}
+use Rattle.onetree.specs.Enumeration.{edgeSets, isOneTree, oneTrees, minFrom, Tree, noTree, aTree, leastOf, leastTree}
 use Rattle.onetree.specs.Agree.{Agree, bound-agree, lacks-agree, least-unique}
-use Rattle.onetree.specs.Subsets.{Sorted, sorted-select, sorted-sets}
+use Rattle.onetree.specs.Subsets.{Sorted, sorted-select, sorted-edgeSets}
 use Rattle.onetree.specs.Decide.{listed, is-tree}
 
 lacks-self : (m : ℕ) (t : Edges) → lacksFirst m t t ≡ false
@@ -95,7 +95,7 @@ module _ (g : Network) (d : ℕ → ℤ) where
       r = minFrom g d t ts
 
       order : Sorted (g .m) (t ∷ ts)
-      order = rw e at (sorted-select (g .m) (isOneTree g) (sets (g .m)) (sorted-sets (g .m)))
+      order = rw e at (sorted-select (g .m) (isOneTree g) (edgeSets (g .m)) (sorted-edgeSets (g .m)))
 
       before : (s : Edges) → s ∈ oneTrees g → Before (minFrom g d t ts) s
       before s i = min-before t ts (order .0) (order .1) s (pick (rw e at i))

@@ -7,7 +7,7 @@ use native.Mathlib.Omega.{arith}
 use lib.ListN.{length, getD}
 use lib.IntN.{ℤ, pos}
 use Rattle.lists.specs.Bools.{and-both, and-no-right, by-cases}
-use Rattle.lists.specs.All.{all}
+use Rattle.lists.specs.All.{everyOf}
 use Rattle.integers.specs.Parts.{eq-of-parts}
 use Rattle.integers.specs.Range.{within, InRange, within-range, range-within}
 use Rattle.graph.specs.Limits.{maxMultiplier}
@@ -17,19 +17,19 @@ use Rattle.onetree.specs.Inputs.{multiplier, multipliersFit}
 abbrev pub Ranged : List ℤ → Type 0
 Ranged d = (k : ℕ) → k < length d → InRange maxMultiplier (getD d k (pos 0))
 
-all-ranged : (d : List ℤ) → all (within maxMultiplier) d ≡ true → Ranged d
-unfolding all
+all-ranged : (d : List ℤ) → everyOf (within maxMultiplier) d ≡ true → Ranged d
+unfolding everyOf
 all-ranged [] h k l = absurd (let z : suc k ≤ 0 = l in omega arith)
-all-ranged (z ∷ d) h zero l = within-range maxMultiplier z (and-both (within maxMultiplier z) (all (within maxMultiplier) d) h .0)
+all-ranged (z ∷ d) h zero l = within-range maxMultiplier z (and-both (within maxMultiplier z) (everyOf (within maxMultiplier) d) h .0)
 all-ranged (z ∷ d) h (suc k) l =
-    all-ranged d (and-both (within maxMultiplier z) (all (within maxMultiplier) d) h .1) k (omega arith)
+    all-ranged d (and-both (within maxMultiplier z) (everyOf (within maxMultiplier) d) h .1) k (omega arith)
 
 pub fit-ranged : (d : List ℤ) → multipliersFit d ≡ true → Ranged d
 unfolding multipliersFit
-fit-ranged d h = all-ranged d (and-both (all (within maxMultiplier) d) (within 0 (multiplier d 1)) h .0)
+fit-ranged d h = all-ranged d (and-both (everyOf (within maxMultiplier) d) (within 0 (multiplier d 1)) h .0)
 
-ranged-all : (d : List ℤ) → Ranged d → all (within maxMultiplier) d ≡ true
-unfolding all
+ranged-all : (d : List ℤ) → Ranged d → everyOf (within maxMultiplier) d ≡ true
+unfolding everyOf
 ranged-all [] r = refl
 ranged-all (z ∷ d) r = rw (range-within maxMultiplier z (r 0 (omega arith)), ranged-all d (λ k h. r (suc k) (omega arith)))
 
@@ -42,14 +42,14 @@ unfolding multipliersFit
 ranged-fit d r e = rw (ranged-all d r, e) (range-within 0 (pos 0) (record { high = omega arith; low = omega arith }))
 
 pub empty-fit : (d : List ℤ) → length d ≡ 0 → multipliersFit d ≡ true
-unfolding multipliersFit multiplier all within
+unfolding multipliersFit multiplier everyOf within
 empty-fit [] h = refl
 empty-fit (z ∷ d) h = absurd (let w : suc 0 ≤ 0 = omega arith in omega arith)
 
 pub first-wrong : (d : List ℤ) → ¬ (multiplier d 1 ≡ pos 0) → multipliersFit d ≡ false
 unfolding multipliersFit
 first-wrong d n =
-    and-no-right (all (within maxMultiplier) d) (within 0 (multiplier d 1))
+    and-no-right (everyOf (within maxMultiplier) d) (within 0 (multiplier d 1))
     (by-cases (within 0 (multiplier d 1)) (λ t. absurd (n (zero-range (multiplier d 1) (within-range 0 (multiplier d 1) t)))) (λ t. t))
 
 pub not-ranged : (d : List ℤ) (k : ℕ) → k < length d → within maxMultiplier (getD d k (pos 0)) ≡ false → multipliersFit d ≡ false

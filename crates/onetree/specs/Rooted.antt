@@ -12,7 +12,7 @@ use borrow.Author.Tests.{ne-eqb}
 use Rattle.lists.specs.Bools.{bit, by-cases}
 use Rattle.lists.specs.Members.{_∈_}
 use Rattle.lists.specs.Select.{select, select-in, in-select}
-use Rattle.lists.specs.Sets.{Set, _⊖_, minus-is, minus-other}
+use Rattle.lists.specs.Sets.{NumberSet, _⊖_, minus-is, minus-other}
 use Rattle.graph.specs.Network.{Network}
 use Rattle.spanning.specs.Walks.{label, Walk, stay, along, walk-trans, walk-sym, walk-mono, walk-respects, label-walk}
 use Rattle.spanning.specs.Forests.{Forest}
@@ -33,7 +33,7 @@ abbrev pub Tied : Network → ℕ → ℕ → Type 0
 Tied G x y = Walk (G .a) (G .b) (select (needed G) (far G)) x y
 
 -- the labels of 2 .. n hang, and the edges above them are free far edges of the set
-pub record Rooted (G : Network) (s : Set) (rep : ℕ → ℕ) (t : Shape) (edge : ℕ → ℕ) : Type 0 where
+pub record Rooted (G : Network) (s : NumberSet) (rep : ℕ → ℕ) (t : Shape) (edge : ℕ → ℕ) : Type 0 where
   pub hangs : Hangs t
   pub whole : (v : ℕ) → Other G v → Vertex t (rep v)
   pub only : (v : ℕ) → 1 ≤ t .depth v → v ≤ G .n
@@ -68,15 +68,15 @@ one-vertex p q t edge u v du dv eu ev e = go eu ev
     go (inr f) (inl g) = crossed (sym (f .1) ∙ b-is ∙ g .1) (sym (g .0) ∙ sym a-is ∙ f .0)
 
 -- the far edges of s but e
-abbrev pub without : Network → Set → ℕ → List ℕ
+abbrev pub without : Network → NumberSet → ℕ → List ℕ
 without G s e = select (s ⊖ e) (far G)
 
 -- a walk along them
-abbrev pub Trip : Network → Set → ℕ → ℕ → ℕ → Type 0
+abbrev pub Trip : Network → NumberSet → ℕ → ℕ → ℕ → Type 0
 Trip G s e x y = Walk (G .a) (G .b) (without G s e) x y
 
 -- required edges are among them, where e is free
-pub tied-trip : (G : Network) (s : Set) → ((k : ℕ) → k ∈ far G → needed G k ≡ true → s k ≡ true)
+pub tied-trip : (G : Network) (s : NumberSet) → ((k : ℕ) → k ∈ far G → needed G k ≡ true → s k ≡ true)
     → (e : ℕ) → needed G e ≡ false → {x y : ℕ} → Tied G x y → Trip G s e x y
 tied-trip G s keeps e free w = walk-mono (G .a) (G .b) kept w
   where
@@ -93,7 +93,7 @@ bit-one false false e = refl
 bit-one true false e = absurd (let z : _≡_ {A = ℕ} 1 0 = e in omega arith)
 bit-one false true e = absurd (let z : _≡_ {A = ℕ} 0 1 = e in omega arith)
 
-module _ (G : Network) (s : Set) (rep : ℕ → ℕ) (t : Shape) (edge : ℕ → ℕ) (r : Rooted G s rep t edge) where
+module _ (G : Network) (s : NumberSet) (rep : ℕ → ℕ) (t : Shape) (edge : ℕ → ℕ) (r : Rooted G s rep t edge) where
   deep : (x : ℕ) → Child t x → t .depth x ≡ suc (t .depth (t .parent x))
   deep = r .hangs .deep
 

@@ -1,7 +1,7 @@
 -- From what code knows to what the rule call and the combined pass promise: their replies and lists in each case. Assumes nothing.
 use mathlib.Core.Path.{_≡_, refl, _∙_, sym}
 use mathlib.Core.Logic.{_≢_}
-use mathlib.Core.Bool.{Bool, true, false, cond}
+use mathlib.Core.Bool.{not, cond}
 use mathlib.Core.List.{List}
 use Prim.Native.Nat.{ℕ, suc, _<_, _≤_}
 use native.Mathlib.Omega.{arith}
@@ -37,20 +37,15 @@ use Rattle.onetree.specs.Answers.{
   passRulings,
 }
 use Rattle.onetree.specs.Arrays.{entry}
-use Rattle.onetree.specs.TreeCall.{Accepted, no-fault, fault-replies, fault-leaves}
+use Rattle.onetree.specs.TreeCall.{Accepted, passed, no-fault, fault-replies, fault-leaves}
 use Rattle.onetree.specs.Judged.{Over, Within}
-
--- no number but 0 is left of the ceiling's test only where it passed
-ceiling-passed : (t : Bool) → _≡_ {A = ℕ} (cond t 0 13) 0 → t ≡ true
-ceiling-passed true e = refl
-ceiling-passed false e = absurd (let z : _≡_ {A = ℕ} 13 0 = e in omega arith)
 
 pub rule-no-fault : (g : Graph) (d : List ℤ) (ceiling : ℤ) (len : ℕ) → ruleFault g d ceiling len ≡ 0
     → Accepted g d len × InRange maxCeiling ceiling
 unfolding ruleFault ceilingFits
 rule-no-fault g d ceiling len h =
-    let p = no-fault g d len (cond (ceilingFits ceiling) 0 13) h in
-    (p .0, within-range maxCeiling ceiling (ceiling-passed (within maxCeiling ceiling) (p .1)))
+    let p = no-fault g d len (cond (not (ceilingFits ceiling)) 13 0) h in
+    (p .0, within-range maxCeiling ceiling (passed (within maxCeiling ceiling) 13 0 (omega arith) (p .1) .0))
 
 -- ---- no 1-tree is within the ceiling
 

@@ -11,49 +11,49 @@ use Rattle.lists.specs.Select.{keep, select, select-in}
 use Rattle.lists.specs.Numbers.{upTo, in-upTo}
 use Rattle.lists.specs.Sets.{_⊕_, plus-self, plus-other}
 use Rattle.onetree.specs.OneTree.{Edges, lacksFirst}
-use Rattle.onetree.specs.Enumeration.{sets}
+use Rattle.onetree.specs.Enumeration.{edgeSets}
 use Rattle.onetree.specs.Agree.{Agree}
 
 -- one of the sets up to m with m + 1 added
 Added : ℕ → Edges → Type 0
-Added m t = (s : Edges) × (s ∈ sets m) × (t ≡ s ⊕ suc m)
+Added m t = (s : Edges) × (s ∈ edgeSets m) × (t ≡ s ⊕ suc m)
 
-sets-in : (m : ℕ) (t : Edges) → t ∈ sets (suc m) → (t ∈ sets m) ⊎ Added m t
-unfolding sets Added
-sets-in m t i = go (in-either t (sets m) (map (λ (s : Edges). s ⊕ suc m) (sets m)) i)
+edgeSets-in : (m : ℕ) (t : Edges) → t ∈ edgeSets (suc m) → (t ∈ edgeSets m) ⊎ Added m t
+unfolding edgeSets Added
+edgeSets-in m t i = go (in-either t (edgeSets m) (map (λ (s : Edges). s ⊕ suc m) (edgeSets m)) i)
   where
-    go : (t ∈ sets m) ⊎ (t ∈ map (λ (s : Edges). s ⊕ suc m) (sets m)) → (t ∈ sets m) ⊎ ((s : Edges) × (s ∈ sets m) × (t ≡ s ⊕ suc m))
+    go : (t ∈ edgeSets m) ⊎ (t ∈ map (λ (s : Edges). s ⊕ suc m) (edgeSets m)) → (t ∈ edgeSets m) ⊎ ((s : Edges) × (s ∈ edgeSets m) × (t ≡ s ⊕ suc m))
     go (inl j) = inl j
-    go (inr j) = inr (of-map {B = Edges} (λ (s : Edges). s ⊕ suc m) t (sets m) j)
+    go (inr j) = inr (of-map {B = Edges} (λ (s : Edges). s ⊕ suc m) t (edgeSets m) j)
 
 -- none has an edge past m
-beyond : (m : ℕ) (t : Edges) → t ∈ sets m → (k : ℕ) → m < k → t k ≡ false
-beyond zero t i k h = go (unfold sets in i)
+beyond : (m : ℕ) (t : Edges) → t ∈ edgeSets m → (k : ℕ) → m < k → t k ≡ false
+beyond zero t i k h = go (unfold edgeSets in i)
   where
     go : (t ≡ (λ j. false)) ⊎ ⊥ → t k ≡ false
     go (inl e) = ap (λ (s : Edges). s k) e
-beyond (suc m) t i k h = go (sets-in m t i) (λ s j. beyond m s j k (omega arith))
+beyond (suc m) t i k h = go (edgeSets-in m t i) (λ s j. beyond m s j k (omega arith))
   where
-    go : (t ∈ sets m) ⊎ Added m t → ((s : Edges) → s ∈ sets m → s k ≡ false) → t k ≡ false
+    go : (t ∈ edgeSets m) ⊎ Added m t → ((s : Edges) → s ∈ edgeSets m → s k ≡ false) → t k ≡ false
     go (inl j) below = below t j
     go (inr r) below =
         unfold Added in (ap (λ (s : Edges). s k) (r .2) ∙ plus-other (r .0) (suc m) k (omega arith) ∙ below (r .0) (r .1))
 
 -- EVERY SET IS LISTED, as far as the edges go
-pub covers : (m : ℕ) (t : Edges) → (s : Edges) × (s ∈ sets m) × Agree m s t
-unfolding sets upTo
+pub covers : (m : ℕ) (t : Edges) → (s : Edges) × (s ∈ edgeSets m) × Agree m s t
+unfolding edgeSets upTo
 covers zero t = ((λ k. false), inl refl, λ k i. absurd i)
 covers (suc m) t = go (covers m t)
   where
-    go : (s : Edges) × (s ∈ sets m) × Agree m s t
-        → (s : Edges) × (s ∈ (sets m ++ map (λ (r : Edges). r ⊕ suc m) (sets m))) × Agree (suc m) s t
+    go : (s : Edges) × (s ∈ edgeSets m) × Agree m s t
+        → (s : Edges) × (s ∈ (edgeSets m ++ map (λ (r : Edges). r ⊕ suc m) (edgeSets m))) × Agree (suc m) s t
     go r =
         by-cases (t (suc m))
-        (λ h. (r .0 ⊕ suc m, in-right _ (sets m) _ added, λ k i. with k h i))
-        (λ h. (r .0, in-left (r .0) (sets m) _ (r .1), λ k i. without k h i))
+        (λ h. (r .0 ⊕ suc m, in-right _ (edgeSets m) _ added, λ k i. with k h i))
+        (λ h. (r .0, in-left (r .0) (edgeSets m) _ (r .1), λ k i. without k h i))
       where
-        added : (r .0 ⊕ suc m) ∈ map (λ (s : Edges). s ⊕ suc m) (sets m)
-        added = in-map {B = Edges} (λ (s : Edges). s ⊕ suc m) (r .0) (sets m) (r .1)
+        added : (r .0 ⊕ suc m) ∈ map (λ (s : Edges). s ⊕ suc m) (edgeSets m)
+        added = in-map {B = Edges} (λ (s : Edges). s ⊕ suc m) (r .0) (edgeSets m) (r .1)
 
         with : (k : ℕ) → t (suc m) ≡ true → (k ≡ suc m) ⊎ (k ∈ upTo m) → (r .0 ⊕ suc m) k ≡ t k
         with k h (inl e) = rw e (plus-self (r .0) (suc m) ∙ sym h)
@@ -111,14 +111,14 @@ sorted-plus m (x ∷ xs) s = ((λ y i. go y (of-map {B = Edges} (λ (r : Edges).
     go y r =
         rw (r .2, plus-self (r .0) (suc m), plus-self x (suc m), lacks-plus (suc m) m (r .0) x (omega arith)) (s .0 (r .0) (r .1))
 
-pub sorted-sets : (m : ℕ) → Sorted m (sets m)
-unfolding sets lacksFirst
-sorted-sets zero = ((λ y i. absurd i), tt)
-sorted-sets (suc m) =
-    sorted-append (suc m) (sets m) (map (λ (s : Edges). s ⊕ suc m) (sets m))
-    (sorted-low m (sets m) (λ x i. beyond m x i (suc m) (omega arith)) (sorted-sets m))
-    (sorted-plus m (sets m) (sorted-sets m))
-    (λ x y i j. cross x y i (of-map {B = Edges} (λ (s : Edges). s ⊕ suc m) y (sets m) j))
+pub sorted-edgeSets : (m : ℕ) → Sorted m (edgeSets m)
+unfolding edgeSets lacksFirst
+sorted-edgeSets zero = ((λ y i. absurd i), tt)
+sorted-edgeSets (suc m) =
+    sorted-append (suc m) (edgeSets m) (map (λ (s : Edges). s ⊕ suc m) (edgeSets m))
+    (sorted-low m (edgeSets m) (λ x i. beyond m x i (suc m) (omega arith)) (sorted-edgeSets m))
+    (sorted-plus m (edgeSets m) (sorted-edgeSets m))
+    (λ x y i j. cross x y i (of-map {B = Edges} (λ (s : Edges). s ⊕ suc m) y (edgeSets m) j))
   where
-    cross : (x y : Edges) → x ∈ sets m → (z : Edges) × (z ∈ sets m) × (y ≡ z ⊕ suc m) → lacksFirst (suc m) y x ≡ false
+    cross : (x y : Edges) → x ∈ edgeSets m → (z : Edges) × (z ∈ edgeSets m) × (y ≡ z ⊕ suc m) → lacksFirst (suc m) y x ≡ false
     cross x y i r = rw (r .2, plus-self (r .0) (suc m), beyond m x i (suc m) (omega arith))

@@ -2,7 +2,7 @@
 -- Assumes nothing.
 use mathlib.Core.Path.{_≡_, refl, _∙_, sym, ap}
 use mathlib.Core.Logic.{_≢_, _⊎_, inl, inr}
-use mathlib.Core.Bool.{Bool, true, false, cond, _&&_}
+use mathlib.Core.Bool.{Bool, true, false, not, cond, _&&_}
 use mathlib.Core.List.{List}
 use Prim.Native.Nat.{ℕ, zero, suc, _<_}
 use native.Mathlib.Omega.{arith}
@@ -48,7 +48,7 @@ pub record Accepted (g : Graph) (d : List ℤ) (len : ℕ) : Type 0 where
   pub ranged : Ranged d
 
 -- a test passed, or its number was the fault
-passed : (t : Bool) (e x : ℕ) → e ≢ 0 → cond t x e ≡ 0 → (t ≡ true) × (x ≡ 0)
+pub passed : (t : Bool) (e x : ℕ) → e ≢ 0 → cond (not t) e x ≡ 0 → (t ≡ true) × (x ≡ 0)
 passed true e x n h = (refl, h)
 passed false e x n h = absurd (n h)
 

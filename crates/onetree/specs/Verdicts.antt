@@ -24,7 +24,7 @@ use Rattle.onetree.specs.Criteria.{MaySwap}
 use Rattle.onetree.specs.Inputs.{multiplier}
 use Rattle.onetree.specs.Answers.{rulingByte}
 use Rattle.onetree.specs.Arrays.{entry, bytes, edge-of, of-edge, mark-free, network-valid}
-use Rattle.onetree.specs.Charged.{Charged, offset, offs}
+use Rattle.onetree.specs.Charged.{Charged, offset, maxSlack, offs}
 use Rattle.onetree.specs.Extremes.{Largest, Least, Taken}
 use Rattle.onetree.specs.Slack.{SlackIs, barred-slack, forced-slack, not-barred-in, not-forced-out}
 use Rattle.onetree.specs.Visiting.{Rooting}
@@ -79,7 +79,7 @@ pub record Judgement (g : Graph) (w c : List ℕ) (slack : ℕ) (d : List ℤ) (
   pub charged : Charged g d c
   pub least : one.Least (network g) (multiplier d) (bytes w)
   pub within : SlackIs z (bound (network g) (multiplier d) (bytes w)) slack
-  pub small : slack ≤ 1000000000
+  pub small : slack ≤ maxSlack
 
 module _ (g : Graph) (v : value.Valid g) (w c rep : List ℕ) (r : Rooting) (t : RootedIn g w rep r) (slack : ℕ) (d : List ℤ) (z : ℤ)
     (j : Judgement g w c slack d z) (k : ℕ) (hk : k < g .m) (free : markAt g k ≡ 0) where

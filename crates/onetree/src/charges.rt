@@ -8,9 +8,9 @@ ghost use Rattle.integers.specs.Range.{InRange};
 ghost use Rattle.graph.specs.Limits.{maxCost, maxMultiplier, maxEdges, maxVertices};
 ghost use Rattle.onetree.specs.Inputs.{multiplier};
 ghost use Rattle.onetree.specs.Multipliers.{Ranged};
-ghost use Rattle.onetree.specs.Charged.{offset, maxCharge};
+ghost use Rattle.onetree.specs.Charged.{offset, maxCharge, highBound, lowBound};
 ghost use Rattle.onetree.specs.Charging.{Chargeable, ChargesOf, Raised};
-use crate::wide;
+use graph::wide;
 
 // A cost or a multiplier, moved up by its limit.
 fn raised(x: i32) -> u32
@@ -77,7 +77,7 @@ pub(crate) fn total(d: &[i32]) -> u64
 }
 
 fn minus(x: u64, y: u64) -> i64
-    requires { ⌜ (x ≤ 4000000000) × (y ≤ 4000000000) ⌝ }
+    requires { ⌜ (x ≤ highBound) × (y ≤ lowBound) ⌝ }
     ensures { λ r. ⌜ IsDiff r x y ⌝ }
 {
     x as i64 - y as i64

@@ -6,7 +6,7 @@ ghost use lib.ListN.{length, getD};
 ghost use Rattle.onetree.specs.Hanging.{Hangs, Vertex};
 ghost use Rattle.onetree.specs.RootedTree.{shape};
 ghost use Rattle.onetree.specs.Climbing.{Offered, Climbed};
-use crate::wide;
+use graph::wide;
 
 pub(crate) fn greater(x: u32, y: u32) -> u32
     ensures { λ r. ⌜ (x ≤ r) × (y ≤ r) × ((r ≡ x) ⊎ (r ≡ y)) ⌝ }

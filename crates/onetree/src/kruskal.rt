@@ -11,7 +11,7 @@ ghost use Rattle.onetree.specs.Turn.{Joins, Turns};
 ghost use Rattle.onetree.specs.Required.{Small};
 use crate::charges::long;
 use crate::order::place;
-use crate::wide;
+use graph::wide;
 
 // What the greedy choice came to: how many edges at vertex 1 it met, how many others it took, and the sum of the charges of those taken.
 pub(crate) struct Grown {

@@ -33,6 +33,7 @@ mod rulings;
 mod sort;
 
 use graph::Graph;
+use graph::wide;
 use kruskal::Grown;
 pub use refusals::ceiling_fits;
 pub use refusals::multipliers_fit;
@@ -72,12 +73,6 @@ pub(crate) struct Found {
     pub any: bool,
     pub bound: i64,
     pub live: usize,
-}
-
-pub(crate) fn wide(x: u8) -> usize
-    ensures { λ r. ⌜ (r ≡ x) × (x < 256) ⌝ }
-{
-    x as usize
 }
 
 // The least 1-tree, one byte an edge, into w, and the order in which edges were looked at, both blank before; the charges into c; and the
@@ -144,9 +139,11 @@ pub fn tree(g: Graph, multipliers: &[i32], out: &mut [u8]) -> TreeAnswer
     ensures { λ r. ⌜ (treeMeaning r ≡ treeReply g (now (multipliers .entry)) (length (now (out .entry))))
         × (now (out .exit) ≡ treeLeaves g (now (multipliers .entry)) (now (out .entry))) ⌝ }
 {
+    let n = wide(g.n);
+    let m = wide(g.m);
     let fault = refusals::input_fault(
-        g.n,
-        g.m,
+        n,
+        m,
         &g.a,
         &g.b,
         &g.cost,
@@ -163,8 +160,8 @@ pub fn tree(g: Graph, multipliers: &[i32], out: &mut [u8]) -> TreeAnswer
     let mut order = [0u8; 190];
     let mut rep = [0u8; 21];
     let f = find(
-        g.n,
-        g.m,
+        n,
+        m,
         &g.a,
         &g.b,
         &g.cost,
@@ -189,9 +186,11 @@ pub fn rule(g: Graph, multipliers: &[i32], ceiling: i64, out: &mut [u8]) -> Rule
     ensures { λ r. ⌜ (ruleMeaning r ≡ ruleReply g (now (multipliers .entry)) ceiling (length (now (out .entry))))
         × (now (out .exit) ≡ ruleLeaves g (now (multipliers .entry)) ceiling (now (out .entry))) ⌝ }
 {
+    let n = wide(g.n);
+    let m = wide(g.m);
     let fault = judge::rule_fault(
-        g.n,
-        g.m,
+        n,
+        m,
         &g.a,
         &g.b,
         &g.cost,
@@ -207,8 +206,8 @@ pub fn rule(g: Graph, multipliers: &[i32], ceiling: i64, out: &mut [u8]) -> Rule
     let mut r = [0u8; 190];
     let mut order = [0u8; 190];
     let j = judge::judge(
-        g.n,
-        g.m,
+        n,
+        m,
         &g.a,
         &g.b,
         &g.cost,

@@ -7,11 +7,12 @@ ghost use Prim.Native.Nat.{ℕ, _≤_};
 ghost use lib.Dec.{eqb};
 ghost use lib.IntN.{ℤ};
 ghost use lib.ListN.{replicate};
+ghost use Rattle.graph.specs.Limits.{maxVertices};
 ghost use Rattle.graph.specs.Valid.{graphOf};
 ghost use Rattle.onetree.specs.Spans.{Spans};
 ghost use Rattle.onetree.specs.TreeTable.{Ends, Lists, emptyTable};
 ghost use Rattle.onetree.specs.Visiting.{rooting, rowOf, Hung, Complete, Lined, Leaving, Left, Rows};
-use crate::wide;
+use graph::wide;
 
 // Whether an edge is one of the tree that may give way to another on its circle: it is free, which is the mark 0, and not at vertex 1.
 fn swappable(a: u8, mark: u8, w: u8) -> bool
@@ -110,7 +111,7 @@ pub(crate) fn hang<'a>(
     edge: &mut [u8; 21],
     queue: &mut [u8; 21],
 ) -> usize
-    requires { ⌜ ((n : ℕ) × (2 ≤ n) × (n ≤ 20) × Rows (now a) (now b) n (now t)) × (now parent ≡ replicate 21 0)
+    requires { ⌜ ((n : ℕ) × (2 ≤ n) × (n ≤ maxVertices) × Rows (now a) (now b) n (now t)) × (now parent ≡ replicate 21 0)
         × (now depth ≡ replicate 21 0) × (now edge ≡ replicate 21 0) × (now queue ≡ replicate 21 0) ⌝ }
     ensures { λ r. ⌜ ((n : ℕ) → 2 ≤ n → Rows (now (a .entry)) (now (b .entry)) n (now (t .entry))
         → Hung (now (a .entry)) (now (b .entry)) (now (t .entry)) n

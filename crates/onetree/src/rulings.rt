@@ -25,10 +25,10 @@ use crate::climb::greater;
 use crate::climb::lesser;
 use crate::rooted::hang;
 use crate::rooted::table;
-use crate::wide;
 use graph::EXCLUDED;
 use graph::FREE;
 use graph::REQUIRED;
+use graph::wide;
 
 // Rulings.
 pub const KEEP: u8 = 0;
@@ -66,7 +66,7 @@ fn near_one<'a>(
     c: &'a [u32; 190],
     m: usize,
 ) -> Near
-    requires { ⌜ m ≤ 190 ⌝ }
+    requires { ⌜ m ≤ maxEdges ⌝ }
     ensures { λ r. ⌜ NearIs (now (a .entry)) (now (mark .entry)) (now (w .entry)) (now (c .entry)) (r .dearest) (r .cheapest) m ⌝ }
 {
     let mut dearest: u32 = 0;

@@ -15,8 +15,7 @@ use Rattle.graph.specs.Limits.{maxEdges}
 use Rattle.graph.specs.Network.{network}
 use Rattle.graph.specs.Places.{network-a, network-b}
 use Rattle.graph.specs.Valid.{graphOf}
-use Rattle.onetree.specs.Charged.{maxCharge}
-use Rattle.onetree.specs.Found.{highBound, lowBound}
+use Rattle.onetree.specs.Charged.{maxCharge, highBound, lowBound}
 use Rattle.onetree.specs.Keys.{keyed-small}
 use Rattle.onetree.specs.Looks.{keyed-hinted}
 use Rattle.onetree.specs.Turn.{Joins, Reads, Turn, turn-none}

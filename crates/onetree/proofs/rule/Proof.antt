@@ -1,25 +1,40 @@
 -- Each way out is one case of the call: rule-refused, rule-none, rule-some.
 use native.Mathlib.Omega.{arith}
 use borrow.Author.Needs.{needs}
-use mathlib.Core.Path.{_≡_, refl, sym, _∙_}
+use mathlib.Core.Path.{_≡_, refl, sym, _∙_, ap, subst}
 use mathlib.Core.List.{List}
 use Prim.Native.Nat.{ℕ}
 use borrow.Author.Tests.{not-true, not-false}
 use lib.ListN.{length}
 use mir.Facts.{toZ-ofZ}
 use Rattle.integers.specs.Words.{back64}
+use Rattle.graph.specs.declared.Graph.{Graph}
+use Rattle.graph.specs.Valid.{Valid, graphOf}
+use Rattle.graph.specs.Parts.{own-parts}
 use Rattle.onetree.specs.Answers.{ruleMeaning, ruleFault}
 use Rattle.onetree.specs.RuleCall.{rule-no-fault, rule-refused, rule-none, rule-some}
 use Rattle.onetree.specs.Judged.{JudgedIs}
 use Rattle.onetree.proofs.rule.Statement.{statement}
 use Rattle.onetree.proofs.rule.Tie as tie
 
+abbrev at-size : tie.After-rule-fault → tie.After-wide2
+at-size c = c .before .before .before .before .before .before
+
 abbrev at-start : tie.After-rule-fault → tie.Start
-at-start c = c .before .before .before .before .before .before .before
+at-start c = at-size c .before .before .before
+
+-- the parts that are lent are the graph's
+parts : (c : tie.After-wide2)
+    → let g = c .before .before .before .args .t1 in
+    graphOf (c .before .wide .result) (c .wide2 .result) (g .a) (g .b) (g .cost) (g .mark) ≡ g
+parts c = own-parts (c .before .before .before .args .t1) _ _ (c .before .wide .ensures .0) (c .wide2 .ensures .0)
 
 fault : (c : tie.After-rule-fault) → let a = at-start c .args in c .rule-fault .result ≡ ruleFault (a .t1)
     (a .multipliers .now) (a .ceiling) (length (a .out .now))
-fault c = rw (toZ-ofZ (at-start c .fits .ceiling)) at (c .rule-fault .ensures)
+fault c =
+    let a = at-start c .args in
+    (rw (toZ-ofZ (at-start c .fits .ceiling)) at (c .rule-fault .ensures))
+    ∙ ap (λ (g : Graph). ruleFault g (a .multipliers .now) (a .ceiling) (length (a .out .now))) (parts (at-size c))
 
 -- the input has no fault
 faultless : (c : tie.Else1)
@@ -39,7 +54,18 @@ rulings c = c .judge .last .1 .1 .1 .1 .1 .1 .1 .1 .1 .1 .0
 judged : (c : tie.After-judge)
     → let a = at-start (at-if1 c .before) .args in let j = c .judge .result in
     JudgedIs (a .t1) (a .multipliers .now) (a .ceiling) (j .any) (j .bound) (tree c) (rulings c)
-judged c = rw (toZ-ofZ (at-start (at-if1 c .before) .fits .ceiling)) at (c .judge .ensures .0)
+judged c =
+    let at-fault = at-if1 c .before in
+    let a = at-start at-fault .args in
+    let j = c .judge .result in
+    subst (λ (g : Graph). JudgedIs g (a .multipliers .now) (a .ceiling) (j .any) (j .bound) (tree c) (rulings c)) (parts (at-size at-fault))
+    (rw (toZ-ofZ (at-start at-fault .fits .ceiling)) at (c .judge .ensures .0))
+
+wide-requires : tie.Need-wide-requires
+wide-requires c κs = search needs
+
+wide-requires-2 : tie.Need-wide-requires-2
+wide-requires-2 c κs = search needs
 
 rule-fault-requires : tie.Need-rule-fault-requires
 rule-fault-requires c κs = search needs
@@ -59,7 +85,8 @@ judge-requires : tie.Need-judge-requires
 judge-requires c κs =
     let at-if1 = c .before .before .before .before .before .before .before .before .before in
     let ok = rule-no-fault _ _ _ _ (faultless at-if1) in
-    rw (toZ-ofZ (at-start (at-if1 .before) .fits .ceiling)) (ok .0 .valid, ok .0 .ranged, ok .0 .multipliers, ok .1, refl, refl, refl)
+    let sized = at-size (at-if1 .before) in
+    rw (toZ-ofZ (at-start (at-if1 .before) .fits .ceiling)) (subst Valid (sym (parts sized)) (ok .0 .valid), ok .0 .ranged, ok .0 .multipliers ∙ sym (sized .before .wide .ensures .0), ok .1, refl, refl, refl)
 
 returns-2 : tie.Need-returns-2
 unfolding ruleMeaning
@@ -95,6 +122,8 @@ pub rule-spec : {M : Type 1} → statement M
 rule-spec =
     tie.close
     (tie.spec
+    wide-requires
+    wide-requires-2
     rule-fault-requires
     returns
     slice-aggregate-judge

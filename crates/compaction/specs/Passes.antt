@@ -13,7 +13,7 @@ use lib.IntN.{ℤ, pos, _+ℤ_, _-ℤ_, _*ℤ_}
 use lib.Signed.{ltZ}
 use Rattle.lists.specs.Bools.{and-no-left}
 use Rattle.lists.specs.Members.{_∈_}
-use Rattle.lists.specs.All.{any}
+use Rattle.lists.specs.All.{someOf}
 use Rattle.lists.specs.Select.{select, select-cong}
 use Rattle.lists.specs.Numbers.{upTo, in-upTo}
 use Rattle.lists.specs.Rows.{row, row-same}
@@ -33,17 +33,17 @@ use Rattle.machine.specs.Machine.{concluded, passes}
 use Rattle.machine.specs.NodeTours.{applied-length}
 use Rattle.machine.specs.Outcomes.{finds}
 use Rattle.compaction.specs.Ranks.{rank, nth, Kept, rank-yes, rank-nth, nth-zero, nth-past, nth-rank, rank-in, nth-of, nth-in, down, Only}
-use Rattle.compaction.specs.Ranks.{select-thin, any-thin}
+use Rattle.compaction.specs.Ranks.{select-thin, someOf-thin}
 use Rattle.compaction.specs.Thinned.{thin, spread, RestExcluded, tree-only, tree-down, spread-only, spread-down, spread-least, spread-bound}
 use Rattle.compaction.specs.Rulings.{ruling-thin}
 use Rattle.compaction.specs.Spread.{spreadMarks, spreadTour, spreadOpened, spread-row, spread-kept, spread-rest}
 use Rattle.compaction.specs.Spread.{branch-spread}
 
-any-cong : (f h : ℕ → Bool) (xs : List ℕ) → ((k : ℕ) → k ∈ xs → f k ≡ h k) → any f xs ≡ any h xs
-unfolding any
-any-cong f h [] e = refl
-any-cong f h (x ∷ xs) e =
-    λ i. elim (e x (inl refl) i) as (λ z. Bool) [ true ↦ true | false ↦ any-cong f h xs (λ k m. e k (inr m)) i ]
+someOf-cong : (f h : ℕ → Bool) (xs : List ℕ) → ((k : ℕ) → k ∈ xs → f k ≡ h k) → someOf f xs ≡ someOf h xs
+unfolding someOf
+someOf-cong f h [] e = refl
+someOf-cong f h (x ∷ xs) e =
+    λ i. elim (e x (inl refl) i) as (λ z. Bool) [ true ↦ true | false ↦ someOf-cong f h xs (λ k m. e k (inr m)) i ]
 
 -- ---- what is read of a tree: t in old numbers, r in new ones
 
@@ -68,10 +68,10 @@ module _ (c : Edges) (g : Network) (t r : Edges) (same : Agree (g .m) t (spread 
         ∙ length-map (select (λ j. t (nth c (g .m) j) && p (nth c (g .m) j)) (upTo (rank c (g .m)))) (nth c (g .m))
         ∙ ap length (select-cong _ _ (upTo (rank c (g .m))) both-new)
 
-    some-thin : any (λ k. t k && p k) (upTo (g .m)) ≡ any (λ j. r j && p (nth c (g .m) j)) (upTo (rank c (g .m)))
+    some-thin : someOf (λ k. t k && p k) (upTo (g .m)) ≡ someOf (λ j. r j && p (nth c (g .m) j)) (upTo (rank c (g .m)))
     some-thin =
-        any-thin c (g .m) (λ k. t k && p k) both-only
-        ∙ any-cong _ _ (upTo (rank c (g .m))) both-new
+        someOf-thin c (g .m) (λ k. t k && p k) both-only
+        ∙ someOf-cong _ _ (upTo (rank c (g .m))) both-new
 
   degree-thin : (v : ℕ) → degree g t v ≡ degree (thin c g) r v
   unfolding degree
@@ -104,7 +104,7 @@ module _ (c : Edges) (g : Network) (t r : Edges) (same : Agree (g .m) t (spread 
   tour-thin : isTour g t ≡ isTour (thin c g) r
   unfolding isTour others
   tour-thin =
-      λ i. eqb (size-thin i) (g .n) && any (λ vs. distinct vs && trip-thin 1 vs 1 i) (words (g .n - 1) (others g))
+      λ i. eqb (size-thin i) (g .n) && someOf (λ vs. distinct vs && trip-thin 1 vs 1 i) (words (g .n - 1) (others g))
 
   row-thin : row (g .m) t ≡ spreadTour c (g .m) (row (rank c (g .m)) r)
   row-thin = spread-row c (g .m) false false t r (λ k i e. same k i ∙ rw e) only

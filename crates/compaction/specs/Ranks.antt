@@ -11,7 +11,7 @@ use lib.Dec.{eqb}
 use borrow.Author.Tests.{eq-eqb, ne-eqb}
 use Rattle.lists.specs.Bools.{by-cases}
 use Rattle.lists.specs.Members.{_∈_}
-use Rattle.lists.specs.All.{any}
+use Rattle.lists.specs.All.{someOf}
 use Rattle.lists.specs.Select.{keep, select}
 use Rattle.lists.specs.Numbers.{upTo, upTo-in, in-upTo}
 use Rattle.onetree.specs.OneTree.{Edges, lacksFirst, unless}
@@ -137,11 +137,11 @@ keep-map : (f : ℕ → ℕ) (b : Bool) (k x : ℕ) (l r : List ℕ) → f x ≡
 keep-map f true k x l r q e = rw (q, e)
 keep-map f false k x l r q e = e
 
-any-or : (f : ℕ → Bool) (x : ℕ) (xs : List ℕ) → any f (x ∷ xs) ≡ f x || any f xs
-unfolding any
-any-or f x xs = go (f x)
+someOf-or : (f : ℕ → Bool) (x : ℕ) (xs : List ℕ) → someOf f (x ∷ xs) ≡ f x || someOf f xs
+unfolding someOf
+someOf-or f x xs = go (f x)
   where
-    go : (b : Bool) → (elim b as (λ z. Bool) [ true ↦ true | false ↦ any f xs ]) ≡ b || any f xs
+    go : (b : Bool) → (elim b as (λ z. Bool) [ true ↦ true | false ↦ someOf f xs ]) ≡ b || someOf f xs
     go true = refl
     go false = refl
 
@@ -201,26 +201,26 @@ module _ (c : Edges) (m : ℕ) where
     pub select-thin : select t (upTo m) ≡ map (nth c m) (select (down t) (upTo (rank c m)))
     select-thin = select-to m (omega arith)
 
-    any-to : (k : ℕ) → k ≤ m → any t (upTo k) ≡ any (down t) (upTo (rank c k))
-    unfolding any upTo rank
-    any-to zero h = refl
-    any-to (suc k) h = go (c (suc k)) refl (any-to k (omega arith))
+    someOf-to : (k : ℕ) → k ≤ m → someOf t (upTo k) ≡ someOf (down t) (upTo (rank c k))
+    unfolding someOf upTo rank
+    someOf-to zero h = refl
+    someOf-to (suc k) h = go (c (suc k)) refl (someOf-to k (omega arith))
       where
-        go : (b : Bool) → c (suc k) ≡ b → any t (upTo k) ≡ any (down t) (upTo (rank c k))
-            → any t (suc k ∷ upTo k) ≡ any (down t) (upTo (more b (rank c k)))
+        go : (b : Bool) → c (suc k) ≡ b → someOf t (upTo k) ≡ someOf (down t) (upTo (rank c k))
+            → someOf t (suc k ∷ upTo k) ≡ someOf (down t) (upTo (more b (rank c k)))
         go true e below =
-            let both : t (suc k) || any t (upTo k) ≡ t (nth c m (suc (rank c k))) || any (down t) (upTo (rank c k)) =
+            let both : t (suc k) || someOf t (upTo k) ≡ t (nth c m (suc (rank c k))) || someOf (down t) (upTo (rank c k)) =
             rw (next k h e, below)
             in
-            any-or t (suc k) (upTo k)
+            someOf-or t (suc k) (upTo k)
             ∙ both
-            ∙ sym (any-or (down t) (suc (rank c k)) (upTo (rank c k)))
+            ∙ sym (someOf-or (down t) (suc (rank c k)) (upTo (rank c k)))
         go false e below =
-            any-or t (suc k) (upTo k)
+            someOf-or t (suc k) (upTo k)
             ∙ rw (o (suc k) (upTo-in m (suc k) (omega arith) h) e) below
 
-    pub any-thin : any t (upTo m) ≡ any (down t) (upTo (rank c m))
-    any-thin = any-to m (omega arith)
+    pub someOf-thin : someOf t (upTo m) ≡ someOf (down t) (upTo (rank c m))
+    someOf-thin = someOf-to m (omega arith)
 
   module _ (s t : Edges) (os : Only s) (ot : Only t) where
     lacks-to : (k : ℕ) → k ≤ m → lacksFirst k s t ≡ lacksFirst (rank c k) (down s) (down t)

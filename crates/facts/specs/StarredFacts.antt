@@ -1,34 +1,42 @@
 -- The starred facts of document 01, 'A four-buoy sea', in its order: each a theorem, by computation. Trees and rulings are those that the
 -- promises of the tree call and the rule call name; searches are the machine's answers to a list of calls.
 use mathlib.Core.Path.{_≡_, refl}
-use mathlib.Core.List.{List, [], _∷_, map}
-use Prim.Native.Nat.{ℕ}
+use mathlib.Core.List.{List, [], _∷_, _++_, map}
+use Prim.Native.Nat.{ℕ, _-_}
 use mathlib.Core.Bool.{true}
+use lib.ListN.{length, replicate}
 use lib.IntN.{ℤ, pos, negsuc}
 use Rattle.lists.specs.Select.{select}
 use Rattle.lists.specs.Rows.{row}
 use Rattle.integers.specs.Range.{within}
 use Rattle.graph.specs.declared.Graph.{Graph}
+use Rattle.graph.specs.Limits.{maxEdges}
 use Rattle.graph.specs.Network.{markOf, network}
 use Rattle.graph.specs.Valid.{valid, edgesOk, edgeOk, endsOk, pairMet}
 use Rattle.onetree.specs.Inputs.{multipliersFit, ceilingFits}
-use Rattle.onetree.specs.Enumeration.{sets, leastTree, ruling}
+use Rattle.onetree.specs.Enumeration.{edgeSets, leastTree, ruling}
 use Rattle.onetree.specs.Answers.{Reply, bounded, treeReply, treeLeaves, ruleReply, ruleLeaves}
 use Rattle.onetree.specs.Answers as tree
 use Rattle.machine.specs.Tours.{cost, isTour}
 use Rattle.machine.specs.Machine.{noSearch, gained}
 use Rattle.machine.specs.Calls.{Answer, opens, run, tell, accepted, runs, tells, none, best, answers}
 
+-- ---- graph values, with arrays of 190 places as the calls have them: what is given of an array, and zero past it
+
+unfoldable pub filled : {A : Type 0} → A → List A → List A
+filled z given = given ++ replicate (maxEdges - length given) z
+
+unfoldable pub graph : ℕ → ℕ → List ℕ → List ℕ → List ℤ → List ℕ → Graph
+unfolding filled
+graph n m a b cost mark =
+    record { n = n; m = m; a = filled 0 a; b = filled 0 b; cost = filled (pos 0) cost; mark = filled 0 mark }
+
 -- "Legs, costs: 1: 1–2, 4. 2: 1–3, 3. 3: 1–4, 5. 4: 2–3, 2. 5: 2–4, 6. 6: 3–4, 1. All free."
 unfoldable pub four : Graph
-four = record {
-  n = 4;
-  m = 6;
-  a = 1 ∷ 1 ∷ 1 ∷ 2 ∷ 2 ∷ 3 ∷ [];
-  b = 2 ∷ 3 ∷ 4 ∷ 3 ∷ 4 ∷ 4 ∷ [];
-  cost = pos 4 ∷ pos 3 ∷ pos 5 ∷ pos 2 ∷ pos 6 ∷ pos 1 ∷ [];
-  mark = 0 ∷ 0 ∷ 0 ∷ 0 ∷ 0 ∷ 0 ∷ [];
-}
+unfolding graph
+four =
+    graph 4 6 (1 ∷ 1 ∷ 1 ∷ 2 ∷ 2 ∷ 3 ∷ []) (2 ∷ 3 ∷ 4 ∷ 3 ∷ 4 ∷ 4 ∷ []) (pos 4 ∷ pos 3 ∷ pos 5 ∷ pos 2 ∷ pos 6 ∷ pos 1 ∷ [])
+    (0 ∷ 0 ∷ 0 ∷ 0 ∷ 0 ∷ 0 ∷ [])
 
 -- "Zero dues"
 unfoldable pub zeros₃ : List ℤ
@@ -57,13 +65,13 @@ unfoldable pub searchCalls : Graph → List ℤ → ℤ → List Answer
 unfolding answers valid edgesOk edgeOk endsOk pairMet within multipliersFit ceilingFits network markOf
 searchCalls g d ceiling =
     answers noSearch
-    (opens (record { graph = g; multipliers = d; ceiling = ceiling; sweeps = 0; step = 0 }) ∷ run 100 ∷ tell ∷ [])
+    (opens (record { graph = g; multipliers = d; settings = record { ceiling = ceiling; sweeps = 0; step = 0 } }) ∷ run 100 ∷ tell ∷ [])
 
 -- ---- the four-buoy sea
 
 -- "Rounds cost 12, 14, 16.": the costs of all tours, in the order of the enumeration
-pub tour-costs : map (cost (network four)) (select (isTour (network four)) (sets 6)) ≡ pos 16 ∷ pos 12 ∷ pos 14 ∷ []
-unfolding cost network four select isTour sets
+pub tour-costs : map (cost (network four)) (select (isTour (network four)) (edgeSets 6)) ≡ pos 16 ∷ pos 12 ∷ pos 14 ∷ []
+unfolding cost network four select isTour edgeSets
 tour-costs = refl
 
 -- "Zero dues: legs 1, 2, 4, 6, bound 10."
@@ -104,7 +112,8 @@ search-11 = refl
 -- ---- three vertices
 
 unfoldable pub bare : Graph
-bare = record { n = 3; m = 0; a = []; b = []; cost = []; mark = [] }
+unfolding graph
+bare = graph 3 0 [] [] [] []
 
 -- "Three buoys, no legs: no tree;"
 pub no-edges-tree : treeCall bare zeros₃ ≡ (tree.none, [])
@@ -117,14 +126,8 @@ unfolding searchCalls bare zeros₃
 no-edges-search = refl
 
 unfoldable pub triangle : Graph
-triangle = record {
-  n = 3;
-  m = 3;
-  a = 1 ∷ 1 ∷ 2 ∷ [];
-  b = 2 ∷ 3 ∷ 3 ∷ [];
-  cost = pos 1 ∷ pos 1 ∷ pos 1 ∷ [];
-  mark = 0 ∷ 0 ∷ 0 ∷ [];
-}
+unfolding graph
+triangle = graph 3 3 (1 ∷ 1 ∷ 2 ∷ []) (2 ∷ 3 ∷ 3 ∷ []) (pos 1 ∷ pos 1 ∷ pos 1 ∷ []) (0 ∷ 0 ∷ 0 ∷ [])
 
 -- "Three legs of cost 1, ceiling 3: cost 3, 1 node;"
 pub triangle-3 : searchCalls triangle zeros₃ (pos 3) ≡ accepted ∷ runs true 1 ∷ tells (best (pos 3)) 1 ∷ []
@@ -139,8 +142,8 @@ triangle-2 = refl
 -- ---- required edges, and the range of a multiplier
 
 unfoldable pub star : Graph
-unfolding four
-star = record { n = 4; m = 6; a = four .a; b = four .b; cost = four .cost; mark = 1 ∷ 1 ∷ 1 ∷ 0 ∷ 0 ∷ 0 ∷ [] }
+unfolding four filled
+star = record { n = 4; m = 6; a = four .a; b = four .b; cost = four .cost; mark = filled 0 (1 ∷ 1 ∷ 1 ∷ 0 ∷ 0 ∷ 0 ∷ []) }
 
 -- "Three required legs at buoy 1: no tree."
 pub three-required : treeCall star zeros₄ ≡ (tree.none, nines star)
@@ -149,14 +152,8 @@ three-required = refl
 
 -- vertex 2 touches three of its four edges
 unfoldable pub spread : Graph
-spread = record {
-  n = 4;
-  m = 4;
-  a = 1 ∷ 1 ∷ 2 ∷ 2 ∷ [];
-  b = 2 ∷ 3 ∷ 3 ∷ 4 ∷ [];
-  cost = pos 0 ∷ pos 0 ∷ pos 0 ∷ pos 0 ∷ [];
-  mark = 0 ∷ 0 ∷ 0 ∷ 0 ∷ [];
-}
+unfolding graph
+spread = graph 4 4 (1 ∷ 1 ∷ 2 ∷ 2 ∷ []) (2 ∷ 3 ∷ 3 ∷ 4 ∷ []) (pos 0 ∷ pos 0 ∷ pos 0 ∷ pos 0 ∷ []) (0 ∷ 0 ∷ 0 ∷ 0 ∷ [])
 
 -- "Due 999,999, step 10, three legs: 1,000,000."
 pub held-to-range : gained (network spread) 10 (λ k. true) (pos 0 ∷ pos 999999 ∷ pos 0 ∷ pos 0 ∷ [])

@@ -81,8 +81,8 @@ module _ (p : Problem) where
 
     record Sound (u : p .Bound) (stack : List (p .Node)) (best : Incumbent (p .Form)) : Type 0 where
       known : Known u best
-      inside : (x : p .Node) → x ∈ stack → (t : p .Tour) → p .In t x → p .In t root
       covers : (t : p .Tour) → p .In t root → p .Within t u → Some t stack
+      inside : (x : p .Node) → x ∈ stack → (t : p .Tour) → p .In t x → p .In t root
 
     -- what is looked for was looked for from the start
     under : (u : p .Bound) (best : Incumbent (p .Form)) → Known u best → (t : p .Tour) → p .Within t u → p .Within t ceiling
@@ -90,7 +90,7 @@ module _ (p : Problem) where
     under u (aTour f) k t w = p .tighter f ceiling t (k .1) (subst (λ (z : p .Bound). p .Within t z) (k .2) w)
 
     sound-start : Sound ceiling (root ∷ []) noTour
-    sound-start = record { known = refl; inside = λ x m t i. only x m t i; covers = λ t i w. (root, inl refl, i) }
+    sound-start = record { known = refl; covers = λ t i w. (root, inl refl, i); inside = λ x m t i. only x m t i }
       where
         only : (x : p .Node) → (x ≡ root) ⊎ ⊥ → (t : p .Tour) → p .In t x → p .In t root
         only x (inl e) t i = subst (λ (y : p .Node). p .In t y) e i
@@ -108,8 +108,8 @@ module _ (p : Problem) where
         → Sound u (x ∷ xs) best → Lawful p u x o → Sound (nextUpper (p .lowered) u o) (nextStack xs o) (nextIncumbent best o)
     sound-next u x xs best closes s l = record {
       known = s .known;
-      inside = λ y m. s .inside y (inr m);
       covers = λ t i w. go t w (top-or-below t x xs (s .covers t i w));
+      inside = λ y m. s .inside y (inr m);
     }
       where
         go : (t : p .Tour) → p .Within t u → p .In t x ⊎ Some t xs → Some t xs
@@ -117,8 +117,8 @@ module _ (p : Problem) where
         go t w (inr r) = r
     sound-next u x xs best (finds f) s l = record {
       known = (s .inside x (inl refl) (p .tour f) (l .inside), under u best (s .known) (p .tour f) (l .within), refl);
-      inside = λ y m. s .inside y (inr m);
       covers = λ t i w. go t w (top-or-below t x xs (s .covers t i (p .tighter f u t (l .within) w)));
+      inside = λ y m. s .inside y (inr m);
     }
       where
         go : (t : p .Tour) → p .Within t (p .lowered f) → p .In t x ⊎ Some t xs → Some t xs
@@ -126,8 +126,8 @@ module _ (p : Problem) where
         go t w (inr r) = r
     sound-next u x xs best (splits out into) s l = record {
       known = s .known;
-      inside = λ y m t i. within y m t i;
       covers = λ t i w. go t w (top-or-below t x xs (s .covers t i w));
+      inside = λ y m t i. within y m t i;
     }
       where
         within : (y : p .Node) → (y ≡ into) ⊎ ((y ≡ out) ⊎ (y ∈ xs)) → (t : p .Tour) → p .In t y → p .In t root

@@ -1,12 +1,12 @@
 -- The lowest-numbered free edge of a node, and what becomes of the number of free edges when it is taken. Assumes nothing.
-use mathlib.Core.Path.{_≡_, refl, ap, _∙_}
-use mathlib.Core.Bool.{Bool, true, false, false≢true, true≢false}
+use mathlib.Core.Path.{_≡_, refl, ap, _∙_, subst}
+use mathlib.Core.Bool.{true, false, false≢true, true≢false}
 use mathlib.Core.List.{[], _∷_}
 use Prim.Native.Nat.{ℕ, zero, suc, _+_, _≤_, _<_}
 use native.Mathlib.Omega.{arith}
 use lib.ListN.{length, getD, set}
 use Rattle.lists.specs.Bools.{bit}
-use Rattle.lists.specs.Rows.{row}
+use Rattle.lists.specs.Rows.{row, row-of}
 use Rattle.graph.specs.Network.{Mark, free, required, excluded}
 use Rattle.machine.specs.Machine.{Marks, isFree, frees, firstFree}
 
@@ -14,6 +14,10 @@ pub free-is : (x : Mark) → isFree x ≡ true → x ≡ free
 free-is free h = refl
 free-is required h = absurd (false≢true h)
 free-is excluded h = absurd (false≢true h)
+
+-- a node's marks are the row of its own places
+pub row-marks : (m : ℕ) (x : Marks) → length x ≡ m → row m (λ k. getD (free ∷ x) k free) ≡ x
+row-marks m x e = subst (λ (n : ℕ). row n (λ k. getD (free ∷ x) k free) ≡ x) e (row-of x free)
 
 -- ---- the first free edge
 
@@ -56,15 +60,6 @@ first-is (x ∷ xs) (suc k) l before here =
     ∙ ap suc (first-is xs k (omega arith) (λ j i. before (suc j) (omega arith)) (λ i. here (omega arith)))
 
 -- ---- the number of free edges
-
-pub frees-most : (x : Marks) → frees x ≤ length x
-unfolding frees
-frees-most [] = omega arith
-frees-most (x ∷ xs) = go (isFree x) (frees-most xs)
-  where
-    go : (b : Bool) → frees xs ≤ length xs → bit b + frees xs ≤ suc (length xs)
-    go true h = omega arith
-    go false h = omega arith
 
 -- a free edge that is marked otherwise is one less
 pub frees-set : (x : Marks) (k : ℕ) (y : Mark) → k < length x → getD x k free ≡ free → isFree y ≡ false → suc (frees (set x k y)) ≡ frees x

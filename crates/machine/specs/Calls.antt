@@ -67,8 +67,8 @@ fault o =
     cond (not (valid (o .graph))) 15
     (cond (not (eqb (length (o .multipliers)) (o .graph .n))) 11
     (cond (not (multipliersFit (o .multipliers))) 12
-    (cond (not (ceilingFits (o .ceiling))) 13
-    (cond (not (leb (o .sweeps) maxSweeps && leb (o .step) maxStep)) 14
+    (cond (not (ceilingFits (o .settings .ceiling))) 13
+    (cond (not (leb (o .settings .sweeps) maxSweeps && leb (o .settings .step) maxStep)) 14
     0))))
 
 -- ---- the calls
@@ -94,17 +94,17 @@ unfolding costOf network
 verdict s = cond (finished s) (verdictOf (network (s .opening .graph)) (s .incumbent)) goingOn
 
 -- "1 in, 0 out"
-unfoldable pub bytes : List Bool → List ℕ
-bytes r = map bit r
+unfoldable pub tourBytes : List Bool → List ℕ
+tourBytes r = map bit r
 
 -- "22 show while going on; 23 show after 'none'"; 11 a list of wrong length; "Show writes the best round to a list of m bytes"
 unfoldable pub shownBy : Progress → List ℕ → Bool → Incumbent (List Bool) → Reply
-unfolding bytes
+unfolding tourBytes
 shownBy s l false i = refuses (searching s) (show l) 22
 shownBy s l true noTour = refuses (searching s) (show l) 23
 shownBy s l true (aTour r) =
     cond (eqb (length l) (s .opening .graph .m))
-    (record { state = searching s; answer = accepted; lent = bytes r })
+    (record { state = searching s; answer = accepted; lent = tourBytes r })
     (refuses (searching s) (show l) 11)
 
 -- "20 no hunt is open (run, tell, show, close); 21 one is open (opening)", "tested before all input";

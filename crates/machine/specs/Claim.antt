@@ -1,4 +1,4 @@
--- THE PROOF of demand 3's claims about the machine: `demand-3-machine` is of the type that Demand3 states. It rests on the general theorem
+-- THE PROOF of demand 3's claims about the machine itself: two finished searches agree, and a budget suffices. It rests on the general theorem
 -- (BranchAndBound), on the invariant of lists of calls (Invariant) and on the renumbering of one network (Renumbering).
 use mathlib.Core.Path.{_≡_, refl, sym, ap, _∙_, subst}
 use mathlib.Core.Logic.{_⊎_, inl, inr}
@@ -27,15 +27,23 @@ use Rattle.machine.specs.Tours.{Tour, Allowed, cost, Feasible}
 use Rattle.machine.specs.Outcomes.{Incumbent, noTour, aTour}
 use Rattle.machine.specs.Machine.{Marks, withMarks, marksOf, Opening, trimmed, held, Progress, State, noSearch, searching, edgesOf}
 use Rattle.machine.specs.Machine.{costOf, lowered, isEmpty, finished}
-use Rattle.machine.specs.Calls.{Call, tell, show, Verdict, goingOn, none, best, accepted, tells, Reply, verdict, verdictOf, bytes}
+use Rattle.machine.specs.Calls.{Call, tell, show, Verdict, goingOn, none, best, accepted, tells, Reply, verdict, verdictOf, tourBytes}
 use Rattle.machine.specs.Calls.{shownBy, step, leaves, History, since, history, freeAtStart}
-use Rattle.machine.specs.Demand3.{OneNetwork, Finished, LeavesFinished, Such, Otherwise, Says, Demand3}
+use Rattle.machine.specs.Demand3.{OneNetwork, Finished, LeavesFinished, Such}
+use Rattle.machine.specs.Demand3 as stated
 use Rattle.machine.specs.BranchAndBound.{Optimal, optimum, Reached}
 use Rattle.machine.specs.Trimmed.{network-trimmed, valid-trimmed}
 use Rattle.machine.specs.NodeTours.{Agrees, Inside, tours, allowed-agrees, agrees-allowed}
 use Rattle.machine.specs.Kept.{Sized}
 use Rattle.machine.specs.Renumbering.{Simple, one-sym, renumbered, renumbered-same}
 use Rattle.machine.specs.Invariant.{Good, Holds, Fine, fine, before-last}
+
+-- what the machine says after a list of calls: its answers are said as they are
+abbrev pub Says : List Call → Opening → Verdict → Type 0
+Says cs o v = stated.Says (λ a. a) (λ c. step (leaves cs) c .answer) (λ c. step (leaves cs) c .lent) o v
+
+abbrev Otherwise : List Call → Opening → Verdict → Type 0
+Otherwise cs o v = stated.Otherwise (λ a. a) (λ c. step (leaves cs) c .answer) (λ c. step (leaves cs) c .lent) o v
 
 -- ---- the tours of the first node are the allowed tours
 
@@ -77,11 +85,11 @@ module _ (cs : List Call) (s : Progress) (total : ℕ) (left : leaves cs ≡ sea
   g : Network
   g = network (s .opening .graph)
 
-  best-possible : Optimal (tours g) (marksOf g) (s .opening .ceiling) (s .incumbent)
+  best-possible : Optimal (tours g) (marksOf g) (s .opening .settings .ceiling) (s .incumbent)
   unfolding g
   best-possible =
-      optimum (tours g) (marksOf g) (s .opening .ceiling)
-      (subst (λ (st : List Marks). Reached (tours g) (marksOf g) (s .opening .ceiling) (s .upper) st (s .incumbent) (s .count))
+      optimum (tours g) (marksOf g) (s .opening .settings .ceiling)
+      (subst (λ (st : List Marks). Reached (tours g) (marksOf g) (s .opening .settings .ceiling) (s .upper) st (s .incumbent) (s .count))
       (is-empty (s .stack) done) (h .reached))
 
   told-is : step (leaves cs) tell .answer ≡ tells (verdictOf g (s .incumbent)) (s .count)
@@ -89,18 +97,18 @@ module _ (cs : List Call) (s : Progress) (total : ℕ) (left : leaves cs ≡ sea
   told-is = subst (λ (st : State). step st tell .answer ≡ tells (verdictOf g (s .incumbent)) (s .count)) (sym left) (rw done)
 
   -- what show gives, where the incumbent is r
-  written : (r : List Bool) → length r ≡ s .opening .graph .m → bytes r ≡ row (s .opening .graph .m) (λ k. bit (edgesOf r k))
-  unfolding bytes edgesOf
+  written : (r : List Bool) → length r ≡ s .opening .graph .m → tourBytes r ≡ row (s .opening .graph .m) (λ k. bit (edgesOf r k))
+  unfolding tourBytes edgesOf
   written r z =
       ap (map bit) (sym (row-of r false))
       ∙ row-map bit (length r) (λ k. getD (false ∷ r) k false)
       ∙ ap (λ (n : ℕ). row n (λ k. bit (getD (false ∷ r) k false))) z
 
   shown-is : (r : List Bool) → s .incumbent ≡ aTour r → (l : List ℕ) → length l ≡ s .opening .graph .m
-      → step (leaves cs) (show l) ≡ record { state = searching s; answer = accepted; lent = bytes r }
+      → step (leaves cs) (show l) ≡ record { state = searching s; answer = accepted; lent = tourBytes r }
   unfolding step shownBy
   shown-is r e l f =
-      subst (λ (st : State). step st (show l) ≡ record { state = searching s; answer = accepted; lent = bytes r }) (sym left)
+      subst (λ (st : State). step st (show l) ≡ record { state = searching s; answer = accepted; lent = tourBytes r }) (sym left)
       (rw (done, e, eq-eqb (length l) (s .opening .graph .m) f))
 
   says : Says cs (s .opening) (verdictOf g (s .incumbent))
@@ -109,7 +117,7 @@ module _ (cs : List Call) (s : Progress) (total : ℕ) (left : leaves cs ≡ sea
     where
       go : (i : Incumbent (List Bool)) → s .incumbent ≡ i
           → step (leaves cs) tell .answer ≡ tells (verdictOf g i) (s .count)
-          → Optimal (tours g) (marksOf g) (s .opening .ceiling) i → Sized (s .opening .graph .m) i
+          → Optimal (tours g) (marksOf g) (s .opening .settings .ceiling) i → Sized (s .opening .graph .m) i
           → Says cs (s .opening) (verdictOf g i)
       go noTour e told p z = record {
         count = s .count;
@@ -131,7 +139,7 @@ module _ (cs : List Call) (s : Progress) (total : ℕ) (left : leaves cs ≡ sea
         };
       }
         where
-          such : Feasible (network (s .opening .graph)) (s .opening .ceiling) (edgesOf r)
+          such : Feasible (network (s .opening .graph)) (s .opening .settings .ceiling) (edgesOf r)
           such = record { tour = p .inside .tour; allowed = inside-root g (edgesOf r) (p .inside); cheap = p .within }
 
           least : (u : Edges) → Such (s .opening) u → cost g (edgesOf r) ≤ℤ cost g u
@@ -156,10 +164,10 @@ says-given cs o v few x = record {
     same = network-trimmed (o .graph) few
 
     such-held : (t : Edges) → Such (held o) t → Such o t
-    such-held t q = subst (λ (n : Network). Feasible n (o .ceiling) t) same q
+    such-held t q = subst (λ (n : Network). Feasible n (o .settings .ceiling) t) same q
 
     held-such : (t : Edges) → Such o t → Such (held o) t
-    held-such t q = subst (λ (n : Network). Feasible n (o .ceiling) t) (sym same) q
+    held-such t q = subst (λ (n : Network). Feasible n (o .settings .ceiling) t) (sym same) q
 
     go : (w : Verdict) → Otherwise cs (held o) w → Otherwise cs o w
     go goingOn y = y
@@ -202,18 +210,18 @@ simple g v j k mj mk ea eb = go j k ea eb (edge-of (g .m) j mj) (edge-of (g .m) 
         ∙ sym (y .2)
 
 -- a tour of the one is a tour of the other, of the same cost
-there : (o p : Opening) → value.Valid (o .graph) → OneNetwork (network (o .graph)) (network (p .graph)) → o .ceiling ≡ p .ceiling
+there : (o p : Opening) → value.Valid (o .graph) → OneNetwork (network (o .graph)) (network (p .graph)) → o .settings .ceiling ≡ p .settings .ceiling
     → (t : Edges) → Such o t → (u : Edges) × Such p u × (cost (network (p .graph)) u ≡ cost (network (o .graph)) t)
 there o p v one same t q = (moved, subst (λ (z : ℤ). Feasible (network (p .graph)) z moved) same (r .0), r .1)
   where
     moved : Edges
     moved = renumbered (network (o .graph)) (network (p .graph)) one (simple (o .graph) v) t
 
-    r : Feasible (network (p .graph)) (o .ceiling) moved × (cost (network (p .graph)) moved ≡ cost (network (o .graph)) t)
-    r = renumbered-same (network (o .graph)) (network (p .graph)) one (simple (o .graph) v) t (o .ceiling) q
+    r : Feasible (network (p .graph)) (o .settings .ceiling) moved × (cost (network (p .graph)) moved ≡ cost (network (o .graph)) t)
+    r = renumbered-same (network (o .graph)) (network (p .graph)) one (simple (o .graph) v) t (o .settings .ceiling) q
 
 module _ (cs ds : List Call) (o p : Opening) (vo : value.Valid (o .graph)) (vp : value.Valid (p .graph))
-    (one : OneNetwork (network (o .graph)) (network (p .graph))) (same : o .ceiling ≡ p .ceiling) where
+    (one : OneNetwork (network (o .graph)) (network (p .graph))) (same : o .settings .ceiling ≡ p .settings .ceiling) where
   across : (t : Edges) → Such o t → (u : Edges) × Such p u × (cost (network (p .graph)) u ≡ cost (network (o .graph)) t)
   across = there o p vo one same
 
@@ -288,30 +296,29 @@ module _ (cs : List Call) (o : Opening) (total : ℕ) (l : Leaves cs o total) wh
               let c : suc (s .count) ≤ 2 ^ suc (freeAtStart o) - 1 = (rw same at b) in
               omega (arith, c, f)
 
--- DEMAND 3'S CLAIMS HOLD OF THE MACHINE
-pub demand-3-machine : Demand3
-demand-3-machine = record {
-  agree = agreed;
-  ends = λ cs o total e. finishes cs o total (leaves-search cs o total e);
-}
+-- ---- DEMAND 3'S CLAIMS HOLD OF THE MACHINE
+
+pub machine-agrees : (cs ds : List Call) (o p : Opening) → LeavesFinished cs o → LeavesFinished ds p
+    → OneNetwork (network (o .graph)) (network (p .graph)) → o .settings .ceiling ≡ p .settings .ceiling
+    → (v : Verdict) × Says cs o v × Says ds p v
+machine-agrees cs ds o p f k one same = (x .0, x .1, rw equal (y .1))
   where
-    agreed : (cs ds : List Call) (o p : Opening) → LeavesFinished cs o → LeavesFinished ds p
-        → OneNetwork (network (o .graph)) (network (p .graph)) → o .ceiling ≡ p .ceiling
-        → (v : Verdict) × Says cs o v × Says ds p v
-    agreed cs ds o p f k one same = (x .0, x .1, rw equal (y .1))
-      where
-        l : Leaves cs o (f .total)
-        l = leaves-search cs o (f .total) (f .opened)
+    l : Leaves cs o (f .total)
+    l = leaves-search cs o (f .total) (f .opened)
 
-        r : Leaves ds p (k .total)
-        r = leaves-search ds p (k .total) (k .opened)
+    r : Leaves ds p (k .total)
+    r = leaves-search ds p (k .total) (k .opened)
 
-        x : (v : Verdict) × Says cs o v
-        x = says-of cs o (f .total) l (f .done)
+    x : (v : Verdict) × Says cs o v
+    x = says-of cs o (f .total) l (f .done)
 
-        y : (v : Verdict) × Says ds p v
-        y = says-of ds p (k .total) r (k .done)
+    y : (v : Verdict) × Says ds p v
+    y = says-of ds p (k .total) r (k .done)
 
-        equal : x .0 ≡ y .0
-        equal =
-            same-verdict cs ds o p (given-valid cs o (f .total) l) (given-valid ds p (k .total) r) one same (x .0) (y .0) (x .1) (y .1)
+    equal : x .0 ≡ y .0
+    equal =
+        same-verdict cs ds o p (given-valid cs o (f .total) l) (given-valid ds p (k .total) r) one same (x .0) (y .0) (x .1) (y .1)
+
+pub machine-ends : (cs : List Call) (o : Opening) (total : ℕ) → history cs ≡ since o total
+    → freeAtStart o ≤ 62 → 2 ^ suc (freeAtStart o) - 1 ≤ total → Finished (leaves cs)
+machine-ends cs o total e = finishes cs o total (leaves-search cs o total e)

@@ -17,7 +17,7 @@ use Rattle.machine.specs.TwoEach.{degree-tour}
 
 module _ (g : Network) (vg : Valid g) (t : Edges) where
   pub test-yes : OneTree g t → ((v : ℕ) → v ∈ upTo (g .n) → degree g t v ≡ 2) → isTour g t ≡ true
-  test-yes o deg = tour-test g t vg (degree-tour g t deg vg o)
+  test-yes o deg = tour-test g t (degree-tour g t deg vg o)
 
   pub test-no : (v : ℕ) → v ∈ upTo (g .n) → degree g t v ≢ 2 → isTour g t ≡ false
-  test-no v m h = by-cases (isTour g t) (λ e. absurd (h (tour-degree g vg t (test-tour g t vg e) v m))) (λ e. e)
+  test-no v m h = by-cases (isTour g t) (λ e. absurd (h (tour-degree g vg t (test-tour g t e) v m))) (λ e. e)

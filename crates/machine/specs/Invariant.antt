@@ -25,7 +25,7 @@ use Rattle.machine.specs.Preserved.{top-law, top-kept, accepts-held, beg
 
 abbrev pub ReachedBy : Progress → Type 0
 ReachedBy s =
-    Reached (tours (network (s .opening .graph))) (marksOf (network (s .opening .graph))) (s .opening .ceiling)
+    Reached (tours (network (s .opening .graph))) (marksOf (network (s .opening .graph))) (s .opening .settings .ceiling)
     (s .upper) (s .stack) (s .incumbent) (s .count)
 
 pub record Good (s : Progress) (total : ℕ) : Type 0 where
@@ -45,7 +45,7 @@ unfolding freeAtStart
 before-last s x rest e r =
     omega (
       arith,
-      budget (tours g) (marksOf g) (s .opening .ceiling) r,
+      budget (tours g) (marksOf g) (s .opening .settings .ceiling) r,
       subst (λ (st : List Marks). 1 ≤ room (tours g) st) (sym e) (room-some (tours g) x rest),
     )
   where
@@ -59,7 +59,7 @@ good-top s total x rest e l h = record {
   kept = top-kept s (h .kept) x rest e l;
   reached =
       next (openNode (s .opening) (s .upper) x) (top-law s (h .kept) x rest e l)
-      (subst (λ (st : List Marks). Reached (tours g) (marksOf g) (s .opening .ceiling) (s .upper) st (s .incumbent) (s .count)) e
+      (subst (λ (st : List Marks). Reached (tours g) (marksOf g) (s .opening .settings .ceiling) (s .upper) st (s .incumbent) (s .count)) e
       (h .reached));
   spent = λ k. inr (ap suc (go (h .spent k)));
 }

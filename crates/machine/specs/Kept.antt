@@ -1,6 +1,7 @@
 -- What holds of every state that the calls leave, and lets a record of fixed size hold it: the arguments are those of an accepted opening,
--- the upper bound is in the ceiling's range, node p of the stack, from the bottom, has at most m − p free edges (so the stack is never
--- deeper than m + 1), and each node and the incumbent have m places. Definitions; Preserved shows that every call keeps it.
+-- the upper bound is in the ceiling's range, the stack is at most n + 2 deep, its node p, from the bottom, has at least p required edges
+-- (which is why: only a node with at most n of them splits), and each node and the incumbent have m places. Definitions; Preserved shows
+-- that every call keeps it.
 use mathlib.Core.Path.{_≡_}
 use mathlib.Core.Bool.{Bool, true}
 use mathlib.Core.List.{List, [], _∷_}
@@ -8,11 +9,12 @@ use Prim.Native.Nat.{ℕ, _+_, _≤_}
 use native.Mathlib.Omega.{arith}
 use lib.ListN.{length}
 use Rattle.integers.specs.Range.{InRange}
-use Rattle.graph.specs.Limits.{maxCeiling, maxSweeps, maxStep, maxCount}
+use Rattle.graph.specs.Limits.{maxVertices, maxCeiling, maxSweeps, maxStep, maxCount}
 use Rattle.graph.specs.Valid.{Valid}
 use Rattle.onetree.specs.Inputs.{multipliersFit}
 use Rattle.machine.specs.Outcomes.{Incumbent, noTour, aTour}
-use Rattle.machine.specs.Machine.{Marks, frees, Opening, Progress, State, noSearch, searching}
+use Rattle.machine.specs.Machine.{Marks, Opening, Progress, State, noSearch, searching}
+use Rattle.machine.specs.Requireds.{requireds}
 use Rattle.machine.specs.Trimmed.{Trim}
 
 pub record Accepted (o : Opening) : Type 0 where
@@ -20,14 +22,14 @@ pub record Accepted (o : Opening) : Type 0 where
   pub valid : Valid (o .graph)
   pub long : length (o .multipliers) ≡ o .graph .n
   pub multipliers : multipliersFit (o .multipliers) ≡ true
-  pub ceiling : InRange maxCeiling (o .ceiling)
-  pub sweeps : o .sweeps ≤ maxSweeps
-  pub step : o .step ≤ maxStep
+  pub ceiling : InRange maxCeiling (o .settings .ceiling)
+  pub sweeps : o .settings .sweeps ≤ maxSweeps
+  pub step : o .settings .step ≤ maxStep
 
 -- the stack's top stands first: below it are as many nodes as its own number, counted from 0
 abbrev pub Nodes : ℕ → List Marks → Type 0
 Nodes m [] = Unit {0}
-Nodes m (x ∷ below) = (length x ≡ m) × (frees x + length below ≤ m) × Nodes m below
+Nodes m (x ∷ below) = (length x ≡ m) × (length below ≤ requireds x) × Nodes m below
 
 abbrev pub Sized : ℕ → Incumbent (List Bool) → Type 0
 Sized m noTour = Unit {0}
@@ -36,6 +38,7 @@ Sized m (aTour r) = (length r ≡ m)
 pub record Kept (s : Progress) : Type 0 where
   pub opening : Accepted (s .opening)
   pub upper : InRange maxCeiling (s .upper)
+  pub depth : length (s .stack) ≤ s .opening .graph .n + 2
   pub nodes : Nodes (s .opening .graph .m) (s .stack)
   pub sized : Sized (s .opening .graph .m) (s .incumbent)
   pub count : s .count ≤ maxCount
@@ -44,7 +47,6 @@ abbrev pub KeptState : State → Type 0
 KeptState noSearch = Unit {0}
 KeptState (searching s) = Kept s
 
--- the stack is never deeper than m + 1
-pub depth : (m : ℕ) (stack : List Marks) → Nodes m stack → length stack ≤ m + 1
-depth m [] n = omega arith
-depth m (x ∷ below) n = omega (arith, n .1)
+-- so the stack is never deeper than 22
+pub depth-most : (s : Progress) → Kept s → length (s .stack) ≤ maxVertices + 2
+depth-most s h = omega (arith, h .depth, h .opening .valid .high)

@@ -1,4 +1,7 @@
--- what a reader must believe: definitions, and the statement
+-- what a reader must believe: definitions (of Orders elem, distinct, fronts and words), and the statement; beside them of onetree OneTree,
+-- Inputs and Enumeration, of graph Limits, Network and Valid, and what these take from the laws: lists' Bools, Members, All, Select, Distinct,
+-- Numbers, Rows and Sets, integers' Range and Sums, spanning's Walks
+pub mod Orders
 pub mod Tours
 pub mod Outcomes
 pub mod Machine
@@ -7,14 +10,15 @@ pub mod Demand3
 -- the general theorem
 pub mod BranchAndBound
 -- a tour is a 1-tree, so document 01's opening obeys the laws
-pub mod Orders
 pub mod Trips
 pub mod TourTree
 pub mod TourTest
 pub mod Branching
+pub mod Requireds
 pub mod NodeTours
 pub mod OpeningLaws
 -- what every state keeps
+pub mod Depth
 pub mod Trimmed
 pub mod Runs
 pub mod Kept
@@ -24,6 +28,8 @@ pub mod Refusals
 pub mod Renumbering
 pub mod Invariant
 pub mod Claim
+pub mod Following
+pub mod WholeLists
 -- what code needs to show that its passes are the machine's
 pub mod Degrees
 pub mod TwoEach

@@ -20,6 +20,7 @@ use Rattle.graph.specs.Network.{Network, Mark, free, required, excluded, place,
 use Rattle.onetree.specs.OneTree.{Edges}
 use Rattle.onetree.specs.Inputs.{multiplier}
 use Rattle.onetree.specs.Enumeration.{Tree, noTree, aTree, leastTree, Ruling, keeps, forces, bars, wasRequired, wasExcluded, ruling}
+use Rattle.machine.specs.declared.Settings.{Settings}
 use Rattle.machine.specs.Tours.{cost, isTour}
 use Rattle.machine.specs.Outcomes.{Outcome, closes, finds, splits, Incumbent, noTour, nextStack, nextIncumbent, nextUpper}
 
@@ -135,13 +136,11 @@ passes g step upper (suc left) d x =
 
 -- ---- the state
 
--- "Opening takes a chart, dues, a ceiling, sweeps (0 to 15) and a step (0 to 10,000)."
+-- "Opening takes a chart, dues, a ceiling, sweeps (0 to 15) and a step (0 to 10,000).": the last three are the settings
 pub record Opening : Type 0 where
   pub graph : Graph
   pub multipliers : List ℤ
-  pub ceiling : ℤ
-  pub sweeps : ℕ
-  pub step : ℕ
+  pub settings : Settings
 
 -- a graph without what counts for nothing: "places past m count for nothing"
 unfoldable pub trimmed : Graph → Graph
@@ -159,14 +158,7 @@ trimmed g =
 -- "the arguments of the accepted opening", as the state holds them
 unfoldable pub held : Opening → Opening
 unfolding trimmed
-held o =
-    record {
-      graph = trimmed (o .graph);
-      multipliers = o .multipliers;
-      ceiling = o .ceiling;
-      sweeps = o .sweeps;
-      step = o .step;
-    }
+held o = record { graph = trimmed (o .graph); multipliers = o .multipliers; settings = o .settings }
 
 -- "the arguments of the accepted opening with the present ceiling U, a pile of waiting nodes, the best round or none, and a count of
 -- nodes opened"; the stack's top stands first
@@ -188,7 +180,7 @@ unfolding marksOf network
 begin o =
     record {
       opening = o;
-      upper = o .ceiling;
+      upper = o .settings .ceiling;
       stack = marksOf (network (o .graph)) ∷ [];
       incumbent = noTour;
       count = 0;
@@ -213,7 +205,7 @@ lowered g r = costOf g r -ℤ pos 1
 -- "dues set to the opening ones, then passes 0 to 'sweeps'"
 unfoldable pub openNode : Opening → ℤ → Marks → Opened
 unfolding network passes
-openNode o upper x = passes (network (o .graph)) (o .step) upper (o .sweeps) (o .multipliers) x
+openNode o upper x = passes (network (o .graph)) (o .settings .step) upper (o .settings .sweeps) (o .multipliers) x
 
 -- what the opening of the top node makes of a search; rest are the nodes below it
 unfoldable pub settled : Progress → List Marks → Opened → Progress

@@ -11,7 +11,7 @@ use Rattle.lists.specs.Bools.{by-cases}
 use Rattle.lists.specs.Members.{_∈_}
 use Rattle.lists.specs.Select.{select-cong}
 use Rattle.lists.specs.Numbers.{upTo}
-use Rattle.lists.specs.Rows.{row, row-size, row-at, row-of}
+use Rattle.lists.specs.Rows.{row-size, row-at}
 use Rattle.integers.specs.Order.{le-trans, less-one-le, le-lt-clash}
 use Rattle.integers.specs.Sums.{sumZ}
 use Rattle.graph.specs.Network.{Network, Mark, free, required, excluded}
@@ -25,7 +25,8 @@ use Rattle.machine.specs.Tours.{Joined, Trip, Tour, Allowed, cost}
 use Rattle.machine.specs.Machine.{Marks, withMarks, frees, markBy, applied, edgesOf, costOf, lowered}
 use Rattle.machine.specs.BranchAndBound.{Problem}
 use Rattle.machine.specs.TourTree.{tour-tree, bound-is-cost}
-use Rattle.machine.specs.Branching.{frees-fewer}
+use Rattle.machine.specs.Branching.{row-marks, frees-fewer}
+use Rattle.machine.specs.Requireds.{requireds, requireds-more}
 
 -- ---- a mark lets an edge be in (true) or out (false)
 
@@ -163,6 +164,9 @@ ruled-free required b f h = h
 ruled-free excluded b f h = h
 ruled-free free b f h = refl
 
+required-ruled : (x : Mark) (b f : Bool) → x ≡ required → markBy (ruled x b f) ≡ required
+required-ruled x b f h = rw h
+
 pub applied-length : (g : Network) (d : ℕ → ℤ) (upper : ℤ) → length (applied g d upper) ≡ g .m
 unfolding applied
 applied-length g d upper = row-size (g .m) (λ k. markBy (ruling g d upper k))
@@ -235,9 +239,14 @@ module _ (g : Network) (vg : Valid g) (x : Marks) where
     pub ruled-frees : length x ≡ g .m → frees (applied (withMarks g x) d upper) ≤ frees x
     unfolding applied withMarks ruling m b f
     ruled-frees e =
-        subst (λ (z : Marks). frees (applied (withMarks g x) d upper) ≤ frees z) whole
+        subst (λ (z : Marks). frees (applied (withMarks g x) d upper) ≤ frees z) (row-marks (g .m) x e)
         (frees-fewer (g .m) (λ k. markBy (ruling (withMarks g x) d upper k)) (λ k. getD (free ∷ x) k free)
         (λ j h i. ruled-free (m j) (b j) (f j) i))
-      where
-        whole : row (g .m) (λ k. getD (free ∷ x) k free) ≡ x
-        whole = subst (λ (n : ℕ). row n (λ k. getD (free ∷ x) k free) ≡ x) e (row-of x free)
+
+    -- nor unmark a required one
+    pub ruled-requireds : length x ≡ g .m → requireds x ≤ requireds (applied (withMarks g x) d upper)
+    unfolding applied withMarks ruling m b f
+    ruled-requireds e =
+        subst (λ (z : Marks). requireds z ≤ requireds (applied (withMarks g x) d upper)) (row-marks (g .m) x e)
+        (requireds-more (g .m) (λ k. getD (free ∷ x) k free) (λ k. markBy (ruling (withMarks g x) d upper k))
+        (λ j h i. required-ruled (m j) (b j) (f j) i))

@@ -161,14 +161,14 @@ module _ (g : Network) (vg : Valid g) (upper : ℤ) where
             (subst (λ (z : ℤ). z ≤ℤ upper) (h .0 ∙ same) l) (λ s i. subst (λ (z : ℤ). z ≤ℤ cost g s) same (least-cost t (h .1) s i))
           where
             o : Tour g t
-            o = marks-tour g x t (test-tour (withMarks g x) t (valid-marks g x vg) e)
+            o = marks-tour g x t (test-tour (withMarks g x) t e)
 
             same : bound (withMarks g x) d t ≡ cost g t
-            same = cost-bound g vg x t (marks-tour g x t (test-tour (withMarks g x) t (valid-marks g x vg) e)) d
+            same = cost-bound g vg x t (marks-tour g x t (test-tour (withMarks g x) t e)) d
         second false e l = (
           refl,
           tree-agrees g vg x d upper t (h .1 .tree) (subst (λ (z : ℤ). z ≤ℤ upper) (h .0) l),
-          λ o. true≢false (sym (tour-test (withMarks g x) t (valid-marks g x vg) (tour-marks g x t o)) ∙ e),
+          λ o. true≢false (sym (tour-test (withMarks g x) t (tour-marks g x t o)) ∙ e),
         )
 
         first : (v : Bool) → ltZ upper b ≡ v → Passed (cond v shut (cond (isTour (withMarks g x) t) (found t) (unclosed t after)))

@@ -11,14 +11,14 @@ use lib.ListN.{length}
 use borrow.Author.Tests.{eqb-true, eq-eqb, not-true}
 use Rattle.lists.specs.Bools.{and-both, by-cases}
 use Rattle.lists.specs.Members.{_∈_, in-left, in-right, in-either, in-map, of-map}
-use Rattle.lists.specs.All.{any, any-in, in-any}
+use Rattle.lists.specs.All.{someOf, someOf-in, in-someOf}
 use Rattle.lists.specs.Distinct.{Distinct}
 
 -- ---- membership and repetition as tests
 
 unfoldable pub elem : ℕ → List ℕ → Bool
-unfolding any
-elem k xs = any (eqb k) xs
+unfolding someOf
+elem k xs = someOf (eqb k) xs
 
 unfoldable pub distinct : List ℕ → Bool
 unfolding elem
@@ -27,12 +27,12 @@ distinct (x ∷ xs) = not (elem x xs) && distinct xs
 
 pub elem-in : (k : ℕ) (xs : List ℕ) → k ∈ xs → elem k xs ≡ true
 unfolding elem
-elem-in k xs m = in-any (eqb k) xs k m (eq-eqb k k refl)
+elem-in k xs m = in-someOf (eqb k) xs k m (eq-eqb k k refl)
 
 pub in-elem : (k : ℕ) (xs : List ℕ) → elem k xs ≡ true → k ∈ xs
 unfolding elem
 in-elem k xs h =
-    let r = any-in (eqb k) xs h in
+    let r = someOf-in (eqb k) xs h in
     subst (λ (j : ℕ). j ∈ xs) (sym (eqb-true k (r .0) (r .2))) (r .1)
 
 pub not-elem : (k : ℕ) (xs : List ℕ) → ¬ (k ∈ xs) → elem k xs ≡ false

@@ -3,7 +3,7 @@ use mathlib.Core.Path.{_≡_, refl, _∙_, subst}
 use mathlib.Core.Logic.{inl, inr}
 use mathlib.Core.Bool.{Bool, true, false, not, cond, _&&_}
 use mathlib.Core.List.{List, [], _∷_}
-use Prim.Native.Nat.{ℕ, zero, suc, _*_, _≤_, _<_}
+use Prim.Native.Nat.{ℕ, zero, suc, _+_, _*_, _≤_, _<_}
 use native.Mathlib.Omega.{arith}
 use lib.Dec.{eqb, leb, ltb}
 use lib.ListN.{length, length-set}
@@ -35,11 +35,12 @@ use Rattle.machine.specs.Machine.{firstFree}
 use Rattle.machine.specs.Machine.{branch, concluded, passes, Opening, trimmed, held, Progress, State, noSearch, searching, begin}
 use Rattle.machine.specs.Machine.{edgesOf, costOf, lowered, openNode, settled, openTop, finished, ran}
 use Rattle.machine.specs.Calls.{Call, opens, run, tell, show, close, fault, openedBy, runBy, shownBy, step}
+use Rattle.machine.specs.Calls.{stateAfter, leaves}
 use Rattle.machine.specs.Runs.{ran-keeps}
 use Rattle.machine.specs.Trimmed.{trimmed-trim, trimmed-valid}
-use Rattle.machine.specs.Branching.{frees-most}
 use Rattle.machine.specs.NodeTours.{applied-length}
 use Rattle.machine.specs.OpeningLaws.{Law, passes-law}
+use Rattle.machine.specs.Depth.{Shallow, passes-shallow}
 use Rattle.machine.specs.Kept.{Accepted, Nodes, Kept, KeptState}
 
 -- ---- the range of a tour's cost, less 1
@@ -73,7 +74,7 @@ lowered-range g v r o = record {
     each k m = go (edge-of (g .m) k (unfold network in select-in (edgesOf r) (upTo (network g .m)) k m .0))
       where
         go : (j : ℕ) × (j < g .m) × (k ≡ suc j) → InRange maxCost (network g .cost k)
-        go e = rw (e .2, network-cost g (e .0) (e .1)) (v .each (e .0) (e .1) .range)
+        go e = rw (e .2, network-cost g (e .0) (e .1)) (within-range maxCost _ (v .each (e .0) (e .1) .range))
 
     sums : (up (sumZ (network g .cost) es) ≤ maxCost * length es) × (dn (sumZ (network g .cost) es) ≤ maxCost * length es)
     sums = sum-range (network g .cost) es each
@@ -139,36 +140,55 @@ module _ (s : Progress) (h : Kept s) (x : Marks) (rest : List Marks) (e : s .sta
       (openNode (s .opening) (s .upper) x)
   unfolding openNode
   top-law =
-      passes-law (network (s .opening .graph)) (network-valid (s .opening .graph) (h .opening .valid)) (s .upper) (s .opening .step)
-      (s .opening .sweeps) (s .opening .multipliers) x (unfold network in waiting .0)
+      passes-law (network (s .opening .graph)) (network-valid (s .opening .graph) (h .opening .valid)) (s .upper) (s .opening .settings .step)
+      (s .opening .settings .sweeps) (s .opening .multipliers) x (unfold network in waiting .0)
 
   top-long : Long (s .opening .graph .m) (openNode (s .opening) (s .upper) x)
   unfolding openNode network
   top-long =
-      passes-long (network (s .opening .graph)) (s .opening .step) (s .upper) (s .opening .sweeps) (s .opening .multipliers) x
+      passes-long (network (s .opening .graph)) (s .opening .settings .step) (s .upper) (s .opening .settings .sweeps) (s .opening .multipliers) x
 
-  settled-kept : (out : Opened) → Long (s .opening .graph .m) out
+  -- and it splits only where there is room for both halves
+  top-shallow : Shallow (s .opening .graph .n) x (openNode (s .opening) (s .upper) x)
+  unfolding openNode network
+  top-shallow =
+      passes-shallow (network (s .opening .graph)) (network-valid (s .opening .graph) (h .opening .valid)) (s .upper) (s .opening .settings .step)
+      (s .opening .settings .sweeps) (s .opening .multipliers) x (waiting .0)
+
+  below : suc (length rest) ≤ s .opening .graph .n + 2
+  below = subst (λ (st : List Marks). length st ≤ s .opening .graph .n + 2) e (h .depth)
+
+  settled-kept : (out : Opened) → Long (s .opening .graph .m) out → Shallow (s .opening .graph .n) x out
       → Law (network (s .opening .graph)) (network-valid (s .opening .graph) (h .opening .valid)) (s .upper) x out
       → Kept (settled s rest out)
   unfolding settled
-  settled-kept closes z w =
-      record { opening = h .opening; upper = h .upper; nodes = waiting .2; sized = h .sized; count = l }
-  settled-kept (finds r) z w =
+  settled-kept closes z v w =
+      record {
+        opening = h .opening;
+        upper = h .upper;
+        depth = omega (arith, below);
+        nodes = waiting .2;
+        sized = h .sized;
+        count = l;
+      }
+  settled-kept (finds r) z v w =
       record {
         opening = h .opening;
         upper = lowered-range (s .opening .graph) (h .opening .valid) r (w .inside .tour);
+        depth = omega (arith, below);
         nodes = waiting .2;
         sized = z;
         count = l;
       }
-  settled-kept (splits out into) z w =
+  settled-kept (splits out into) z v w =
       record {
         opening = h .opening;
         upper = h .upper;
+        depth = omega (arith, v .most, waiting .1);
         nodes = (
           z .1,
-          omega (arith, w .smaller-into, waiting .1),
-          (z .0, omega (arith, w .smaller-out, waiting .1), waiting .2),
+          omega (arith, v .of-into, waiting .1),
+          (z .0, omega (arith, v .of-out, waiting .1), waiting .2),
         );
         sized = h .sized;
         count = l;
@@ -176,7 +196,7 @@ module _ (s : Progress) (h : Kept s) (x : Marks) (rest : List Marks) (e : s .sta
 
   pub top-kept : Kept (openTop s (x ∷ rest))
   unfolding openTop
-  top-kept = settled-kept (openNode (s .opening) (s .upper) x) top-long top-law
+  top-kept = settled-kept (openNode (s .opening) (s .upper) x) top-long top-shallow top-law
 
 pub ran-kept : (budget : ℕ) (s : Progress) → Kept s → Kept (ran budget s)
 ran-kept = ran-keeps Kept (λ s x rest e l h. top-kept s h x rest e l)
@@ -190,17 +210,17 @@ accepts-held o h =
     let e15 = cond-zero (not (value.valid (o .graph))) 15 _ (omega arith) h in
     let e11 = cond-zero (not (eqb (length (o .multipliers)) (o .graph .n))) 11 _ (omega arith) (e15 .1) in
     let e12 = cond-zero (not (multipliersFit (o .multipliers))) 12 _ (omega arith) (e11 .1) in
-    let e13 = cond-zero (not (ceilingFits (o .ceiling))) 13 _ (omega arith) (e12 .1) in
-    let e14 = cond-zero (not (leb (o .sweeps) maxSweeps && leb (o .step) maxStep)) 14 0 (omega arith) (e13 .1) in
-    let both = and-both (leb (o .sweeps) maxSweeps) (leb (o .step) maxStep) (not-false _ (e14 .0)) in
+    let e13 = cond-zero (not (ceilingFits (o .settings .ceiling))) 13 _ (omega arith) (e12 .1) in
+    let e14 = cond-zero (not (leb (o .settings .sweeps) maxSweeps && leb (o .settings .step) maxStep)) 14 0 (omega arith) (e13 .1) in
+    let both = and-both (leb (o .settings .sweeps) maxSweeps) (leb (o .settings .step) maxStep) (not-false _ (e14 .0)) in
     record {
       trim = trimmed-trim (o .graph);
       valid = trimmed-valid (o .graph) (valid-true (o .graph) (not-false _ (e15 .0)));
       long = eqb-true (length (o .multipliers)) (o .graph .n) (not-false _ (e11 .0));
       multipliers = not-false _ (e12 .0);
-      ceiling = within-range maxCeiling (o .ceiling) (not-false _ (e13 .0));
-      sweeps = leb-true (o .sweeps) maxSweeps (both .0);
-      step = leb-true (o .step) maxStep (both .1);
+      ceiling = within-range maxCeiling (o .settings .ceiling) (not-false _ (e13 .0));
+      sweeps = leb-true (o .settings .sweeps) maxSweeps (both .0);
+      step = leb-true (o .settings .step) maxStep (both .1);
     }
 
 pub begin-kept : (o : Opening) → Accepted o → Kept (begin o)
@@ -208,11 +228,8 @@ unfolding begin marksOf network
 begin-kept o a = record {
   opening = a;
   upper = a .ceiling;
-  nodes = (
-    row-size (o .graph .m) (network (o .graph) .mark),
-    omega (arith, frees-most (marksOf (network (o .graph))), row-size (o .graph .m) (network (o .graph) .mark)),
-    tt,
-  );
+  depth = omega arith;
+  nodes = (row-size (o .graph .m) (network (o .graph) .mark), omega arith, tt);
   sized = tt;
   count = omega arith;
 }
@@ -244,3 +261,15 @@ step-kept (searching s) (run budget) h = ran-kept budget s h
 step-kept (searching s) tell h = h
 step-kept (searching s) (show l) h = rw (show-state s l (finished s) (s .incumbent)) h
 step-kept (searching s) close h = tt
+
+-- ---- lists of calls
+
+calls-kept : (cs : List Call) (s : State) → KeptState s → KeptState (stateAfter s cs)
+unfolding stateAfter
+calls-kept [] s h = h
+calls-kept (c ∷ cs) s h = calls-kept cs (step s c .state) (step-kept s c h)
+
+-- EVERY LIST OF CALLS on a fresh record leaves such a state
+pub leaves-kept : (cs : List Call) → KeptState (leaves cs)
+unfolding leaves
+leaves-kept cs = calls-kept cs noSearch tt

@@ -15,7 +15,7 @@ use Rattle.onetree.specs.Inputs.{multipliersFit, ceilingFits}
 use Rattle.machine.specs.Outcomes.{Incumbent, noTour, aTour}
 use Rattle.machine.specs.Machine.{Opening, Progress, State, noSearch, searching, finished}
 use Rattle.machine.specs.Calls.{Call, opens, run, tell, show, close, refused, accepted, Reply, lentBy, refuses, fault, openedBy}
-use Rattle.machine.specs.Calls.{runBy, bytes, shownBy, step}
+use Rattle.machine.specs.Calls.{runBy, tourBytes, shownBy, step}
 
 -- "20 no hunt is open ..; 21 one is open (opening); 22 show while going on; 23 show after 'none'."
 abbrev pub unfit : List ℕ
@@ -50,8 +50,8 @@ fault-known o =
     number-in (not (valid (o .graph))) 15 _ (11 ∷ 12 ∷ 13 ∷ 14 ∷ [])
     (number-in (not (eqb (length (o .multipliers)) (o .graph .n))) 11 _ (12 ∷ 13 ∷ 14 ∷ [])
     (number-in (not (multipliersFit (o .multipliers))) 12 _ (13 ∷ 14 ∷ [])
-    (number-in (not (ceilingFits (o .ceiling))) 13 _ (14 ∷ [])
-    (number-in (not (leb (o .sweeps) maxSweeps && leb (o .step) maxStep)) 14 0 []
+    (number-in (not (ceilingFits (o .settings .ceiling))) 13 _ (14 ∷ [])
+    (number-in (not (leb (o .settings .sweeps) maxSweeps && leb (o .settings .step) maxStep)) 14 0 []
     (λ k e. absurd (let z : 0 ≡ suc k = e in omega arith))))))
 
 open-refused : (o : Opening) (k : ℕ) → fault o ≡ k → (number place : ℕ) → openedBy o k .answer ≡ refused number place
@@ -69,7 +69,7 @@ show-refused s l true noTour number place e = refusal (searching s) (show l) 23 
 show-refused s l true (aTour r) number place e = go (eqb (length l) (s .opening .graph .m)) e
   where
     shows : Reply
-    shows = record { state = searching s; answer = accepted; lent = bytes r }
+    shows = record { state = searching s; answer = accepted; lent = tourBytes r }
 
     go : (b : Bool) → cond b shows (refuses (searching s) (show l) 11) .answer ≡ refused number place
         → Refusal (searching s) (show l) (cond b shows (refuses (searching s) (show l) 11)) number place

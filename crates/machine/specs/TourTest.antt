@@ -1,25 +1,39 @@
 -- The machine's test for a tour passes exactly the tours.
 use mathlib.Core.Path.{_≡_, refl}
 use mathlib.Core.Logic.{_⊎_, inl, inr}
-use mathlib.Core.Bool.{Bool, true, false, _&&_, _||_, false≢true}
+use mathlib.Core.Bool.{Bool, true, false, not, _&&_, _||_, false≢true}
 use mathlib.Core.List.{List, [], _∷_}
-use Prim.Native.Nat.{ℕ, _-_}
+use Prim.Native.Nat.{ℕ, _-_, _≤_}
 use native.Mathlib.Omega.{arith}
+use native.Mathlib.Decide.{decLe}
 use lib.Dec.{eqb}
 use lib.ListN.{length}
 use borrow.Author.Tests.{eqb-true, eq-eqb}
 use Rattle.lists.specs.Bools.{and-both, or-case, or-left, or-right}
 use Rattle.lists.specs.Members.{_∈_}
-use Rattle.lists.specs.All.{any, any-in, in-any}
+use Rattle.lists.specs.All.{someOf, someOf-in, in-someOf}
 use Rattle.lists.specs.Select.{select}
 use Rattle.lists.specs.Numbers.{upTo}
+use Rattle.lists.specs.Same.{shuffle-same, shuffle-length}
 use Rattle.integers.specs.Sums.{Whole, fills}
 use Rattle.graph.specs.Network.{Network}
 use Rattle.onetree.specs.OneTree.{Edges, others}
-use Rattle.onetree.specs.Valid.{Valid, length-others}
+use Rattle.onetree.specs.Valid.{length-others, distinct-others}
 use Rattle.machine.specs.Orders.{distinct, distinct-is, is-distinct, words, words-in, in-words}
 use Rattle.machine.specs.Tours.{Ends, Joined, Trip, Tour, isJoined, isTrip, isTour}
-use Rattle.machine.specs.TourTree.{order-length}
+
+no-others : (n : ℕ) → n ≡ 0 → length (select (λ v. not (eqb v 1)) (upTo n)) ≡ n - 1
+unfolding select upTo
+no-others n e = rw e refl
+
+-- how many vertices there are other than vertex 1
+others-size : (g : Network) → length (others g) ≡ g .n - 1
+unfolding others
+others-size g = go (decLe 1 (g .n))
+  where
+    go : Dec (1 ≤ g .n) → length (others g) ≡ g .n - 1
+    go (yes h) = omega (arith, length-others g h)
+    go (no h) = no-others (g .n) (omega arith)
 
 module _ (g : Network) (t : Edges) where
   isEnds : ℕ → ℕ → ℕ → Bool
@@ -46,14 +60,14 @@ module _ (g : Network) (t : Edges) where
   joined-is : (u v : ℕ) → isJoined g t u v ≡ true → Joined g t u v
   unfolding isJoined isEnds
   joined-is u v h =
-      let r = any-in (λ k. t k && isEnds u v k) (upTo (g .m)) h in
+      let r = someOf-in (λ k. t k && isEnds u v k) (upTo (g .m)) h in
       let s = and-both (t (r .0)) (isEnds u v (r .0)) (r .2) in
       record { edge = r .0; listed = r .1; taken = s .0; ends = ends-is (r .0) u v (s .1) }
 
   is-joined : (u v : ℕ) → Joined g t u v → isJoined g t u v ≡ true
   unfolding isJoined isEnds
   is-joined u v j =
-      in-any (λ k. t k && isEnds u v k) (upTo (g .m)) (j .edge) (j .listed) (rw (j .taken) (is-ends (j .edge) u v (j .ends)))
+      in-someOf (λ k. t k && isEnds u v k) (upTo (g .m)) (j .edge) (j .listed) (rw (j .taken) (is-ends (j .edge) u v (j .ends)))
 
   trip-is : (u : ℕ) (vs : List ℕ) (w : ℕ) → isTrip g t u vs w ≡ true → Trip g t u vs w
   unfolding isTrip
@@ -70,9 +84,9 @@ module _ (g : Network) (t : Edges) where
   is-trip u [] w j = is-joined u w j
   is-trip u (v ∷ vs) w j = rw (is-joined u v (j .0), isTrip) (is-trip v vs w (j .1))
 
-  pub test-tour : Valid g → isTour g t ≡ true → Tour g t
+  pub test-tour : isTour g t ≡ true → Tour g t
   unfolding isTour
-  test-tour vg h = record {
+  test-tour h = record {
     number = eqb-true (length (select t (upTo (g .m)))) (g .n) (p .0);
     order = r .0;
     once = distinct-is (r .0) (s .0);
@@ -83,11 +97,11 @@ module _ (g : Network) (t : Edges) where
       tried : List ℕ → Bool
       tried vs = distinct vs && isTrip g t 1 vs 1
 
-      p : (eqb (length (select t (upTo (g .m)))) (g .n) ≡ true) × (any tried (words (g .n - 1) (others g)) ≡ true)
-      p = and-both (eqb (length (select t (upTo (g .m)))) (g .n)) (any tried (words (g .n - 1) (others g))) h
+      p : (eqb (length (select t (upTo (g .m)))) (g .n) ≡ true) × (someOf tried (words (g .n - 1) (others g)) ≡ true)
+      p = and-both (eqb (length (select t (upTo (g .m)))) (g .n)) (someOf tried (words (g .n - 1) (others g))) h
 
       r : (vs : List ℕ) × (vs ∈ words (g .n - 1) (others g)) × (distinct vs && isTrip g t 1 vs 1 ≡ true)
-      r = any-in tried (words (g .n - 1) (others g)) (p .1)
+      r = someOf-in tried (words (g .n - 1) (others g)) (p .1)
 
       s : (distinct (r .0) ≡ true) × (isTrip g t 1 (r .0) 1 ≡ true)
       s = and-both (distinct (r .0)) (isTrip g t 1 (r .0) 1) (r .2)
@@ -98,12 +112,15 @@ module _ (g : Network) (t : Edges) where
       whole : Whole (r .0) (others g)
       whole =
           fills (r .0) (others g) (distinct-is (r .0) (s .0)) (word .1)
-          (omega (arith, word .0, length-others g (omega (arith, vg .big))))
+          (omega (arith, word .0, others-size g))
 
-  pub tour-test : Valid g → Tour g t → isTour g t ≡ true
+  pub tour-test : Tour g t → isTour g t ≡ true
   unfolding isTour
-  tour-test vg o =
+  tour-test o =
       rw (eq-eqb (length (select t (upTo (g .m)))) (g .n) (o .number))
-      (in-any (λ vs. distinct vs && isTrip g t 1 vs 1) (words (g .n - 1) (others g)) (o .order)
-      (words-in (g .n - 1) (others g) (o .order) (omega (arith, order-length g vg t o)) (λ v m. o .calls v .0 m))
+      (in-someOf (λ vs. distinct vs && isTrip g t 1 vs 1) (words (g .n - 1) (others g)) (o .order)
+      (words-in (g .n - 1) (others g) (o .order) (omega (arith, size, others-size g)) (λ v m. o .calls v .0 m))
       (rw (is-distinct (o .order) (o .once)) (is-trip 1 (o .order) 1 (o .trip))))
+    where
+      size : length (others g) ≡ length (o .order)
+      size = shuffle-length (shuffle-same (o .order) (others g) (o .once) (distinct-others g) (λ v m. o .calls v .0 m) (λ v m. o .calls v .1 m))

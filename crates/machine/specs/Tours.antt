@@ -10,7 +10,7 @@ use lib.ListN.{length}
 use lib.IntN.{ℤ}
 use lib.Signed.{_≤ℤ_}
 use Rattle.lists.specs.Members.{_∈_}
-use Rattle.lists.specs.All.{any}
+use Rattle.lists.specs.All.{someOf}
 use Rattle.lists.specs.Select.{select}
 use Rattle.lists.specs.Distinct.{Distinct}
 use Rattle.lists.specs.Numbers.{upTo}
@@ -65,9 +65,9 @@ pub record Feasible (g : Network) (ceiling : ℤ) (t : Edges) : Type 0 where
 -- ---- as a test: every order of the other vertices is tried
 
 unfoldable pub isJoined : Network → Edges → ℕ → ℕ → Bool
-unfolding any upTo
+unfolding someOf upTo
 isJoined g t u v =
-    any (λ k. t k && ((eqb (g .a k) u && eqb (g .b k) v) || (eqb (g .a k) v && eqb (g .b k) u))) (upTo (g .m))
+    someOf (λ k. t k && ((eqb (g .a k) u && eqb (g .b k) v) || (eqb (g .a k) v && eqb (g .b k) u))) (upTo (g .m))
 
 unfoldable pub isTrip : Network → Edges → ℕ → List ℕ → ℕ → Bool
 unfolding isJoined
@@ -75,7 +75,7 @@ isTrip g t u [] w = isJoined g t u w
 isTrip g t u (v ∷ vs) w = elim (isJoined g t u v) [ true ↦ isTrip g t v vs w | false ↦ false ]
 
 unfoldable pub isTour : Network → Edges → Bool
-unfolding select upTo any words others distinct isTrip
+unfolding select upTo someOf words others distinct isTrip
 isTour g t =
     eqb (length (select t (upTo (g .m)))) (g .n)
-    && any (λ vs. distinct vs && isTrip g t 1 vs 1) (words (g .n - 1) (others g))
+    && someOf (λ vs. distinct vs && isTrip g t 1 vs 1) (words (g .n - 1) (others g))

@@ -7,7 +7,7 @@ use Rattle.search.proofs.Answer as B
 use Rattle.search.proofs.Answer.Laws as B′
 use Rattle.search.proofs.Outcome as R
 use Rattle.search.proofs.Outcome.Laws as R′
-use Rattle.search.proofs.Thin.{Lent, Ans, Pair}
+use Rattle.thin.specs.Parts.{Lent, Ans, Pair}
 
 abbrev pub search : Lent
 search = record { S = S.the-type; S-laws = S′.the-laws; S-plain = S′.the-plain; S-copy = S′.the-copy }

@@ -30,21 +30,15 @@ accepted-fault o a =
       true-valid (o .graph) (a .valid),
       eq-eqb (length (o .multipliers)) (o .graph .n) (a .long),
       a .multipliers,
-      range-fits (o .ceiling) (a .ceiling),
-      le-leb (o .sweeps) maxSweeps (a .sweeps),
-      le-leb (o .step) maxStep (a .step),
+      range-fits (o .settings .ceiling) (a .ceiling),
+      le-leb (o .settings .sweeps) maxSweeps (a .sweeps),
+      le-leb (o .settings .step) maxStep (a .step),
     )
 
 -- what the state holds of an opening is that opening, where its graph has nothing past its edges
 pub held-same : (o : Opening) → Trim (o .graph) → held o ≡ o
 unfolding held
-held-same o t = λ i. record {
-  graph = trim-trimmed (o .graph) t i;
-  multipliers = o .multipliers;
-  ceiling = o .ceiling;
-  sweeps = o .sweeps;
-  step = o .step;
-}
+held-same o t = λ i. record { graph = trim-trimmed (o .graph) t i; multipliers = o .multipliers; settings = o .settings }
 
 pub fault-accepted : (o : Opening) → Trim (o .graph) → fault o ≡ 0 → Accepted o
 fault-accepted o t h = subst Accepted (held-same o t) (accepts-held o h)

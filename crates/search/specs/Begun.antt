@@ -1,7 +1,6 @@
 -- The record that an accepted opening leaves, from what its code makes: the trimmed graph, the padded multipliers, and one node in the
 -- stack's bytes. Assumes nothing.
 use mathlib.Core.Path.{_≡_, refl, sym, ap, _∙_, subst}
-use mathlib.Core.Bool.{true, false}
 use mathlib.Core.List.{List, [], _∷_}
 use Prim.Native.Nat.{ℕ, suc, _<_}
 use native.Mathlib.Omega.{arith}
@@ -63,38 +62,36 @@ node-bytes g v t =
 -- the search that an opening begins, written out
 begins : Opening → Progress
 begins o =
-    record { opening = o; upper = o .ceiling; stack = marksOf (network (o .graph)) ∷ []; incumbent = noTour; count = 0 }
+    record { opening = o; upper = o .settings .ceiling; stack = marksOf (network (o .graph)) ∷ []; incumbent = noTour; count = 0 }
 
 begins-is : (o : Opening) → begins o ≡ begin o
 unfolding begins begin
 begins-is o = refl
 
 holds : Opening → Opening
-holds o = openingOf (trimmed (o .graph)) (o .multipliers) (o .ceiling) (o .sweeps) (o .step)
+holds o = openingOf (trimmed (o .graph)) (o .multipliers) (o .settings)
 
 holds-is : (o : Opening) → holds o ≡ held o
 unfolding holds held
 holds-is o = refl
 
 module _ (o : Opening) (h : fault o ≡ 0) (g : Graph) (eg : g ≡ trimmed (o .graph)) (d : List ℤ)
-    (ed : d ≡ fit maxVertices (pos 0) (o .multipliers)) (ceiling : ℤ) (ec : ceiling ≡ o .ceiling) (l : List ℕ)
+    (ed : d ≡ fit maxVertices (pos 0) (o .multipliers)) (ceiling : ℤ) (ec : ceiling ≡ o .settings .ceiling) (l : List ℕ)
     (put : Put 0 maxEdges (g .mark) (replicate stackSize 0) l) where
   -- what the code makes
   abbrev pub made : Search
   made =
       record {
-        «open» = true;
+        settings = o .settings;
+        upper = ceiling;
+        count = 0;
+        depth = 1;
         graph = g;
         multipliers = d;
-        ceiling = ceiling;
-        sweeps = o .sweeps;
-        step = o .step;
-        upper = ceiling;
-        depth = 1;
         stack = l;
-        «has_best» = false;
         best = replicate maxEdges 0;
-        count = 0;
+        «open» = 1;
+        «has_best» = 0;
       }
 
   marks : g .mark ≡ bytesOf (marksOf (network (trimmed (o .graph))))
@@ -110,18 +107,16 @@ module _ (o : Opening) (h : fault o ≡ 0) (g : Graph) (eg : g ≡ trimmed (o .g
   made-is : made ≡ recordOf (begins (holds o))
   unfolding recordOf begins holds hasBest bestBytes
   made-is = λ i. record {
-    «open» = true;
+    settings = o .settings;
+    upper = ec i;
+    count = 0;
+    depth = 1;
     graph = eg i;
     multipliers = ed i;
-    ceiling = ec i;
-    sweeps = o .sweeps;
-    step = o .step;
-    upper = ec i;
-    depth = 1;
     stack = stack i;
-    «has_best» = false;
     best = replicate maxEdges 0;
-    count = 0;
+    «open» = 1;
+    «has_best» = 0;
   }
 
   pub begun : made ≡ recordOf (begin (held o))

@@ -11,9 +11,9 @@ use lib.IntN.{pos}
 use Rattle.graph.specs.Limits.{maxVertices, maxEdges, maxMark, maxCount}
 use Rattle.graph.specs.declared.Graph.{Graph}
 use Rattle.onetree.specs.Inputs.{ceilingFits}
-use Rattle.machine.specs.Machine.{frees}
+use Rattle.machine.specs.Requireds.{requireds}
 use Rattle.machine.specs.Calls.{fault}
-use Rattle.search.specs.Record.{maxNodes, node, openingIn}
+use Rattle.search.specs.Record.{maxNodes, noSettings, node, isOpen, hasTour, openingIn}
 use Rattle.search.specs.declared.Search.{Search}
 
 -- ---- places that are not used are zero
@@ -45,25 +45,23 @@ pub record Tidy (s : Search) : Type 0 where
   pub multipliers : Zeros (pos 0) maxVertices (s .graph .n) (s .multipliers)
   pub stack : StackTidy (s .graph .m) (s .depth) (s .stack)
   -- past m where there is an incumbent, and everywhere where there is none
-  pub best : Zeros 0 maxEdges (cond (s .«has_best») (s .graph .m) 0) (s .best)
+  pub best : Zeros 0 maxEdges (cond (hasTour s) (s .graph .m) 0) (s .best)
 
 -- ---- no search is open: with `Tidy`, this is the fresh record
 pub record Idle (s : Search) : Type 0 where
   pub n : s .graph .n ≡ 0
   pub m : s .graph .m ≡ 0
-  pub ceiling : s .ceiling ≡ pos 0
-  pub sweeps : s .sweeps ≡ 0
-  pub step : s .step ≡ 0
+  pub settings : s .settings ≡ noSettings
   pub upper : s .upper ≡ pos 0
   pub depth : s .depth ≡ 0
-  pub best : s .«has_best» ≡ false
+  pub best : hasTour s ≡ false
   pub count : s .count ≡ 0
 
 -- ---- a search is open
 
--- node p has marks only, and at most m − p free edges
+-- node p has marks only, and at least p required edges
 abbrev pub NodeFits : ℕ → List ℕ → ℕ → Type 0
-NodeFits m l p = ((j : ℕ) → j < m → getD l (maxEdges * p + j) 0 ≤ maxMark) × (frees (node m l p) + p ≤ m)
+NodeFits m l p = ((j : ℕ) → j < m → getD l (maxEdges * p + j) 0 ≤ maxMark) × (p ≤ requireds (node m l p))
 
 abbrev pub StackFits : ℕ → ℕ → List ℕ → Type 0
 StackFits m depth l = (p : ℕ) → p < depth → NodeFits m l p
@@ -75,10 +73,15 @@ pub record Fits (s : Search) : Type 0 where
   -- the arguments are such as an opening accepts: none of 15, 11, 12, 13, 14
   pub opening : fault (openingIn s) ≡ 0
   pub upper : ceilingFits (s .upper) ≡ true
-  pub depth : s .depth ≤ s .graph .m + 1
+  pub depth : s .depth ≤ s .graph .n + 2
   pub stack : StackFits (s .graph .m) (s .depth) (s .stack)
   pub best : Bits (s .best)
   pub count : s .count ≤ maxCount
+
+-- ---- the flags are Booleans
+pub record Flags (s : Search) : Type 0 where
+  pub «open» : s .«open» ≤ 1
+  pub best : s .«has_best» ≤ 1
 
 -- ---- the check
 
@@ -87,5 +90,6 @@ Stands true s = Fits s
 Stands false s = Idle s
 
 pub record Canonical (s : Search) : Type 0 where
+  pub flags : Flags s
   pub tidy : Tidy s
-  pub stands : Stands (s .«open») s
+  pub stands : Stands (isOpen s) s

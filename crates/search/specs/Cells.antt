@@ -11,7 +11,8 @@ use borrow.Author.Tests.{eq-eqb, ne-eqb}
 use Rattle.lists.specs.Fill.{fill-size, fill-at, fill-past, fill-is, replicate-at}
 use Rattle.graph.specs.Limits.{maxEdges}
 use Rattle.graph.specs.Network.{Mark, free, required, excluded, markOf}
-use Rattle.machine.specs.Machine.{Marks, frees}
+use Rattle.machine.specs.Machine.{Marks}
+use Rattle.machine.specs.Requireds.{requireds}
 use Rattle.machine.specs.Kept.{Nodes}
 use Rattle.search.specs.Record.{maxNodes, stackSize, byteOf, nodeAt, cell, cells, node, nodes}
 
@@ -145,9 +146,9 @@ nodes-at m l (suc d) p h = go (decLe (suc p) d) (nodes-at m l d p)
         subst (λ (q : ℕ). nodeAt (node m l d ∷ nodes m l d) q ≡ node m l p) (sym e)
         (top-node (node m l d) (nodes m l d) ∙ ap (node m l) (sym (e ∙ nodes-size m l d)))
 
--- ---- stacks that have room: node p has at most m − p free edges
+-- ---- stacks whose node p has at least p required edges
 
-pub nodes-of : (m : ℕ) (l : List ℕ) (d : ℕ) → ((p : ℕ) → p < d → frees (node m l p) + p ≤ m) → Nodes m (nodes m l d)
+pub nodes-of : (m : ℕ) (l : List ℕ) (d : ℕ) → ((p : ℕ) → p < d → p ≤ requireds (node m l p)) → Nodes m (nodes m l d)
 unfolding nodes
 nodes-of m l zero h = tt
 nodes-of m l (suc d) h = (
@@ -158,12 +159,12 @@ nodes-of m l (suc d) h = (
 
 -- node p of a stack
 pub node-fits : (m : ℕ) (st : List Marks) → Nodes m st → (p : ℕ) → p < length st
-    → (length (nodeAt st p) ≡ m) × (frees (nodeAt st p) + p ≤ m)
+    → (length (nodeAt st p) ≡ m) × (p ≤ requireds (nodeAt st p))
 node-fits m [] n p h = absurd (omega arith)
 node-fits m (x ∷ rest) n p h = go (decLe (suc p) (length rest)) (node-fits m rest (n .2) p)
   where
     Fits : Marks → Type 0
-    Fits y = (length y ≡ m) × (frees y + p ≤ m)
+    Fits y = (length y ≡ m) × (p ≤ requireds y)
 
     go : Dec (p < length rest) → (p < length rest → Fits (nodeAt rest p)) → Fits (nodeAt (x ∷ rest) p)
     go (yes b) below = rw (lower-node x rest p (omega arith)) (below b)

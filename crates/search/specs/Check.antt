@@ -1,6 +1,6 @@
 -- The record's check as a test: `check s` is true exactly where `Canonical s` holds (check-yes, check-no, check-is). Nothing else is known
 -- or needed of it. Assumes nothing.
-use mathlib.Core.Path.{_≡_, refl, sym, subst}
+use mathlib.Core.Path.{_≡_, refl, sym, ap, subst}
 use mathlib.Core.Bool.{Bool, true, false, cond, true≢false, false≢true}
 use mathlib.Core.List.{List}
 use Prim.Native.Nat.{ℕ, zero, suc, _+_, _*_, _≤_, _<_}
@@ -11,10 +11,11 @@ use lib.IntN.{ℤ, pos, ℤ-discrete}
 use Rattle.graph.specs.Limits.{maxVertices, maxEdges, maxMark, maxCount}
 use Rattle.graph.specs.declared.Graph.{Graph}
 use Rattle.onetree.specs.Inputs.{ceilingFits}
-use Rattle.machine.specs.Machine.{frees}
+use Rattle.machine.specs.declared.Settings.{Settings}
+use Rattle.machine.specs.Requireds.{requireds}
 use Rattle.machine.specs.Calls.{fault}
-use Rattle.search.specs.Record.{maxNodes, node, openingIn}
-use Rattle.search.specs.Canonical.{Zeros, GraphTidy, NodeZeros, usedIn, StackTidy, Tidy, Idle, NodeFits, StackFits, Bits, Fits, Stands, Canonical}
+use Rattle.search.specs.Record.{maxNodes, noSettings, node, isOpen, hasTour, openingIn}
+use Rattle.search.specs.Canonical.{Zeros, GraphTidy, NodeZeros, usedIn, StackTidy, Tidy, Idle, NodeFits, StackFits, Bits, Fits, Flags, Stands, Canonical}
 use Rattle.search.specs.declared.Search.{Search}
 
 -- ---- what decides
@@ -73,48 +74,54 @@ stack-tidy m depth l =
     (λ p. below maxEdges (λ j. usedIn m depth p ≤ j → getD l (maxEdges * p + j) 0 ≡ 0)
     (λ j. implies (decLe (usedIn m depth p) j) (ℕ-discrete (getD l (maxEdges * p + j) 0) 0)))
 
+no-settings : (t : Settings) → Dec (t ≡ noSettings)
+no-settings t =
+    map-dec
+    {A = (t .ceiling ≡ pos 0) × ((t .sweeps ≡ 0) × (t .step ≡ 0))}
+    (λ e i. record { ceiling = e .0 i; sweeps = e .1 .0 i; step = e .1 .1 i })
+    (λ e. (ap (λ (x : Settings). x .ceiling) e, (ap (λ (x : Settings). x .sweeps) e, ap (λ (x : Settings). x .step) e)))
+    (both (ℤ-discrete _ _) (both (ℕ-discrete _ _) (ℕ-discrete _ _)))
+
 module _ (s : Search) where
   tidy : Dec (Tidy s)
   tidy =
       map-dec
       {A = GraphTidy (s .graph) × (Zeros (pos 0) maxVertices (s .graph .n) (s .multipliers)
-      × (StackTidy (s .graph .m) (s .depth) (s .stack) × Zeros 0 maxEdges (cond (s .«has_best») (s .graph .m) 0) (s .best)))}
+      × (StackTidy (s .graph .m) (s .depth) (s .stack) × Zeros 0 maxEdges (cond (hasTour s) (s .graph .m) 0) (s .best)))}
       (λ t. record { graph = t .0; multipliers = t .1 .0; stack = t .1 .1 .0; best = t .1 .1 .1 })
       (λ t. (t .graph, (t .multipliers, (t .stack, t .best))))
       (both (graph-tidy (s .graph)) (both (zerosZ maxVertices (s .graph .n) (s .multipliers))
-      (both (stack-tidy (s .graph .m) (s .depth) (s .stack)) (zeros maxEdges (cond (s .«has_best») (s .graph .m) 0) (s .best)))))
+      (both (stack-tidy (s .graph .m) (s .depth) (s .stack)) (zeros maxEdges (cond (hasTour s) (s .graph .m) 0) (s .best)))))
 
   idle : Dec (Idle s)
   idle =
       map-dec
-      {A = (s .graph .n ≡ 0) × ((s .graph .m ≡ 0) × ((s .ceiling ≡ pos 0) × ((s .sweeps ≡ 0) × ((s .step ≡ 0)
-      × ((s .upper ≡ pos 0) × ((s .depth ≡ 0) × ((s .«has_best» ≡ false) × (s .count ≡ 0))))))))}
+      {A = (s .graph .n ≡ 0) × ((s .graph .m ≡ 0) × ((s .settings ≡ noSettings)
+      × ((s .upper ≡ pos 0) × ((s .depth ≡ 0) × ((hasTour s ≡ false) × (s .count ≡ 0))))))}
       (λ t. record {
         n = t .0;
         m = t .1 .0;
-        ceiling = t .1 .1 .0;
-        sweeps = t .1 .1 .1 .0;
-        step = t .1 .1 .1 .1 .0;
-        upper = t .1 .1 .1 .1 .1 .0;
-        depth = t .1 .1 .1 .1 .1 .1 .0;
-        best = t .1 .1 .1 .1 .1 .1 .1 .0;
-        count = t .1 .1 .1 .1 .1 .1 .1 .1;
+        settings = t .1 .1 .0;
+        upper = t .1 .1 .1 .0;
+        depth = t .1 .1 .1 .1 .0;
+        best = t .1 .1 .1 .1 .1 .0;
+        count = t .1 .1 .1 .1 .1 .1;
       })
-      (λ t. (t .n, (t .m, (t .ceiling, (t .sweeps, (t .step, (t .upper, (t .depth, (t .best, t .count)))))))))
-      (both (ℕ-discrete _ _) (both (ℕ-discrete _ _) (both (ℤ-discrete _ _) (both (ℕ-discrete _ _) (both (ℕ-discrete _ _)
-      (both (ℤ-discrete _ _) (both (ℕ-discrete _ _) (both (bool _ _) (ℕ-discrete _ _)))))))))
+      (λ t. (t .n, (t .m, (t .settings, (t .upper, (t .depth, (t .best, t .count)))))))
+      (both (ℕ-discrete _ _) (both (ℕ-discrete _ _) (both (no-settings _)
+      (both (ℤ-discrete _ _) (both (ℕ-discrete _ _) (both (bool _ _) (ℕ-discrete _ _)))))))
 
   node-fits : (p : ℕ) → Dec (NodeFits (s .graph .m) (s .stack) p)
   node-fits p =
       both
       (below (s .graph .m) (λ j. getD (s .stack) (maxEdges * p + j) 0 ≤ maxMark)
       (λ j. decLe (getD (s .stack) (maxEdges * p + j) 0) maxMark))
-      (decLe (frees (node (s .graph .m) (s .stack) p) + p) (s .graph .m))
+      (decLe p (requireds (node (s .graph .m) (s .stack) p)))
 
   fits : Dec (Fits s)
   fits =
       map-dec
-      {A = (fault (openingIn s) ≡ 0) × ((ceilingFits (s .upper) ≡ true) × ((s .depth ≤ s .graph .m + 1)
+      {A = (fault (openingIn s) ≡ 0) × ((ceilingFits (s .upper) ≡ true) × ((s .depth ≤ s .graph .n + 2)
       × (StackFits (s .graph .m) (s .depth) (s .stack) × (Bits (s .best) × (s .count ≤ maxCount)))))}
       (λ t. record {
         opening = t .0;
@@ -133,10 +140,16 @@ module _ (s : Search) where
   stands true = fits
   stands false = idle
 
+  flags : Dec (Flags s)
+  flags =
+      map-dec {A = (s .«open» ≤ 1) × (s .«has_best» ≤ 1)} (λ t. record { «open» = t .0; best = t .1 }) (λ t. (t .«open», t .best))
+      (both (decLe _ _) (decLe _ _))
+
   canonical : Dec (Canonical s)
   canonical =
-      map-dec {A = Tidy s × Stands (s .«open») s} (λ t. record { tidy = t .0; stands = t .1 }) (λ t. (t .tidy, t .stands))
-      (both tidy (stands (s .«open»)))
+      map-dec {A = Flags s × (Tidy s × Stands (isOpen s) s)} (λ t. record { flags = t .0; tidy = t .1 .0; stands = t .1 .1 })
+      (λ t. (t .flags, (t .tidy, t .stands)))
+      (both flags (both tidy (stands (isOpen s))))
 
 holds : {P : Type 0} → Dec P → Bool
 holds (yes p) = true

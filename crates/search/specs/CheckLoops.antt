@@ -18,10 +18,11 @@ use Rattle.lists.specs.Rows.{row}
 use Rattle.lists.specs.Fill.{fill, fit, fill-is}
 use Rattle.integers.specs.Words.{back32, back64}
 use Rattle.graph.specs.Limits.{maxEdges}
-use Rattle.graph.specs.Network.{Mark, markOf}
-use Rattle.machine.specs.Machine.{isFree, frees}
-use Rattle.search.specs.Record.{node}
-use Rattle.search.specs.Canonical.{Tidy, Stands, Canonical}
+use Rattle.graph.specs.Network.{markOf}
+use Rattle.onetree.specs.Valid.{isRequired}
+use Rattle.machine.specs.Requireds.{requireds, requireds-last}
+use Rattle.search.specs.Record.{node, isOpen}
+use Rattle.search.specs.Canonical.{Flags, Tidy, Stands, Canonical}
 use Rattle.search.specs.Check.{check, check-yes, check-no}
 use Rattle.search.specs.declared.Search.{Search}
 
@@ -61,37 +62,32 @@ says-eq x y P f g = go (eqb x y) refl
 
 -- ---- the last test of the record
 
-pub says-stands : (s : Search) (b o : Bool) → s .«open» ≡ o → Tidy s → Says b (Stands o s) → b ≡ check s
-says-stands s b o e t h =
+pub says-stands : (s : Search) (b o : Bool) → isOpen s ≡ o → Flags s → Tidy s → Says b (Stands o s) → b ≡ check s
+says-stands s b o e f t h =
     says-check s b
     (says-both b {P = Stands o s} {Q = Canonical s}
-    (λ w. record { tidy = t; stands = subst (λ (x : Bool). Stands x s) (sym e) w }) (λ c. subst (λ (x : Bool). Stands x s) e (c .stands)) h)
+    (λ w. record { flags = f; tidy = t; stands = subst (λ (x : Bool). Stands x s) (sym e) w }) (λ c. subst (λ (x : Bool). Stands x s) e (c .stands)) h)
 
--- ---- the free edges of a node, an edge more
-
-frees-more : (n : ℕ) (f : ℕ → Mark) → frees (row (suc n) f) ≡ frees (row n f) + bit (isFree (f (suc n)))
-unfolding row frees
-frees-more zero f = omega arith
-frees-more (suc n) f = omega (arith, frees-more n (λ i. f (suc i)))
+-- ---- the required edges of a node, an edge more
 
 module _ (l : List ℕ) (p : ℕ) where
-  pub frees-none : frees (node 0 l p) ≡ 0
-  unfolding node fill row frees
-  frees-none = refl
+  pub requireds-none : requireds (node 0 l p) ≡ 0
+  unfolding node fill row requireds
+  requireds-none = refl
 
-  node-more : (j : ℕ) → frees (node (j + 1) l p) ≡ frees (node j l p) + bit (isFree (markOf (getD l (maxEdges * p + j) 0)))
+  node-more : (j : ℕ) → requireds (node (j + 1) l p) ≡ requireds (node j l p) + bit (isRequired (markOf (getD l (maxEdges * p + j) 0)))
   unfolding node fill
-  node-more j = rw add-one (frees-more j _)
+  node-more j = rw add-one (requireds-last j _)
 
-  pub frees-free : (j : ℕ) → getD l (maxEdges * p + j) 0 ≡ 0 → frees (node (j + 1) l p) ≡ frees (node j l p) + 1
-  frees-free j e = node-more j ∙ ap (λ (k : ℕ). frees (node j l p) + bit (isFree (markOf k))) e ∙ unfold markOf in refl
+  pub requireds-one : (j : ℕ) → getD l (maxEdges * p + j) 0 ≡ 1 → requireds (node (j + 1) l p) ≡ requireds (node j l p) + 1
+  requireds-one j e = node-more j ∙ ap (λ (k : ℕ). requireds (node j l p) + bit (isRequired (markOf k))) e ∙ unfold markOf in refl
 
-  pub frees-other : (j : ℕ) → (getD l (maxEdges * p + j) 0 ≡ 0 → ⊥) → frees (node (j + 1) l p) ≡ frees (node j l p)
-  frees-other j e = omega (arith, node-more j, other (getD l (maxEdges * p + j) 0) e)
+  pub requireds-other : (j : ℕ) → (getD l (maxEdges * p + j) 0 ≡ 1 → ⊥) → requireds (node (j + 1) l p) ≡ requireds (node j l p)
+  requireds-other j e = omega (arith, node-more j, other (getD l (maxEdges * p + j) 0) e)
     where
-      other : (k : ℕ) → (k ≡ 0 → ⊥) → bit (isFree (markOf k)) ≡ 0
-      other zero d = absurd (d refl)
-      other (suc zero) d = unfold markOf in refl
+      other : (k : ℕ) → (k ≡ 1 → ⊥) → bit (isRequired (markOf k)) ≡ 0
+      other zero d = unfold markOf in refl
+      other (suc zero) d = absurd (d refl)
       other (suc (suc k)) d = unfold markOf in refl
 
 -- ---- the first n of an array

@@ -10,23 +10,19 @@ use native.Mathlib.Decide.{decLe}
 use lib.Dec.{leb, eqb}
 use lib.ListN.{getD}
 use lib.IntN.{ℤ, pos}
-use lib.Signed.{mag}
-use mir.Val.{toZ, ofZ}
-use mir.Syntax.{w64}
 use borrow.Author.Count.{below-more}
 use borrow.Author.Tests.{lt-ltb, le-ltb}
 use Rattle.lists.specs.Bools.{Says}
 use Rattle.lists.specs.Fill.{fit}
-use Rattle.integers.specs.Words.{back64}
 use Rattle.graph.specs.Limits.{maxVertices, maxEdges, maxCount}
 use Rattle.graph.specs.declared.Graph.{Graph}
 use Rattle.onetree.specs.Inputs.{ceilingFits}
+use Rattle.machine.specs.declared.Settings.{Settings}
 use Rattle.machine.specs.Machine.{Opening}
 use Rattle.machine.specs.Calls.{fault}
-use Rattle.search.specs.Record.{maxNodes, stackSize, openingOf, openingIn, searchWith}
+use Rattle.search.specs.Record.{maxNodes, stackSize, noSettings, openingOf, hasTour, openingIn}
 use Rattle.search.specs.Cells.{each-place}
 use Rattle.search.specs.Canonical.{Zeros, GraphTidy, NodeZeros, usedIn, StackTidy, Tidy, Idle, StackFits, Bits, Fits}
-use Rattle.search.specs.Check.{check}
 use Rattle.search.specs.CheckLoops.{says-both, says-le, says-eq}
 use Rattle.search.specs.declared.Search.{Search}
 
@@ -99,8 +95,8 @@ module _ (m depth used : ℕ) (l : List ℕ) (u : InUse depth used) where
 -- ---- all but the stack, part by part
 
 -- the opening that these parts of a record hold
-abbrev pub openingWith : Graph → List ℤ → ℤ → ℕ → ℕ → Opening
-openingWith g d ceiling sweeps step = openingOf g (fit (g .n) (pos 0) d) ceiling sweeps step
+abbrev pub openingWith : Graph → List ℤ → Settings → Opening
+openingWith g d t = openingOf g (fit (g .n) (pos 0) d) t
 
 -- of `Tidy`
 pub record FieldsTidy (g : Graph) (d : List ℤ) (h : Bool) (w : List ℕ) : Type 0 where
@@ -112,21 +108,19 @@ pub record FieldsTidy (g : Graph) (d : List ℤ) (h : Bool) (w : List ℕ) : Typ
 pub record FieldsFit (o : Opening) (z : ℤ) (p : ℕ) (w : List ℕ) (k : ℕ) : Type 0 where
   pub opening : fault o ≡ 0
   pub upper : ceilingFits z ≡ true
-  pub depth : p ≤ o .graph .m + 1
+  pub depth : p ≤ o .graph .n + 2
   pub best : Bits w
   pub count : k ≤ maxCount
 
 abbrev pub Fitting : Search → Type 0
 Fitting s =
-    FieldsFit (openingWith (s .graph) (s .multipliers) (s .ceiling) (s .sweeps) (s .step)) (s .upper) (s .depth) (s .best) (s .count)
+    FieldsFit (openingWith (s .graph) (s .multipliers) (s .settings)) (s .upper) (s .depth) (s .best) (s .count)
 
 -- of `Idle`
-pub record FieldsIdle (a b : ℕ) (c : ℤ) (x y : ℕ) (z : ℤ) (p : ℕ) (h : Bool) (k : ℕ) : Type 0 where
+pub record FieldsIdle (a b : ℕ) (t : Settings) (z : ℤ) (p : ℕ) (h : Bool) (k : ℕ) : Type 0 where
   pub n : a ≡ 0
   pub m : b ≡ 0
-  pub ceiling : c ≡ pos 0
-  pub sweeps : x ≡ 0
-  pub step : y ≡ 0
+  pub settings : t ≡ noSettings
   pub upper : z ≡ pos 0
   pub depth : p ≡ 0
   pub best : h ≡ false
@@ -141,10 +135,10 @@ says-fields-tidy g d h w b k t z e =
     (λ y. subst (λ (j : ℕ). Zeros 0 maxEdges j w) e (y .best))
 
 module _ (s : Search) where
-  pub tidy-fields : Tidy s → FieldsTidy (s .graph) (s .multipliers) (s .«has_best») (s .best)
+  pub tidy-fields : Tidy s → FieldsTidy (s .graph) (s .multipliers) (hasTour s) (s .best)
   tidy-fields t = record { graph = t .graph; multipliers = t .multipliers; best = t .best }
 
-  pub tidy-whole : FieldsTidy (s .graph) (s .multipliers) (s .«has_best») (s .best)
+  pub tidy-whole : FieldsTidy (s .graph) (s .multipliers) (hasTour s) (s .best)
       → StackTidy (s .graph .m) (s .depth) (s .stack) → Tidy s
   tidy-whole t l = record { graph = t .graph; multipliers = t .multipliers; stack = l; best = t .best }
 
@@ -162,16 +156,14 @@ module _ (s : Search) where
 
   -- and of one where none is open
   pub says-idle : (b : Bool)
-      → Says b (FieldsIdle (s .graph .n) (s .graph .m) (s .ceiling) (s .sweeps) (s .step) (s .upper) (s .depth) (s .«has_best») (s .count))
+      → Says b (FieldsIdle (s .graph .n) (s .graph .m) (s .settings) (s .upper) (s .depth) (hasTour s) (s .count))
       → Says b (Idle s)
   says-idle b =
       says-both b {Q = Idle s}
       (λ t. record {
         n = t .n;
         m = t .m;
-        ceiling = t .ceiling;
-        sweeps = t .sweeps;
-        step = t .step;
+        settings = t .settings;
         upper = t .upper;
         depth = t .depth;
         best = t .best;
@@ -180,17 +172,9 @@ module _ (s : Search) where
       (λ t. record {
         n = t .n;
         m = t .m;
-        ceiling = t .ceiling;
-        sweeps = t .sweeps;
-        step = t .step;
+        settings = t .settings;
         upper = t .upper;
         depth = t .depth;
         best = t .best;
         count = t .count;
       })
-
-  -- the check of the record's parts: its signed numbers are read back from their words
-  pub check-parts : mag (s .ceiling) < 9223372036854775808 → mag (s .upper) < 9223372036854775808
-      → check (searchWith (s .«open») (s .graph) (s .multipliers) (toZ w64 (ofZ w64 (s .ceiling))) (s .sweeps) (s .step)
-      (toZ w64 (ofZ w64 (s .upper))) (s .depth) (s .stack) (s .«has_best») (s .best) (s .count)) ≡ check s
-  check-parts c u = rw (back64 (s .ceiling) c, back64 (s .upper) u) refl

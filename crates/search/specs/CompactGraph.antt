@@ -11,7 +11,7 @@ use lib.ListN.{getD, List·getD-eq-default}
 use lib.IntN.{ℤ, pos}
 use borrow.Author.Tests.{eqb-true}
 use Rattle.lists.specs.Fill.{fill-at, fill-is, fit}
-use Rattle.integers.specs.Range.{InRange}
+use Rattle.integers.specs.Range.{within}
 use Rattle.graph.specs.declared.Graph.{Graph}
 use Rattle.graph.specs.Limits.{maxEdges, maxCost}
 use Rattle.graph.specs.Network.{Network, free, excluded, markOf, place, network}
@@ -83,7 +83,7 @@ module _ (g : Graph) (marks : List ℕ) (r : Graph) (q : List ℕ) (v : Valid g)
           from = omega (arith, e .from, gathered-at j l 0 _ (r .a) (h .a));
           less = omega (arith, e .less, gathered-at j l 0 _ (r .a) (h .a), gathered-at j l 0 _ (r .b) (h .b));
           to = omega (arith, e .to, gathered-at j l 0 _ (r .b) (h .b), h .n);
-          range = subst (λ (z : ℤ). InRange maxCost z) (sym (gathered-at j l (pos 0) _ (r .cost) (h .cost))) (e .range);
+          range = subst (λ (z : ℤ). within maxCost z ≡ true) (sym (gathered-at j l (pos 0) _ (r .cost) (h .cost))) (e .range);
           known = omega (arith, small p (old j l .low), gathered-at j l 0 _ (r .mark) (h .mark));
         };
     once = λ i j b l s.

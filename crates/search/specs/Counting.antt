@@ -13,7 +13,7 @@ use lib.Seq.{getD-set-same, getD-set-other}
 use borrow.Author.Tests.{eqb-true, eqb-false, eq-eqb, ne-eqb}
 use Rattle.lists.specs.Bools.{bit, by-cases}
 use Rattle.lists.specs.Members.{_∈_}
-use Rattle.lists.specs.All.{all, all-in, not-all}
+use Rattle.lists.specs.All.{everyOf, everyOf-in, not-everyOf}
 use Rattle.lists.specs.Select.{keep, select}
 use Rattle.lists.specs.Numbers.{upTo, upTo-in}
 use Rattle.lists.specs.Fill.{replicate-at}
@@ -173,21 +173,21 @@ degrees-edged g w r c = record { size = c .size; at = c .at; most = c .most }
 
 -- the degrees of vertices 1 to n are 2
 unfoldable pub allTwo : List ℕ → ℕ → Bool
-unfolding all upTo
-allTwo degrees n = all (λ v. eqb (getD degrees v 0) 2) (upTo n)
+unfolding everyOf upTo
+allTwo degrees n = everyOf (λ v. eqb (getD degrees v 0) 2) (upTo n)
 
 module _ (degrees : List ℕ) where
   pub two-none : allTwo degrees 0 ≡ true
-  unfolding allTwo all upTo
+  unfolding allTwo everyOf upTo
   two-none = refl
 
   pub two-more : (v : ℕ) → allTwo degrees v ≡ true → getD degrees (v + 1) 0 ≡ 2 → allTwo degrees (v + 1) ≡ true
-  unfolding allTwo all upTo
+  unfolding allTwo everyOf upTo
   two-more v h e = rw (add-one v, eq-eqb (getD degrees (suc v) 0) 2 (ap (λ (i : ℕ). getD degrees i 0) (sym (add-one v)) ∙ e), h)
 
   pub two-each : (n : ℕ) → allTwo degrees n ≡ true → (v : ℕ) → v ∈ upTo n → getD degrees v 0 ≡ 2
   unfolding allTwo
-  two-each n h v m = eqb-true (getD degrees v 0) 2 (all-in (λ v. eqb (getD degrees v 0) 2) (upTo n) h v m)
+  two-each n h v m = eqb-true (getD degrees v 0) 2 (everyOf-in (λ v. eqb (getD degrees v 0) 2) (upTo n) h v m)
 
   pub two-not : (n v : ℕ) → v < n → getD degrees (v + 1) 0 ≢ 2 → allTwo degrees n ≡ false
   two-not n v b ne =
@@ -197,5 +197,5 @@ module _ (degrees : List ℕ) where
   pub not-two : (n : ℕ) → allTwo degrees n ≡ false → (v : ℕ) × (v ∈ upTo n) × (getD degrees v 0 ≢ 2)
   unfolding allTwo
   not-two n h =
-      let r = not-all (λ v. eqb (getD degrees v 0) 2) (upTo n) h in
+      let r = not-everyOf (λ v. eqb (getD degrees v 0) 2) (upTo n) h in
       (r .0, r .1, eqb-false (getD degrees (r .0) 0) 2 (r .2))

@@ -31,17 +31,17 @@ module _ (o : Opening) where
       fault-12 h = rw (graph, eq-eqb (length (o .multipliers)) (o .graph .n) long, h)
 
       module _ (fit : multipliersFit (o .multipliers) ≡ true) where
-        pub fault-13 : ceilingFits (o .ceiling) ≡ false → fault o ≡ 13
+        pub fault-13 : ceilingFits (o .settings .ceiling) ≡ false → fault o ≡ 13
         unfolding fault
         fault-13 h = rw (graph, eq-eqb (length (o .multipliers)) (o .graph .n) long, fit, h)
 
-        module _ (ceiling : ceilingFits (o .ceiling) ≡ true) where
-          pub fault-sweeps : maxSweeps < o .sweeps → fault o ≡ 14
+        module _ (ceiling : ceilingFits (o .settings .ceiling) ≡ true) where
+          pub fault-sweeps : maxSweeps < o .settings .sweeps → fault o ≡ 14
           unfolding fault
           fault-sweeps h =
-              rw (graph, eq-eqb (length (o .multipliers)) (o .graph .n) long, fit, ceiling, lt-leb (o .sweeps) maxSweeps h)
+              rw (graph, eq-eqb (length (o .multipliers)) (o .graph .n) long, fit, ceiling, lt-leb (o .settings .sweeps) maxSweeps h)
 
-          pub fault-step : o .sweeps ≤ maxSweeps → maxStep < o .step → fault o ≡ 14
+          pub fault-step : o .settings .sweeps ≤ maxSweeps → maxStep < o .settings .step → fault o ≡ 14
           unfolding fault
           fault-step k h =
               rw (
@@ -49,11 +49,11 @@ module _ (o : Opening) where
                 eq-eqb (length (o .multipliers)) (o .graph .n) long,
                 fit,
                 ceiling,
-                le-leb (o .sweeps) maxSweeps k,
-                lt-leb (o .step) maxStep h,
+                le-leb (o .settings .sweeps) maxSweeps k,
+                lt-leb (o .settings .step) maxStep h,
               )
 
-          pub fault-none : o .sweeps ≤ maxSweeps → o .step ≤ maxStep → fault o ≡ 0
+          pub fault-none : o .settings .sweeps ≤ maxSweeps → o .settings .step ≤ maxStep → fault o ≡ 0
           unfolding fault
           fault-none k h =
               rw (
@@ -61,6 +61,6 @@ module _ (o : Opening) where
                 eq-eqb (length (o .multipliers)) (o .graph .n) long,
                 fit,
                 ceiling,
-                le-leb (o .sweeps) maxSweeps k,
-                le-leb (o .step) maxStep h,
+                le-leb (o .settings .sweeps) maxSweeps k,
+                le-leb (o .settings .step) maxStep h,
               )

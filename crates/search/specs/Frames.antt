@@ -2,7 +2,7 @@
 -- and of the best tour. `Holds` says which search they hold, and the laws say what each outcome of the top node's opening makes of them.
 -- Running.antt has the loop over them.
 use mathlib.Core.Path.{_≡_, refl, sym, ap, _∙_, subst}
-use mathlib.Core.Bool.{Bool, true}
+use mathlib.Core.Bool.{Bool}
 use mathlib.Core.List.{List, [], _∷_}
 use Prim.Native.Nat.{ℕ, suc, _+_, _-_, _≤_, _<_}
 use native.Mathlib.Omega.{arith}
@@ -10,9 +10,10 @@ use native.Mathlib.Numerals.{add-one}
 use lib.ListN.{length, replicate}
 use lib.IntN.{ℤ, pos, _-ℤ_}
 use lib.Signed.{mag}
+use Rattle.lists.specs.Bools.{bit}
 use Rattle.integers.specs.Parts.{mag-of-parts}
 use Rattle.graph.specs.declared.Graph.{Graph}
-use Rattle.graph.specs.Limits.{maxEdges, maxCount}
+use Rattle.graph.specs.Limits.{maxVertices, maxEdges, maxCount}
 use Rattle.graph.specs.Network.{network}
 use Rattle.graph.specs.Valid.{Valid}
 use Rattle.onetree.specs.Arrays.{bytes}
@@ -20,7 +21,7 @@ use Rattle.machine.specs.Tours.{cost}
 use Rattle.machine.specs.Outcomes.{closes, finds, splits, aTour}
 use Rattle.machine.specs.Machine as M
 use Rattle.machine.specs.Machine.{Marks, Progress, edgesOf, costOf, lowered, openNode, settled, openTop}
-use Rattle.machine.specs.Kept.{Kept, Nodes, Sized, depth}
+use Rattle.machine.specs.Kept.{Kept, Sized, depth-most}
 use Rattle.machine.specs.Preserved.{top-kept}
 use Rattle.search.specs.declared.node.Fate.{Fate}
 use Rattle.search.specs.declared.node.Fate.the-variants as fate
@@ -35,7 +36,7 @@ use Rattle.search.specs.Opening.{Opened, openedAs}
 -- what changes of a search, but for the bytes of the stack and of the best tour
 unfoldable pub frameOf : Progress → Frame
 unfolding hasBest
-frameOf s = record { upper = s .upper; depth = length (s .stack); «has_best» = hasBest (s .incumbent); count = s .count }
+frameOf s = record { upper = s .upper; depth = length (s .stack); «has_best» = bit (hasBest (s .incumbent)); count = s .count }
 
 -- the frame f, the stack's bytes l and the best tour's bytes w hold the search s on the graph g
 pub record Holds (g : Graph) (f : Frame) (l w : List ℕ) (s : Progress) : Type 0 where
@@ -89,8 +90,8 @@ module _ (g : Graph) (f : Frame) (l w : List ℕ) (s : Progress) (h : Holds g f 
   pub holds-valid : Valid g
   holds-valid = rw (← h .graph) (h .kept .opening .valid)
 
-  pub holds-deep : f .depth ≤ g .m + 1
-  holds-deep = omega (arith, holds-depth, ap (λ (x : Graph). x .m) (h .graph), depth (s .opening .graph .m) (s .stack) (h .kept .nodes))
+  pub holds-deep : f .depth ≤ maxNodes
+  holds-deep = omega (arith, holds-depth, depth-most s (h .kept))
 
   pub top-of : 0 < f .depth → f .count < maxCount → Top s
   top-of b c = go (s .stack) refl
@@ -179,7 +180,7 @@ module _ (m : ℕ) (costs : List ℤ) (f : Frame) (l w : List ℕ) (o : Opened) 
 
   pub top-high : f .depth - 1 < maxNodes
   unfolding s
-  top-high = omega (arith, top-depth, holds-deep g f l w s (t .holds), holds-valid g f l w s (t .holds) .few)
+  top-high = omega (arith, top-depth, holds-deep g f l w s (t .holds))
 
   pub top-room : f .count < maxCount
   unfolding s
@@ -240,14 +241,14 @@ module _ (m : ℕ) (costs : List ℤ) (f : Frame) (l w : List ℕ) (o : Opened) 
   -- the tour becomes the incumbent
   pub next-finds : (l′ : List ℕ) (upper : ℤ) → o .fate ≡ fate.Finds → upper ≡ cost (network g) (bytes (o .row)) -ℤ pos 1
       → Put (f .depth - 1) maxEdges (o .top) l l′
-      → Holds g (record { upper = upper; depth = f .depth - 1; «has_best» = true; count = f .count + 1 }) l′ (o .row) next
+      → Holds g (record { upper = upper; depth = f .depth - 1; «has_best» = 1; count = f .count + 1 }) l′ (o .row) next
   unfolding s out settled frameOf lowered costOf hasBest
   next-finds l′ upper h u put =
       holds-next (finds (r .tour)) (r .is) _ l′ (o .row)
       (λ i. record {
         upper = (u ∙ ap (λ (z : ℤ). z -ℤ pos 1) same-cost) i;
         depth = sym top-place i;
-        «has_best» = true;
+        «has_best» = 1;
         count = count-next i;
       })
       (popped (f .depth - 1) l l′ (t .top .rest) top-place (t .top .node) old-bytes
@@ -275,16 +276,13 @@ module _ (m : ℕ) (costs : List ℤ) (f : Frame) (l w : List ℕ) (o : Opened) 
 
   pub split-room : o .fate ≡ fate.Splits → f .depth - 1 + 1 < maxNodes
   unfolding s out settled
-  split-room h = omega (arith, top-place, deep, t .holds .kept .opening .valid .few)
+  split-room h = omega (arith, top-place, deep)
     where
-      nodes : Nodes (s .opening .graph .m) (split h .over ∷ split h .under ∷ t .top .rest)
-      nodes =
-          subst (λ (x : Progress). Nodes (x .opening .graph .m) (x .stack))
+      deep : suc (suc (length (t .top .rest))) ≤ maxVertices + 2
+      deep =
+          subst (λ (x : Progress). length (x .stack) ≤ maxVertices + 2)
           (settles (splits (split h .under) (split h .over)) (split h .is))
-          (next-kept .nodes)
-
-      deep : suc (suc (length (t .top .rest))) ≤ s .opening .graph .m + 1
-      deep = depth (s .opening .graph .m) (split h .over ∷ split h .under ∷ t .top .rest) nodes
+          (depth-most next next-kept)
 
   pub next-splits : (l₁ l₂ : List ℕ) → o .fate ≡ fate.Splits → Put (f .depth - 1) maxEdges (o .row) l l₁
       → Put (f .depth - 1 + 1) maxEdges (o .top) l₁ l₂

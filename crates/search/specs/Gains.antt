@@ -17,7 +17,7 @@ use borrow.Author.Tests.{lt-leb}
 use mir.Val.{SFits}
 use mir.Syntax.{w32}
 use Rattle.lists.specs.Bools.{and-right}
-use Rattle.lists.specs.All.{all}
+use Rattle.lists.specs.All.{everyOf}
 use Rattle.lists.specs.Rows.{row, row-size, row-at}
 use Rattle.lists.specs.Fill.{fill-is, fit, fit-size, fit-at}
 use Rattle.integers.specs.Parts.{up, dn, mag-of-parts, add-up, add-dn, neg-up, neg-dn, eq-of-parts}
@@ -149,7 +149,7 @@ module _ (g : Network) (step : ℕ) (t : Edges) (degrees : List ℕ) (d r : List
 fit-first : (d : List ℤ) → multipliersFit d ≡ true → multiplier d 1 ≡ pos 0
 unfolding multipliersFit
 fit-first d h =
-    let r = within-range 0 (multiplier d 1) (and-right (all (within maxMultiplier) d) (within 0 (multiplier d 1)) h) in
+    let r = within-range 0 (multiplier d 1) (and-right (everyOf (within maxMultiplier) d) (within 0 (multiplier d 1)) h) in
     eq-of-parts (multiplier d 1) (pos 0) (omega (arith, r .high, r .low))
 
 module _ (n step : ℕ) (degrees : List ℕ) (d r : List ℤ) (low : 1 ≤ n) (h : GainsTo n step degrees d r)

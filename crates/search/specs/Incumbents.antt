@@ -15,7 +15,7 @@ use Rattle.machine.specs.Kept.{Sized}
 use Rattle.search.specs.Record.{bits, bestOf, hasBest, bestBytes}
 use Rattle.search.specs.Canonical.{Zeros, Bits}
 
-bit-back : (b : Bool) → eqb (bit b) 1 ≡ b
+pub bit-back : (b : Bool) → eqb (bit b) 1 ≡ b
 bit-back true = refl
 bit-back false = refl
 
@@ -24,9 +24,13 @@ byte-back zero h = refl
 byte-back (suc zero) h = refl
 byte-back (suc (suc k)) h = absurd (omega arith)
 
-bit-small : (b : Bool) → bit b ≤ 1
+pub bit-small : (b : Bool) → bit b ≤ 1
 bit-small true = omega arith
 bit-small false = omega arith
+
+-- a flag that is not 1 is 0
+pub flag-off : (k : ℕ) → k ≤ 1 → eqb k 1 ≡ false → k ≡ 0
+flag-off k h e = sym (byte-back k h) ∙ ap bit e
 
 pub bits-size : (m : ℕ) (w : List ℕ) → length (bits m w) ≡ m
 unfolding bits

@@ -8,20 +8,22 @@ use native.Mathlib.Omega.{arith}
 use native.Mathlib.Decide.{decLe}
 use lib.ListN.{length, getD, List·getD-eq-default}
 use lib.IntN.{ℤ, pos}
-use borrow.Author.Tests.{lt-ltb, le-ltb}
+use borrow.Author.Tests.{lt-ltb, le-ltb, eqb-true}
+use Rattle.lists.specs.Bools.{bit}
 use Rattle.lists.specs.Fill.{fit, fit-at, fit-fill, fit-cut, replicate-at, replicate-is}
 use Rattle.graph.specs.Limits.{maxVertices, maxEdges}
 use Rattle.graph.specs.Network.{free}
 use Rattle.graph.specs.Chart.{edgeless}
-use Rattle.machine.specs.Machine.{Marks, frees, Progress, State, noSearch, searching}
+use Rattle.machine.specs.Machine.{Marks, Progress, State, noSearch, searching}
+use Rattle.machine.specs.Requireds.{requireds}
 use Rattle.machine.specs.Calls.{fault}
 use Rattle.machine.specs.Trimmed.{Trim}
-use Rattle.machine.specs.Kept.{Kept, KeptState, depth}
-use Rattle.search.specs.Record.{maxNodes, stackSize, fresh, byteOf, nodeAt, cell, cells, node, nodes, openingIn, progressOf, decode, recordOf, encode}
+use Rattle.machine.specs.Kept.{Kept, KeptState, depth-most}
+use Rattle.search.specs.Record.{maxNodes, stackSize, fresh, byteOf, nodeAt, cell, cells, node, nodes, bestOf, hasBest, bestBytes, isOpen, hasTour, openingIn, progressOf, decode, recordOf, encode}
 use Rattle.search.specs.Cells.{byte-mark, cells-at, cells-is, each-place, node-at, node-past, nodes-size, nodes-at, nodes-back, nodes-of, node-fits, node-narrow, node-back, cell-past, cell-small, cell-none}
-use Rattle.search.specs.Canonical.{Zeros, StackTidy, usedIn, Tidy, Idle, Fits, Stands, Canonical}
+use Rattle.search.specs.Canonical.{Zeros, StackTidy, usedIn, Tidy, Idle, Fits, Flags, Stands, Canonical}
 use Rattle.search.specs.Accepted.{fits-range, range-fits, accepted-fault, fault-accepted}
-use Rattle.search.specs.Incumbents.{best-back, best-bits, best-zeros, best-sized, has-back, bytes-back}
+use Rattle.search.specs.Incumbents.{bit-back, byte-back, bit-small, flag-off, best-back, best-bits, best-zeros, best-sized, has-back, bytes-back}
 use Rattle.search.specs.declared.Search.{Search}
 
 -- ---- from a state
@@ -30,26 +32,17 @@ module _ (s : Progress) (h : Kept s) where
   few : s .opening .graph .m ≤ maxEdges
   few = h .opening .valid .few
 
-  deep : length (s .stack) ≤ s .opening .graph .m + 1
-  deep = depth (s .opening .graph .m) (s .stack) (h .nodes)
-
   multipliers-back : fit (s .opening .graph .n) (pos 0) (fit maxVertices (pos 0) (s .opening .multipliers)) ≡ s .opening .multipliers
   multipliers-back =
       fit-cut maxVertices (s .opening .graph .n) (pos 0) (s .opening .multipliers) (h .opening .valid .high) (h .opening .long)
 
   opening-back : openingIn (recordOf s) ≡ s .opening
   unfolding openingIn recordOf
-  opening-back = λ i. record {
-    graph = s .opening .graph;
-    multipliers = multipliers-back i;
-    ceiling = s .opening .ceiling;
-    sweeps = s .opening .sweeps;
-    step = s .opening .step;
-  }
+  opening-back = λ i. record { graph = s .opening .graph; multipliers = multipliers-back i; settings = s .opening .settings }
 
   byte : (p : ℕ) → p < length (s .stack) → (j : ℕ) → j < s .opening .graph .m
       → getD (cells (s .stack)) (maxEdges * p + j) 0 ≡ cell (s .stack) p j
-  byte p b j c = cells-at (s .stack) p j (omega (arith, deep, few)) (omega (arith, few))
+  byte p b j c = cells-at (s .stack) p j (omega (arith, depth-most s h)) (omega (arith, few))
 
   progress-back : progressOf (recordOf s) ≡ s
   unfolding progressOf recordOf
@@ -57,7 +50,9 @@ module _ (s : Progress) (h : Kept s) where
     opening = opening-back i;
     upper = s .upper;
     stack = nodes-back (s .opening .graph .m) (cells (s .stack)) (s .stack) (h .nodes) byte i;
-    incumbent = best-back (s .opening .graph .m) (s .incumbent) few (h .sized) i;
+    incumbent =
+        (ap (λ (b : Bool). bestOf (s .opening .graph .m) b (bestBytes (s .incumbent))) (bit-back (hasBest (s .incumbent)))
+        ∙ best-back (s .opening .graph .m) (s .incumbent) few (h .sized)) i;
     count = s .count;
   }
 
@@ -83,7 +78,9 @@ module _ (s : Progress) (h : Kept s) where
         λ i b c. fit-at maxVertices (pos 0) (s .opening .multipliers) i b
         ∙ List·getD-eq-default (s .opening .multipliers) (pos 0) (omega (arith, h .opening .long));
     stack = stack-tidy;
-    best = best-zeros (s .opening .graph .m) (s .incumbent) (h .sized);
+    best =
+        subst (λ (b : Bool). Zeros 0 maxEdges (cond b (s .opening .graph .m) 0) (bestBytes (s .incumbent)))
+        (sym (bit-back (hasBest (s .incumbent)))) (best-zeros (s .opening .graph .m) (s .incumbent) (h .sized));
   }
 
   record-fits : Fits (recordOf s)
@@ -91,10 +88,10 @@ module _ (s : Progress) (h : Kept s) where
   record-fits = record {
     opening = ap fault opening-back ∙ accepted-fault (s .opening) (h .opening);
     upper = range-fits (s .upper) (h .upper);
-    depth = deep;
+    depth = h .depth;
     stack = λ p b. let f = node-fits (s .opening .graph .m) (s .stack) (h .nodes) p b in (
       (λ j c. subst (λ (k : ℕ). k ≤ 2) (sym (byte p b j c)) (cell-small (s .stack) p j)),
-      subst (λ (x : Marks). frees x + p ≤ s .opening .graph .m)
+      subst (λ (x : Marks). p ≤ requireds x)
           (sym (node-back (s .opening .graph .m) (cells (s .stack)) (s .stack) p (f .0) (byte p b))) (f .1),
     );
     best = best-bits (s .incumbent);
@@ -104,6 +101,7 @@ module _ (s : Progress) (h : Kept s) where
 fresh-canonical : Canonical fresh
 unfolding fresh edgeless
 fresh-canonical = record {
+  flags = record { «open» = omega arith; best = omega arith };
   tidy = record {
     graph = record {
       a = λ i b c. replicate-at {A = ℕ} maxEdges 0 i;
@@ -118,9 +116,7 @@ fresh-canonical = record {
   stands = record {
     n = refl;
     m = refl;
-    ceiling = refl;
-    sweeps = refl;
-    step = refl;
+    settings = refl;
     upper = refl;
     depth = refl;
     best = refl;
@@ -132,7 +128,11 @@ fresh-canonical = record {
 pub encode-canonical : (s : State) → KeptState s → Canonical (encode s)
 unfolding encode recordOf
 encode-canonical noSearch h = fresh-canonical
-encode-canonical (searching s) h = record { tidy = record-tidy s h; stands = record-fits s h }
+encode-canonical (searching s) h = record {
+  flags = record { «open» = omega arith; best = bit-small (hasBest (s .incumbent)) };
+  tidy = record-tidy s h;
+  stands = record-fits s h;
+}
 
 -- and gives the state back
 pub decode-encode : (s : State) → KeptState s → decode (encode s) ≡ s
@@ -160,11 +160,11 @@ zeros-past z n from l e h i b = go (decLe (suc i) n)
     go (yes c) = h i c b
     go (no c) = List·getD-eq-default l z (omega (arith, e))
 
-module _ (r : Search) (t : Typed r) (u : Tidy r) where
-  idle-back : r .«open» ≡ false → Idle r → fresh ≡ r
+module _ (r : Search) (t : Typed r) (f : Flags r) (u : Tidy r) where
+  idle-back : isOpen r ≡ false → Idle r → fresh ≡ r
   unfolding fresh edgeless
   idle-back o d = λ i. record {
-    «open» = sym o i;
+    «open» = sym (flag-off (r .«open») (f .«open») o) i;
     graph = record {
       n = sym (d .n) i;
       m = sym (d .m) i;
@@ -175,13 +175,11 @@ module _ (r : Search) (t : Typed r) (u : Tidy r) where
     };
     multipliers =
         replicate-is maxVertices (pos 0) (r .multipliers) (t .multipliers) (λ k b. u .multipliers k b (omega (arith, d .n))) i;
-    ceiling = sym (d .ceiling) i;
-    sweeps = sym (d .sweeps) i;
-    step = sym (d .step) i;
+    settings = sym (d .settings) i;
     upper = sym (d .upper) i;
     depth = sym (d .depth) i;
     stack = replicate-is stackSize 0 (r .stack) (t .stack) (each-place (λ k. getD (r .stack) k 0 ≡ 0) none) i;
-    «has_best» = sym (d .best) i;
+    «has_best» = sym (flag-off (r .«has_best») (f .best) (d .best)) i;
     best = replicate-is maxEdges 0 (r .best) (t .best) (λ k b. u .best k b (rw (d .best) (omega arith))) i;
     count = sym (d .count) i;
   }
@@ -211,22 +209,20 @@ module _ (r : Search) (t : Typed r) (u : Tidy r) where
             cell-none (nodes (r .graph .m) (r .stack) (r .depth)) p j (omega (arith, nodes-size (r .graph .m) (r .stack) (r .depth)))
             ∙ sym (u .stack p b j c (rw (le-ltb p (r .depth) (omega arith)) (omega arith)))
 
-    open-back : r .«open» ≡ true → recordOf (progressOf r) ≡ r
+    open-back : isOpen r ≡ true → recordOf (progressOf r) ≡ r
     unfolding recordOf progressOf openingIn
     open-back o = λ i. record {
-      «open» = sym o i;
+      «open» = sym (eqb-true (r .«open») 1 o) i;
       graph = r .graph;
       multipliers =
           fit-fill maxVertices (r .graph .n) (pos 0) (r .multipliers) (t .multipliers)
           (zeros-past (pos 0) maxVertices (r .graph .n) (r .multipliers) (t .multipliers) (u .multipliers)) i;
-      ceiling = r .ceiling;
-      sweeps = r .sweeps;
-      step = r .step;
+      settings = r .settings;
       upper = r .upper;
       depth = nodes-size (r .graph .m) (r .stack) (r .depth) i;
       stack = cells-is (nodes (r .graph .m) (r .stack) (r .depth)) (r .stack) (t .stack) cell-back i;
-      «has_best» = has-back (r .graph .m) (r .«has_best») (r .best) i;
-      best = bytes-back (r .graph .m) (r .«has_best») (r .best) (t .best) (w .best) (u .best) i;
+      «has_best» = (ap bit (has-back (r .graph .m) (hasTour r) (r .best)) ∙ byte-back (r .«has_best») (f .best)) i;
+      best = bytes-back (r .graph .m) (hasTour r) (r .best) (t .best) (w .best) (u .best) i;
       count = r .count;
     }
 
@@ -249,25 +245,26 @@ module _ (r : Search) (t : Typed r) (u : Tidy r) where
     open-kept = record {
       opening = fault-accepted (openingIn r) (unfold openingIn in trim) (w .opening);
       upper = fits-range (r .upper) (w .upper);
+      depth = unfold openingIn in rw (nodes-size (r .graph .m) (r .stack) (r .depth)) (w .depth);
       nodes = unfold openingIn in nodes-of (r .graph .m) (r .stack) (r .depth) (λ p b. w .stack p b .1);
-      sized = unfold openingIn in best-sized (r .graph .m) (r .«has_best») (r .best);
+      sized = unfold openingIn in best-sized (r .graph .m) (hasTour r) (r .best);
       count = w .count;
     }
 
 -- a record that passes is the record of its state
 pub encode-decode : (r : Search) → Typed r → Canonical r → encode (decode r) ≡ r
 unfolding encode decode
-encode-decode r t h = go (r .«open») refl (h .stands)
+encode-decode r t h = go (isOpen r) refl (h .stands)
   where
-    go : (b : Bool) → r .«open» ≡ b → Stands b r → encode (cond b (searching (progressOf r)) noSearch) ≡ r
-    go true e d = open-back r t (h .tidy) d e
-    go false e d = idle-back r t (h .tidy) e d
+    go : (b : Bool) → isOpen r ≡ b → Stands b r → encode (cond b (searching (progressOf r)) noSearch) ≡ r
+    go true e d = open-back r t (h .flags) (h .tidy) d e
+    go false e d = idle-back r t (h .flags) (h .tidy) e d
 
 -- and that state is one that a record can hold
 pub decode-kept : (r : Search) → Typed r → Canonical r → KeptState (decode r)
 unfolding decode
-decode-kept r t h = go (r .«open») (h .stands)
+decode-kept r t h = go (isOpen r) (h .stands)
   where
     go : (b : Bool) → Stands b r → KeptState (cond b (searching (progressOf r)) noSearch)
-    go true d = open-kept r t (h .tidy) d
+    go true d = open-kept r t (h .flags) (h .tidy) d
     go false d = tt

@@ -9,6 +9,7 @@ pub mod CheckLoops
 pub mod CheckParts
 pub mod Trimming
 pub mod Inverse
+pub mod Stored
 pub mod Filling
 pub mod Pushing
 pub mod Costs

@@ -12,51 +12,36 @@ use Rattle.graph.specs.declared.Graph.{Graph}
 use Rattle.graph.specs.Limits.{maxVertices, maxEdges}
 use Rattle.graph.specs.Network.{Mark, free, required, excluded, markOf}
 use Rattle.graph.specs.Chart.{edgeless}
+use Rattle.machine.specs.declared.Settings.{Settings}
 use Rattle.machine.specs.Outcomes.{Incumbent, noTour, aTour}
 use Rattle.machine.specs.Machine.{Marks, Opening, Progress, State, noSearch, searching}
 use Rattle.search.specs.declared.Search.{Search}
 
--- a stack has room for 191 nodes, 190 bytes each: a search never has more than m + 1 waiting
+-- a stack has room for 22 nodes, 190 bytes each: a search never has more than n + 2 waiting
 abbrev pub maxNodes : ℕ
-maxNodes = 191
+maxNodes = 22
 
 abbrev pub stackSize : ℕ
-stackSize = 36290
+stackSize = 4180
 
--- the record that these parts make: what the calls on a record's parts speak of
-abbrev pub searchWith : Bool → Graph → List ℤ → ℤ → ℕ → ℕ → ℤ → ℕ → List ℕ → Bool → List ℕ → ℕ → Search
-searchWith o g d ceiling sweeps step upper depth stack h best count =
-    record {
-      «open» = o;
-      graph = g;
-      multipliers = d;
-      ceiling = ceiling;
-      sweeps = sweeps;
-      step = step;
-      upper = upper;
-      depth = depth;
-      stack = stack;
-      «has_best» = h;
-      best = best;
-      count = count;
-    }
+-- the settings of a record where no search is open
+abbrev pub noSettings : Settings
+noSettings = record { ceiling = pos 0; sweeps = 0; step = 0 }
 
 -- "A fresh hunt record has no hunt open"
 unfoldable pub fresh : Search
 fresh =
     record {
-      «open» = false;
+      settings = noSettings;
+      upper = pos 0;
+      count = 0;
+      depth = 0;
       graph = edgeless 0;
       multipliers = replicate maxVertices (pos 0);
-      ceiling = pos 0;
-      sweeps = 0;
-      step = 0;
-      upper = pos 0;
-      depth = 0;
       stack = replicate stackSize 0;
-      «has_best» = false;
       best = replicate maxEdges 0;
-      count = 0;
+      «open» = 0;
+      «has_best» = 0;
     }
 
 -- ---- the stack: node p, counted from 0 at the bottom, has the mark of edge j + 1 at place 190 · p + j
@@ -113,14 +98,20 @@ bestBytes (aTour r) = fill maxEdges (λ i. bit (getD r i false))
 
 -- ---- the record
 
+-- a flag is a byte, 1 yes and 0 no: is a search open, and is there an incumbent?
+abbrev pub isOpen : Search → Bool
+isOpen s = eqb (s .«open») 1
+
+abbrev pub hasTour : Search → Bool
+hasTour s = eqb (s .«has_best») 1
+
 -- the arguments of an opening
-abbrev pub openingOf : Graph → List ℤ → ℤ → ℕ → ℕ → Opening
-openingOf g d ceiling sweeps step =
-    record { graph = g; multipliers = d; ceiling = ceiling; sweeps = sweeps; step = step }
+abbrev pub openingOf : Graph → List ℤ → Settings → Opening
+openingOf g d t = record { graph = g; multipliers = d; settings = t }
 
 -- the opening that a record holds; the multipliers are the first n
 unfoldable pub openingIn : Search → Opening
-openingIn s = openingOf (s .graph) (fit (s .graph .n) (pos 0) (s .multipliers)) (s .ceiling) (s .sweeps) (s .step)
+openingIn s = openingOf (s .graph) (fit (s .graph .n) (pos 0) (s .multipliers)) (s .settings)
 
 -- the search that an open record holds
 unfoldable pub progressOf : Search → Progress
@@ -129,29 +120,27 @@ progressOf s =
       opening = openingIn s;
       upper = s .upper;
       stack = nodes (s .graph .m) (s .stack) (s .depth);
-      incumbent = bestOf (s .graph .m) (s .«has_best») (s .best);
+      incumbent = bestOf (s .graph .m) (hasTour s) (s .best);
       count = s .count;
     }
 
 unfoldable pub decode : Search → State
-decode s = cond (s .«open») (searching (progressOf s)) noSearch
+decode s = cond (isOpen s) (searching (progressOf s)) noSearch
 
 -- the record of a search
 unfoldable pub recordOf : Progress → Search
 recordOf s =
     record {
-      «open» = true;
+      settings = s .opening .settings;
+      upper = s .upper;
+      count = s .count;
+      depth = length (s .stack);
       graph = s .opening .graph;
       multipliers = fit maxVertices (pos 0) (s .opening .multipliers);
-      ceiling = s .opening .ceiling;
-      sweeps = s .opening .sweeps;
-      step = s .opening .step;
-      upper = s .upper;
-      depth = length (s .stack);
       stack = cells (s .stack);
-      «has_best» = hasBest (s .incumbent);
       best = bestBytes (s .incumbent);
-      count = s .count;
+      «open» = 1;
+      «has_best» = bit (hasBest (s .incumbent));
     }
 
 unfoldable pub encode : State → Search

@@ -1,11 +1,10 @@
 -- WHAT EVERY CONTRACT OF THIS CRATE CITES: the record and the answer that a call gives (`reply`), and the lent list as it leaves it
--- (`lent`). And whole lists of calls, each on the record as the call before left it. Definitions only.
+-- (`lent`). Definitions only.
 use mathlib.Core.Path.{_≡_}
-use mathlib.Core.Bool.{Bool, true, false, cond}
-use mathlib.Core.List.{List, [], _∷_}
+use mathlib.Core.Bool.{true, false, cond}
+use mathlib.Core.List.{List}
 use Prim.Native.Nat.{ℕ}
-use Rattle.machine.specs.Machine.{State}
-use Rattle.machine.specs.Calls.{Call, lentBy, Verdict, goingOn, none, best, refused, accepted, runs, tells, step}
+use Rattle.machine.specs.Calls.{Call, lentBy, goingOn, none, best, refused, accepted, runs, tells, step}
 use Rattle.machine.specs.Calls as machine
 use Rattle.search.specs.Record.{decode, encode}
 use Rattle.search.specs.Check.{check}
@@ -26,21 +25,15 @@ means (Searching count) = tells goingOn count
 means (NoTour count) = tells none count
 means (Best c count) = tells (best c) count
 
--- and the case for each: Theorem.antt shows that `means` and `said` undo each other
-abbrev pub saidRun : Bool → ℕ → Answer
-saidRun false count = GoingOn count
-saidRun true count = Finished count
-
-abbrev pub saidTell : Verdict → ℕ → Answer
-saidTell goingOn count = Searching count
-saidTell none count = NoTour count
-saidTell (best c) count = Best c count
-
+-- the case for each answer of document 01; Theorem.antt shows that `means` and `said` undo each other
 abbrev pub said : machine.Answer → Answer
 said (refused number place) = Refused number place
 said accepted = Accepted
-said (runs done count) = saidRun done count
-said (tells v count) = saidTell v count
+said (runs false count) = GoingOn count
+said (runs true count) = Finished count
+said (tells goingOn count) = Searching count
+said (tells none count) = NoTour count
+said (tells (best c) count) = Best c count
 
 -- ---- one call
 
@@ -54,15 +47,11 @@ unfoldable pub reply : Search → Call → Outcome
 reply s c =
     cond (check s)
     (record { search = encode (step (decode s) c .state); answer = said (step (decode s) c .answer) })
-    (refuses s 24)
+    (record { search = s; answer = Refused 24 0 })
 
 -- the lent list as the call leaves it
 unfoldable pub lent : Search → Call → List ℕ
 lent s c = cond (check s) (step (decode s) c .lent) (lentBy c)
-
--- the call leaves the record, and answers this
-abbrev pub Answers : Search → Call → Answer → Type 0
-Answers s c a = record { search = s; answer = a } ≡ reply s c
 
 -- what a function over a lent record promises of its answer and of the record that it leaves
 abbrev pub Gives : Search → Call → Answer → Search → Type 0
@@ -71,23 +60,3 @@ Gives s c a left = (a ≡ reply s c .answer) × (left ≡ reply s c .search)
 -- and of the list lent beside it
 abbrev pub GivesList : Search → Call → Answer → Search → List ℕ → Type 0
 GivesList s c a left l = (a ≡ reply s c .answer) × ((left ≡ reply s c .search) × (l ≡ lent s c))
-
--- ---- lists of calls, the first one first
-
--- "gets the record as the call before left it, refused or not"
-unfoldable pub after : Search → List Call → Search
-after s [] = s
-after s (c ∷ cs) = after (reply s c .search) cs
-
-unfoldable pub told : Search → List Call → List Answer
-told s [] = []
-told s (c ∷ cs) = reply s c .answer ∷ told (reply s c .search) cs
-
-unfoldable pub written : Search → List Call → List (List ℕ)
-written s [] = []
-written s (c ∷ cs) = lent s c ∷ written (reply s c .search) cs
-
--- the lists that the machine leaves
-unfoldable pub lents : State → List Call → List (List ℕ)
-lents s [] = []
-lents s (c ∷ cs) = step s c .lent ∷ lents (step s c .state) cs

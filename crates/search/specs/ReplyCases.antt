@@ -18,10 +18,10 @@ use Rattle.onetree.specs.Arrays as onetree
 use Rattle.machine.specs.Tours.{cost}
 use Rattle.machine.specs.Outcomes.{noTour, aTour}
 use Rattle.machine.specs.Machine.{Opening, State, noSearch, searching, held, begin, costOf, finished}
-use Rattle.machine.specs.Calls.{Call, lentBy, accepts, opens, run, tell, show, close, Verdict, goingOn, none, best, refused, accepted, tells, fault, openedBy, verdict, bytes, shownBy, step}
+use Rattle.machine.specs.Calls.{Call, lentBy, accepts, opens, run, tell, show, close, Verdict, goingOn, none, best, refused, accepted, tells, fault, openedBy, verdict, tourBytes, shownBy, step}
 use Rattle.machine.specs.Calls as machine
 use Rattle.machine.specs.Kept.{Kept, KeptState}
-use Rattle.search.specs.Record.{fresh, nodes, bits, bestOf, openingIn, progressOf, decode, recordOf, encode}
+use Rattle.search.specs.Record.{fresh, nodes, bits, bestOf, isOpen, hasTour, openingIn, progressOf, decode, recordOf, encode}
 use Rattle.search.specs.Canonical.{Fits, Stands, Canonical}
 use Rattle.search.specs.Check.{check, check-is}
 use Rattle.search.specs.Incumbents.{byte-back, bits-size, bits-at}
@@ -34,8 +34,8 @@ use Rattle.search.specs.declared.Answer.the-variants.{Accepted, Searchin
 use Rattle.search.specs.declared.Outcome.{Outcome}
 
 -- the bytes of a kept tour are those that the record has for it
-tour-bytes : (m : ℕ) (w : List ℕ) → ((i : ℕ) → i < m → getD w i 0 ≤ 1) → fit m 0 w ≡ bytes (bits m w)
-unfolding bytes
+tour-bytes : (m : ℕ) (w : List ℕ) → ((i : ℕ) → i < m → getD w i 0 ≤ 1) → fit m 0 w ≡ tourBytes (bits m w)
+unfolding tourBytes
 tour-bytes m w small =
     ext-getD 0 (fit m 0 w) (map bit (bits m w)) (fit-size m 0 w ∙ sym (length-map (bits m w) bit ∙ bits-size m w))
     (λ i b. let c : i < m = omega (arith, fit-size m 0 w) in
@@ -78,7 +78,7 @@ module _ (s : Search) where
 
     -- ---- no search is open
 
-    module _ (o : s .«open» ≡ false) where
+    module _ (o : isOpen s ≡ false) where
       pub shut : decode s ≡ noSearch
       unfolding decode
       shut = rw o
@@ -112,7 +112,7 @@ module _ (s : Search) where
 
     -- ---- a search is open
 
-    module _ (o : s .«open» ≡ true) where
+    module _ (o : isOpen s ≡ true) where
       pub opened : decode s ≡ searching (progressOf s)
       unfolding decode
       opened = rw o
@@ -149,11 +149,11 @@ module _ (s : Search) where
           go zero i = absurd (h i)
           go (suc d) i = at d i
 
-      none-is : s .«has_best» ≡ false → progressOf s .incumbent ≡ noTour
+      none-is : hasTour s ≡ false → progressOf s .incumbent ≡ noTour
       unfolding progressOf bestOf
       none-is h = rw h
 
-      best-is : s .«has_best» ≡ true → progressOf s .incumbent ≡ aTour (bits (s .graph .m) (s .best))
+      best-is : hasTour s ≡ true → progressOf s .incumbent ≡ aTour (bits (s .graph .m) (s .best))
       unfolding progressOf bestOf
       best-is h = rw h
 
@@ -175,10 +175,10 @@ module _ (s : Search) where
       pub tell-going : (s .depth ≡ 0 → ⊥) → reply s tell ≡ same (Searching (s .count))
       tell-going h = told goingOn (unfold verdict in rw (waiting h))
 
-      pub tell-none : s .depth ≡ 0 → s .«has_best» ≡ false → reply s tell ≡ same (NoTour (s .count))
+      pub tell-none : s .depth ≡ 0 → hasTour s ≡ false → reply s tell ≡ same (NoTour (s .count))
       tell-none h k = told none (unfold verdict in rw (empty h, none-is k))
 
-      pub tell-best : s .depth ≡ 0 → s .«has_best» ≡ true
+      pub tell-best : s .depth ≡ 0 → hasTour s ≡ true
           → reply s tell ≡ same (Best (cost (network (s .graph)) (onetree.bytes (s .best))) (s .count))
       tell-best h k = told (best (cost (network (s .graph)) (onetree.bytes (s .best)))) (finds ∙ ap best paid)
         where
@@ -207,14 +207,14 @@ module _ (s : Search) where
       pub show-22 : (l : List ℕ) → (s .depth ≡ 0 → ⊥) → (reply s (show l) ≡ refuses s 22) × (lent s (show l) ≡ l)
       show-22 l h = shows l l (refused 22 0) (unfold shownBy in rw (waiting h))
 
-      pub show-23 : (l : List ℕ) → s .depth ≡ 0 → s .«has_best» ≡ false → (reply s (show l) ≡ refuses s 23) × (lent s (show l) ≡ l)
+      pub show-23 : (l : List ℕ) → s .depth ≡ 0 → hasTour s ≡ false → (reply s (show l) ≡ refuses s 23) × (lent s (show l) ≡ l)
       show-23 l h k = shows l l (refused 23 0) (unfold shownBy in rw (empty h, none-is k))
 
       m-is : progressOf s .opening .graph .m ≡ s .graph .m
       unfolding progressOf openingIn
       m-is = refl
 
-      pub show-11 : (l : List ℕ) → s .depth ≡ 0 → s .«has_best» ≡ true → (length l ≡ s .graph .m → ⊥)
+      pub show-11 : (l : List ℕ) → s .depth ≡ 0 → hasTour s ≡ true → (length l ≡ s .graph .m → ⊥)
           → (reply s (show l) ≡ refuses s 11) × (lent s (show l) ≡ l)
       show-11 l h k n = shows l l (refused 11 0) (unfold shownBy in rw (empty h, best-is k, off))
         where
@@ -225,18 +225,18 @@ module _ (s : Search) where
       unfolding progressOf openingIn
       few = kept .opening .valid .few
 
-      pub show-done : (l : List ℕ) → s .depth ≡ 0 → s .«has_best» ≡ true → length l ≡ s .graph .m
+      pub show-done : (l : List ℕ) → s .depth ≡ 0 → hasTour s ≡ true → length l ≡ s .graph .m
           → (reply s (show l) ≡ same Accepted) × (lent s (show l) ≡ fit (s .graph .m) 0 (s .best))
-      show-done l h k n = let r = shows l (bytes (bits (s .graph .m) (s .best))) accepted accepts-it in (r .0, r .1 ∙ sym written)
+      show-done l h k n = let r = shows l (tourBytes (bits (s .graph .m) (s .best))) accepted accepts-it in (r .0, r .1 ∙ sym written)
         where
           on : eqb (length l) (progressOf s .opening .graph .m) ≡ true
           on = eq-eqb (length l) (progressOf s .opening .graph .m) (n ∙ sym m-is)
 
           accepts-it : shownBy (progressOf s) l (finished (progressOf s)) (progressOf s .incumbent)
-              ≡ record { state = searching (progressOf s); answer = accepted; lent = bytes (bits (s .graph .m) (s .best)) }
+              ≡ record { state = searching (progressOf s); answer = accepted; lent = tourBytes (bits (s .graph .m) (s .best)) }
           accepts-it = unfold shownBy in rw (empty h, best-is k, on)
 
-          written : fit (s .graph .m) 0 (s .best) ≡ bytes (bits (s .graph .m) (s .best))
+          written : fit (s .graph .m) 0 (s .best) ≡ tourBytes (bits (s .graph .m) (s .best))
           written = tour-bytes (s .graph .m) (s .best) (λ i b. fitting .best i (omega (arith, few)))
 
       -- the graph of an open record keeps to 'Legs and marks'

@@ -6,20 +6,21 @@ use mathlib.Core.List.{List, [], _∷_}
 use Prim.Native.Nat.{ℕ}
 use native.Mathlib.Omega.{arith}
 use lib.ListN.{length}
+use borrow.Author.Tests.{eqb-true}
 use lib.IntN.{pos}
 use Rattle.lists.specs.Fill.{fit}
 use Rattle.graph.specs.Limits.{maxVertices}
 use Rattle.machine.specs.Machine.{Marks, Opening, Progress, State, openTop, settled, isEmpty, finished, ran}
-use Rattle.machine.specs.Calls.{Call, run, step, runBy}
+use Rattle.machine.specs.Calls.{Call, run, runs, step, runBy}
 use Rattle.machine.specs.Runs.{ran-keeps}
 use Rattle.search.specs.declared.Search.{Search}
 use Rattle.search.specs.declared.Outcome.{Outcome}
 use Rattle.search.specs.declared.Answer.the-variants.{GoingOn, Finished}
 use Rattle.search.specs.declared.running.Frame.{Frame}
-use Rattle.search.specs.Record.{openingIn, progressOf, recordOf, encode}
+use Rattle.search.specs.Record.{isOpen, openingIn, progressOf, recordOf, encode}
 use Rattle.search.specs.Check.{check, check-is}
 use Rattle.search.specs.Inverse.{Typed, encode-decode}
-use Rattle.search.specs.Replies.{saidRun, said, reply}
+use Rattle.search.specs.Replies.{said, reply}
 use Rattle.search.specs.ReplyCases.{opened, kept}
 use Rattle.search.specs.Frames.{frameOf, holds-depth, holds-count}
 use Rattle.search.specs.Running.{Runs}
@@ -36,26 +37,24 @@ frameIn s = record { upper = s .upper; depth = s .depth; «has_best» = s .«has
 abbrev pub withFrame : Search → Frame → List ℕ → List ℕ → Search
 withFrame s f l w =
     record {
-      «open» = s .«open»;
+      settings = s .settings;
+      upper = f .upper;
+      count = f .count;
+      depth = f .depth;
       graph = s .graph;
       multipliers = s .multipliers;
-      ceiling = s .ceiling;
-      sweeps = s .sweeps;
-      step = s .step;
-      upper = f .upper;
-      depth = f .depth;
       stack = l;
-      «has_best» = f .«has_best»;
       best = w;
-      count = f .count;
+      «open» = s .«open»;
+      «has_best» = f .«has_best»;
     }
 
-module _ (s : Search) (t : Typed s) (h : check s ≡ true) (e : s .«open» ≡ true) where
+module _ (s : Search) (t : Typed s) (h : check s ≡ true) (e : isOpen s ≡ true) where
   back : recordOf (progressOf s) ≡ s
   unfolding encode
   back = ap encode (sym (opened s t h e)) ∙ encode-decode s t (check-is s h)
 
-  pub run-starts : Runs (s .graph) (s .multipliers) (s .sweeps) (s .step) (frameIn s) (s .stack) (s .best) (progressOf s)
+  pub run-starts : Runs (s .graph) (s .multipliers) (s .settings) (frameIn s) (s .stack) (s .best) (progressOf s)
   unfolding progressOf openingIn frameOf recordOf
   run-starts = record {
     holds = record {
@@ -66,12 +65,11 @@ module _ (s : Search) (t : Typed s) (h : check s ≡ true) (e : s .«open» ≡ 
       best = ap (λ (r : Search). r .best) (sym back);
     };
     multipliers = refl;
-    sweeps = refl;
-    step = refl;
+    settings = refl;
   }
 
   module _ (budget : ℕ) (f : Frame) (l w : List ℕ)
-      (r : Runs (s .graph) (s .multipliers) (s .sweeps) (s .step) f l w (ran budget (progressOf s))) where
+      (r : Runs (s .graph) (s .multipliers) (s .settings) f l w (ran budget (progressOf s))) where
     after : Progress
     after = ran budget (progressOf s)
 
@@ -83,14 +81,12 @@ module _ (s : Search) (t : Typed s) (h : check s ≡ true) (e : s .«open» ≡ 
     leaves : withFrame s f l w ≡ recordOf after
     unfolding recordOf after frameOf progressOf openingIn
     leaves = λ i. record {
-      «open» = e i;
+      «open» = eqb-true (s .«open») 1 e i;
       graph = sym (r .holds .graph) i;
       multipliers =
           (ap (λ (q : Search). q .multipliers) (sym back)
           ∙ ap (λ (o : Opening). fit maxVertices (pos 0) (o .multipliers)) (sym same-opening)) i;
-      ceiling = ap (λ (o : Opening). o .ceiling) (sym same-opening) i;
-      sweeps = sym (r .sweeps) i;
-      step = sym (r .step) i;
+      settings = sym (r .settings) i;
       upper = ap (λ (x : Frame). x .upper) (r .holds .frame) i;
       depth = ap (λ (x : Frame). x .depth) (r .holds .frame) i;
       stack = r .holds .bytes i;
@@ -99,7 +95,7 @@ module _ (s : Search) (t : Typed s) (h : check s ≡ true) (e : s .«open» ≡ 
       count = ap (λ (x : Frame). x .count) (r .holds .frame) i;
     }
 
-    replies : reply s (run budget) ≡ record { search = recordOf after; answer = saidRun (finished after) (after .count) }
+    replies : reply s (run budget) ≡ record { search = recordOf after; answer = said (runs (finished after) (after .count)) }
     unfolding reply step runBy encode after
     replies = rw h (ap (outcome (run budget)) (opened s t h e))
 
@@ -111,9 +107,9 @@ module _ (s : Search) (t : Typed s) (h : check s ≡ true) (e : s .«open» ≡ 
     unfolding after
     depth-is = holds-depth (s .graph) f l w (ran budget (progressOf s)) (r .holds)
 
-    answered : (b : Bool) → finished after ≡ b → record { search = withFrame s f l w; answer = saidRun b (f .count) } ≡ reply s (run budget)
+    answered : (b : Bool) → finished after ≡ b → record { search = withFrame s f l w; answer = said (runs b (f .count)) } ≡ reply s (run budget)
     answered b q =
-        (λ i. record { search = leaves i; answer = saidRun (sym q i) (count-is i) })
+        (λ i. record { search = leaves i; answer = said (runs (sym q i) (count-is i)) })
         ∙ sym replies
 
     pub run-finished : f .depth ≡ 0 → record { search = withFrame s f l w; answer = Finished (f .count) } ≡ reply s (run budget)

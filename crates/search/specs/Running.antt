@@ -14,8 +14,9 @@ use Rattle.graph.specs.Limits.{maxEdges, maxStep, maxCount}
 use Rattle.graph.specs.Network.{network}
 use Rattle.onetree.specs.Arrays.{bytes}
 use Rattle.onetree.specs.Inputs.{multipliersFit, ceilingFits}
+use Rattle.machine.specs.declared.Settings.{Settings}
 use Rattle.machine.specs.Machine.{Marks, passes, Progress, openNode, settled, openTop, ran}
-use Rattle.machine.specs.Kept.{Nodes, depth}
+use Rattle.machine.specs.Kept.{Nodes}
 use Rattle.machine.specs.Runs.{ran-opens, ran-empty, ran-full}
 use Rattle.search.specs.declared.running.Frame.{Frame}
 use Rattle.search.specs.Record.{marksIn, cells}
@@ -24,21 +25,20 @@ use Rattle.search.specs.Pushing.{bytesOf, bytes-back, rowAt, row-top}
 use Rattle.search.specs.Opening.{Opened, openedAs}
 use Rattle.search.specs.Frames.{Holds, Top, holds-upper, holds-depth, holds-count, holds-deep, holds-valid, top-of}
 
-pub record Runs (g : Graph) (d : List ℤ) (passes-left stride : ℕ) (f : Frame) (l w : List ℕ) (s : Progress) : Type 0 where
+pub record Runs (g : Graph) (d : List ℤ) (o : Settings) (f : Frame) (l w : List ℕ) (s : Progress) : Type 0 where
   pub holds : Holds g f l w s
   pub multipliers : s .opening .multipliers ≡ fit (g .n) (pos 0) d
-  pub sweeps : s .opening .sweeps ≡ passes-left
-  pub step : s .opening .step ≡ stride
+  pub settings : s .opening .settings ≡ o
 
-module _ (g : Graph) (d : List ℤ) (sweeps step : ℕ) (f : Frame) (l w : List ℕ) (s : Progress) (h : Runs g d sweeps step f l w s) where
+module _ (g : Graph) (d : List ℤ) (o : Settings) (f : Frame) (l w : List ℕ) (s : Progress) (h : Runs g d o f l w s) where
   pub runs-fits : multipliersFit (fit (g .n) (pos 0) d) ≡ true
   runs-fits = ap multipliersFit (sym (h .multipliers)) ∙ h .holds .kept .opening .multipliers
 
   pub runs-ceiling : ceilingFits (f .upper) ≡ true
   runs-ceiling = ap ceilingFits (holds-upper g f l w s (h .holds)) ∙ range-fits (s .upper) (h .holds .kept .upper)
 
-  pub runs-step : step ≤ maxStep
-  runs-step = subst (λ (k : ℕ). k ≤ maxStep) (h .step) (h .holds .kept .opening .step)
+  pub runs-step : o .step ≤ maxStep
+  runs-step = subst (λ (t : Settings). t .step ≤ maxStep) (h .settings) (h .holds .kept .opening .step)
 
   module _ (t : Top s) where
     few : g .m ≤ maxEdges
@@ -56,7 +56,7 @@ module _ (g : Graph) (d : List ℤ) (sweeps step : ℕ) (f : Frame) (l w : List 
     pub top-row : rowAt l (f .depth - 1) ≡ bytesOf (t .node)
     top-row =
         row-top (t .node) (t .rest) l (f .depth - 1) (h .holds .bytes ∙ ap cells (t .stack)) place
-        (omega (arith, holds-deep g f l w s (h .holds), few, place, top-there))
+        (omega (arith, holds-deep g f l w s (h .holds), place, top-there))
 
     row-marks : marksIn (g .m) (rowAt l (f .depth - 1)) ≡ t .node
     row-marks = ap (marksIn (g .m)) top-row ∙ bytes-back (g .m) (t .node) few long
@@ -65,28 +65,28 @@ module _ (g : Graph) (d : List ℤ) (sweeps step : ℕ) (f : Frame) (l w : List 
     row-bytes = top-row ∙ ap bytesOf (sym row-marks)
 
     -- the passes that the code makes are the machine's opening of the node
-    pub top-is : (o : Opened) (u : ℤ) (x : List ℕ) → u ≡ f .upper → x ≡ rowAt l (f .depth - 1)
-        → o ≡ openedAs (passes (network g) step u sweeps (fit (g .n) (pos 0) d) (marksIn (g .m) x))
-        → o ≡ openedAs (openNode (s .opening) (s .upper) (t .node))
+    pub top-is : (q : Opened) (u : ℤ) (x : List ℕ) → u ≡ f .upper → x ≡ rowAt l (f .depth - 1)
+        → q ≡ openedAs (passes (network g) (o .step) u (o .sweeps) (fit (g .n) (pos 0) d) (marksIn (g .m) x))
+        → q ≡ openedAs (openNode (s .opening) (s .upper) (t .node))
     unfolding openNode
-    top-is o u x a b e = e ∙ ap openedAs same
+    top-is q u x a b e = e ∙ ap openedAs same
       where
-        same : passes (network g) step u sweeps (fit (g .n) (pos 0) d) (marksIn (g .m) x)
-            ≡ passes (network (s .opening .graph)) (s .opening .step) (s .upper) (s .opening .sweeps) (s .opening .multipliers) (t .node)
+        same : passes (network g) (o .step) u (o .sweeps) (fit (g .n) (pos 0) d) (marksIn (g .m) x)
+            ≡ passes (network (s .opening .graph)) (s .opening .settings .step) (s .upper) (s .opening .settings .sweeps)
+            (s .opening .multipliers) (t .node)
         same =
             λ i.
-            passes (network (sym (h .holds .graph) i)) (sym (h .step) i) ((a ∙ holds-upper g f l w s (h .holds)) i) (sym (h .sweeps) i)
-            (sym (h .multipliers) i) ((ap (marksIn (g .m)) b ∙ row-marks) i)
+            passes (network (sym (h .holds .graph) i)) (sym (h .settings) i .step) ((a ∙ holds-upper g f l w s (h .holds)) i)
+            (sym (h .settings) i .sweeps) (sym (h .multipliers) i) ((ap (marksIn (g .m)) b ∙ row-marks) i)
 
     -- and the arguments are those that they were
     pub runs-next : (f′ : Frame) (l′ w′ : List ℕ) → Holds g f′ l′ w′ (openTop s (s .stack))
-        → Runs g d sweeps step f′ l′ w′ (openTop s (s .stack))
+        → Runs g d o f′ l′ w′ (openTop s (s .stack))
     unfolding openTop settled
     runs-next f′ l′ w′ k = record {
       holds = k;
       multipliers = ap (λ (x : Progress). x .opening .multipliers) same ∙ h .multipliers;
-      sweeps = ap (λ (x : Progress). x .opening .sweeps) same ∙ h .sweeps;
-      step = ap (λ (x : Progress). x .opening .step) same ∙ h .step;
+      settings = ap (λ (x : Progress). x .opening .settings) same ∙ h .settings;
     }
       where
         same : openTop s (s .stack) ≡ settled s (t .rest) (openNode (s .opening) (s .upper) (t .node))
@@ -110,32 +110,32 @@ module _ (g : Graph) (d : List ℤ) (sweeps step : ℕ) (f : Frame) (l w : List 
 -- ---- the loop
 
 -- the search that f, l and w hold, with `left` of the budget, runs to `goal`
-pub record RunsTo (g : Graph) (d : List ℤ) (sweeps step : ℕ) (f : Frame) (l w : List ℕ) (left : ℕ) (goal : Progress) : Type 0 where
+pub record RunsTo (g : Graph) (d : List ℤ) (o : Settings) (f : Frame) (l w : List ℕ) (left : ℕ) (goal : Progress) : Type 0 where
   pub search : Progress
-  pub runs : Runs g d sweeps step f l w search
+  pub runs : Runs g d o f l w search
   pub comes : ran left search ≡ goal
 
-module _ (g : Graph) (d : List ℤ) (sweeps step : ℕ) (f : Frame) (l w : List ℕ) (left : ℕ) (goal : Progress)
-    (k : RunsTo g d sweeps step f l w left goal) where
-  there : ran left (k .search) ≡ k .search → Runs g d sweeps step f l w goal
-  there e = subst (Runs g d sweeps step f l w) (sym e ∙ k .comes) (k .runs)
+module _ (g : Graph) (d : List ℤ) (o : Settings) (f : Frame) (l w : List ℕ) (left : ℕ) (goal : Progress)
+    (k : RunsTo g d o f l w left goal) where
+  there : ran left (k .search) ≡ k .search → Runs g d o f l w goal
+  there e = subst (Runs g d o f l w) (sym e ∙ k .comes) (k .runs)
 
   -- it is there: nothing waits, or the count is at its limit, or no budget is left
-  pub run-stops : (f .depth ≡ 0) ⊎ (maxCount ≤ f .count) → Runs g d sweeps step f l w goal
-  run-stops e = there (ran-stops g d sweeps step f l w (k .search) (k .runs) left e)
+  pub run-stops : (f .depth ≡ 0) ⊎ (maxCount ≤ f .count) → Runs g d o f l w goal
+  run-stops e = there (ran-stops g d o f l w (k .search) (k .runs) left e)
 
-  pub run-spent : left ≡ 0 → Runs g d sweeps step f l w goal
+  pub run-spent : left ≡ 0 → Runs g d o f l w goal
   run-spent e = there (ap (λ (n : ℕ). ran n (k .search)) e ∙ unfold ran in refl)
 
   -- one node more
   pub run-turn : (less : ℕ) → left ≡ suc less → 0 < f .depth → f .count < maxCount → (f′ : Frame) (l′ w′ : List ℕ)
-      → ((s : Progress) → Runs g d sweeps step f l w s → Runs g d sweeps step f′ l′ w′ (openTop s (s .stack)))
-      → RunsTo g d sweeps step f′ l′ w′ less goal
+      → ((s : Progress) → Runs g d o f l w s → Runs g d o f′ l′ w′ (openTop s (s .stack)))
+      → RunsTo g d o f′ l′ w′ less goal
   run-turn less e deep room f′ l′ w′ opened = record {
     search = openTop (k .search) (k .search .stack);
     runs = opened (k .search) (k .runs);
     comes =
-        sym (ran-next g d sweeps step f l w (k .search) (k .runs) (top-of g f l w (k .search) (k .runs .holds) deep room) less)
+        sym (ran-next g d o f l w (k .search) (k .runs) (top-of g f l w (k .search) (k .runs .holds) deep room) less)
         ∙ ap (λ (n : ℕ). ran n (k .search)) (sym e)
         ∙ k .comes;
   }

@@ -18,10 +18,11 @@ ghost use Rattle.search.specs.Filling.{Filling};
 ghost use Rattle.search.specs.Opening.{opened, openedAs};
 ghost use Rattle.search.specs.Expanding.{Places, Placed, Expanded};
 ghost use Rattle.compaction.specs.Ranks.{rank};
-ghost use Rattle.search.specs.Compacting.{kept, counted, listedAt, Listed, Compacted};
+ghost use Rattle.search.specs.Compacting.{kept, counted, listedAt, Listed};
 use crate::node::Fate;
+use crate::node::Subproblem;
 use crate::node::open_node;
-use crate::node::wide;
+use graph::wide;
 
 // A place as a byte.
 fn byte(k: usize) -> u8
@@ -58,74 +59,30 @@ fn list_left<'a>(m: usize, marks: &'a [u8; 190], place: &mut [u8; 190]) -> usize
     f
 }
 
-// The ends, costs and marks of the edges at the f places that are listed, into blank arrays.
-fn gather<'a>(
-    place: &'a [u8; 190],
-    f: usize,
-    a: &'a [u8; 190],
-    b: &'a [u8; 190],
-    cost: &'a [i32; 190],
-    marks: &'a [u8; 190],
-    left_a: &mut [u8; 190],
-    left_b: &mut [u8; 190],
-    left_cost: &mut [i32; 190],
-    left_marks: &mut [u8; 190],
-)
-    requires { ⌜ (f ≤ maxEdges) × ((j : ℕ) → j < f → getD (now place) j 0 < maxEdges)
-        × (now «left_a» ≡ replicate maxEdges 0) × (now «left_b» ≡ replicate maxEdges 0)
-        × (now «left_cost» ≡ replicate maxEdges (pos 0)) × (now «left_marks» ≡ replicate maxEdges 0) ⌝ }
-    ensures { λ _. ⌜ Filling 0 maxEdges f (listedAt 0 (now (a .entry)) (now (place .entry))) (now («left_a» .exit))
-        × Filling 0 maxEdges f (listedAt 0 (now (b .entry)) (now (place .entry))) (now («left_b» .exit))
-        × Filling (pos 0) maxEdges f (listedAt (pos 0) (now (cost .entry)) (now (place .entry))) (now («left_cost» .exit))
-        × Filling 0 maxEdges f (listedAt 0 (now (marks .entry)) (now (place .entry))) (now («left_marks» .exit)) ⌝ }
+// The bytes of the edges at the f places that are listed, into a blank array.
+fn gather<'a>(place: &'a [u8; 190], f: usize, from: &'a [u8; 190], into: &mut [u8; 190])
+    requires { ⌜ (f ≤ maxEdges) × ((j : ℕ) → j < f → getD (now place) j 0 < maxEdges) × (now into ≡ replicate maxEdges 0) ⌝ }
+    ensures { λ _. ⌜ Filling 0 maxEdges f (listedAt 0 (now (from .entry)) (now (place .entry))) (now (into .exit)) ⌝ }
 {
     let mut j = 0;
     while j < f {
         let k = wide(place[j]);
-        left_a[j] = a[k];
-        left_b[j] = b[k];
-        left_cost[j] = cost[k];
-        left_marks[j] = marks[k];
+        into[j] = from[k];
         j = j + 1;
     }
 }
 
-// The edges that the marks do not exclude, in their order, with those marks, and the place that each of them had, into blank arrays; how
-// many they are is handed on.
-fn compact<'a>(
-    m: usize,
-    a: &'a [u8; 190],
-    b: &'a [u8; 190],
-    cost: &'a [i32; 190],
-    marks: &'a [u8; 190],
-    left_a: &mut [u8; 190],
-    left_b: &mut [u8; 190],
-    left_cost: &mut [i32; 190],
-    left_marks: &mut [u8; 190],
-    place: &mut [u8; 190],
-) -> usize
-    requires { ⌜ (m ≤ maxEdges) × (now «left_a» ≡ replicate maxEdges 0) × (now «left_b» ≡ replicate maxEdges 0)
-        × (now «left_cost» ≡ replicate maxEdges (pos 0)) × (now «left_marks» ≡ replicate maxEdges 0)
-        × (now place ≡ replicate maxEdges 0) ⌝ }
-    ensures { λ r. ⌜ ((n : ℕ) (x : List ℕ) → Compacted (graphOf n m (now (a .entry)) (now (b .entry)) (now (cost .entry)) x)
-        (now (marks .entry))
-        (graphOf n r (now («left_a» .exit)) (now («left_b» .exit)) (now («left_cost» .exit)) (now («left_marks» .exit)))
-        (now (place .exit))) ⌝ }
+// And their costs.
+fn gather_costs<'a>(place: &'a [u8; 190], f: usize, from: &'a [i32; 190], into: &mut [i32; 190])
+    requires { ⌜ (f ≤ maxEdges) × ((j : ℕ) → j < f → getD (now place) j 0 < maxEdges) × (now into ≡ replicate maxEdges (pos 0)) ⌝ }
+    ensures { λ _. ⌜ Filling (pos 0) maxEdges f (listedAt (pos 0) (now (from .entry)) (now (place .entry))) (now (into .exit)) ⌝ }
 {
-    let f = list_left(m, marks, place);
-    gather(
-        place,
-        f,
-        a,
-        b,
-        cost,
-        marks,
-        left_a,
-        left_b,
-        left_cost,
-        left_marks,
-    );
-    f
+    let mut j = 0;
+    while j < f {
+        let k = wide(place[j]);
+        into[j] = from[k];
+        j = j + 1;
+    }
 }
 
 // One byte for each of m edges, and 0 past them.
@@ -172,57 +129,36 @@ fn expand<'a>(
 
 // The node with the marks in row is opened: as `open_node` opens it, on fewer edges.
 pub(crate) fn open_compact<'a>(
-    n: usize,
-    m: usize,
+    p: Subproblem,
     a: &'a [u8; 190],
     b: &'a [u8; 190],
     cost: &'a [i32; 190],
-    multipliers: [i32; 20],
-    upper: i64,
-    sweeps: u32,
-    step: u32,
     row: &mut [u8; 190],
     top: &mut [u8; 190],
 ) -> Fate
-    requires { ⌜ ((x : List ℕ) × Valid (graphOf n m (now a) (now b) (now cost) x))
-        × (multipliersFit (fit n (pos 0) multipliers) ≡ true) × (ceilingFits upper ≡ true) × (step ≤ maxStep)
-        × (now row ≡ bytesOf (marksIn m (now row))) ⌝ }
-    ensures { λ r. ⌜ ((x : List ℕ) → Valid (graphOf n m (now (a .entry)) (now (b .entry)) (now (cost .entry)) x)
+    requires { ⌜ ((x : List ℕ) × Valid (graphOf (p .n) (p .m) (now a) (now b) (now cost) x))
+        × (multipliersFit (fit (p .n) (pos 0) (p .multipliers)) ≡ true) × (ceilingFits (p .upper) ≡ true)
+        × (p .settings .step ≤ maxStep) × (now row ≡ bytesOf (marksIn (p .m) (now row))) ⌝ }
+    ensures { λ r. ⌜ ((x : List ℕ) → Valid (graphOf (p .n) (p .m) (now (a .entry)) (now (b .entry)) (now (cost .entry)) x)
         → opened r (now (row .exit)) (now (top .exit))
-        ≡ openedAs (passes (network (graphOf n m (now (a .entry)) (now (b .entry)) (now (cost .entry)) x)) step upper sweeps
-        (fit n (pos 0) multipliers) (marksIn m (now (row .entry))))) ⌝ }
+        ≡ openedAs (passes (network (graphOf (p .n) (p .m) (now (a .entry)) (now (b .entry)) (now (cost .entry)) x)) (p .settings .step)
+        (p .upper) (p .settings .sweeps) (fit (p .n) (pos 0) (p .multipliers)) (marksIn (p .m) (now (row .entry))))) ⌝ }
 {
-    let mut left_a = [0u8; 190];
-    let mut left_b = [0u8; 190];
-    let mut left_cost = [0i32; 190];
-    let mut lower = [0u8; 190];
+    let m = p.m;
     let mut place = [0u8; 190];
-    let f = compact(
-        m,
-        a,
-        b,
-        cost,
-        row,
-        &mut left_a,
-        &mut left_b,
-        &mut left_cost,
-        &mut lower,
-        &mut place,
-    );
+    let f = list_left(m, row, &mut place);
+    let mut left_a = [0u8; 190];
+    gather(&place, f, a, &mut left_a);
+    let mut left_b = [0u8; 190];
+    gather(&place, f, b, &mut left_b);
+    let mut left_cost = [0i32; 190];
+    gather_costs(&place, f, cost, &mut left_cost);
+    let mut lower = [0u8; 190];
+    gather(&place, f, row, &mut lower);
     let mut higher = [0u8; 190];
-    let fate = open_node(
-        n,
-        f,
-        &left_a,
-        &left_b,
-        &left_cost,
-        multipliers,
-        upper,
-        sweeps,
-        step,
-        &mut lower,
-        &mut higher,
-    );
+    let mut q = p;
+    q.m = f;
+    let fate = open_node(q, &left_a, &left_b, &left_cost, &mut lower, &mut higher);
     match fate {
         Fate::Closes => {
             *row = [0; 190];

@@ -9,14 +9,19 @@ mod compact;
 mod cost;
 mod node;
 mod opening;
-pub mod parts;
 mod record;
 mod running;
 mod shown;
 mod stack;
 
+use cost::tour_cost;
 use graph::Graph;
-use record::check_record;
+use graph::wide;
+use machine::Settings;
+use record::sound;
+use running::Frame;
+use running::run_frame;
+use shown::show_tour;
 
 // Limits, as specs/Limits.antt of crate graph has them.
 pub const MAX_SWEEPS: u32 = 15;
@@ -26,21 +31,21 @@ pub const MAX_STEP: u32 = 10_000;
 pub const MAX_COUNT: u64 = 9_223_372_036_854_775_807;
 
 // The search record. Where a search is open: the arguments of its opening, the upper bound, the stack (node p from the bottom has
-// a mark for each edge from place 190 * p on), the incumbent (1 in, 0 out) and the count of nodes opened. docs/RECORD.md states the
-// check that every call makes of it.
+// a mark for each edge from place 190 * p on), the incumbent (1 in, 0 out) and the count of nodes opened. The flags `open` and `has_best`
+// are bytes, 1 yes and 0 no. The fields stand by width, so that no byte lies between them. docs/RECORD.md states the check that every
+// call makes of it.
+#[repr(C)]
 pub struct Search {
-    pub open: bool,
+    pub settings: Settings,
+    pub upper: i64,
+    pub count: u64,
+    pub depth: usize,
     pub graph: Graph,
     pub multipliers: [i32; 20],
-    pub ceiling: i64,
-    pub sweeps: u32,
-    pub step: u32,
-    pub upper: i64,
-    pub depth: usize,
-    pub stack: [u8; 36290],
-    pub has_best: bool,
+    pub stack: [u8; 4180],
     pub best: [u8; 190],
-    pub count: u64,
+    pub open: u8,
+    pub has_best: u8,
 }
 
 // What a call answers: specs/Replies.antt says what each case means in document 01.
@@ -65,23 +70,27 @@ pub struct Outcome {
 
 impl Search {
     // A record with no search open.
+    // Ruled out: an open search; a byte that is not zero.
     pub fn fresh() -> Search
         ensures { λ r. ⌜ r ≡ fresh ⌝ }
     {
-        let g = Graph::empty();
-        Search {
-            open: false,
-            graph: g,
-            multipliers: [0; 20],
+        let settings = Settings {
             ceiling: 0,
             sweeps: 0,
             step: 0,
+        };
+        let g = Graph::empty();
+        Search {
+            settings: settings,
             upper: 0,
-            depth: 0,
-            stack: [0; 36290],
-            has_best: false,
-            best: [0; 190],
             count: 0,
+            depth: 0,
+            graph: g,
+            multipliers: [0; 20],
+            stack: [0; 4180],
+            best: [0; 190],
+            open: 0,
+            has_best: 0,
         }
     }
 }
@@ -99,42 +108,20 @@ pub(crate) fn refuse(s: Search, number: u32) -> Outcome
 // The calls on a record by value.
 
 // Opening. Ruled out: a record that holds a byte of the graph past its edges; an upper bound that is not the ceiling.
-pub fn open_core(
-    s: Search,
-    g: Graph,
-    multipliers: &[i32],
-    ceiling: i64,
-    sweeps: u32,
-    step: u32,
-) -> Outcome
-    ensures { λ r. ⌜ r ≡ reply s (Calls.opens (openingOf g (now (multipliers .entry)) ceiling sweeps step)) ⌝ }
+pub fn open_core(s: Search, g: Graph, multipliers: &[i32], settings: Settings) -> Outcome
+    ensures { λ r. ⌜ r ≡ reply s (Calls.opens (openingOf g (now (multipliers .entry)) settings)) ⌝ }
 {
-    let held = s.graph;
-    let d = s.multipliers;
-    if !check_record(
-        s.open,
-        held,
-        d,
-        s.ceiling,
-        s.sweeps,
-        s.step,
-        s.upper,
-        s.depth,
-        &s.stack,
-        s.has_best,
-        &s.best,
-        s.count,
-    ) {
+    if !sound(s) {
         return refuse(s, 24);
     }
-    if s.open {
+    if s.open == 1 {
         return refuse(s, 21);
     }
-    let fault = opening::fault(g, multipliers, ceiling, sweeps, step);
+    let fault = opening::fault(g, multipliers, settings);
     if fault != 0 {
         return refuse(s, fault);
     }
-    let t = opening::begin(g, multipliers, ceiling, sweeps, step);
+    let t = opening::begin(g, multipliers, settings);
     Outcome {
         search: t,
         answer: Answer::Accepted,
@@ -142,47 +129,43 @@ pub fn open_core(
 }
 
 // Running. Ruled out: a node opened beyond the budget; a count of nodes that were not opened; a node that is opened with marks made below
-// another.
+// another. The stack and the incumbent are copied once, and lent: nothing is copied for a node.
 pub fn run_core(s: Search, budget: u64) -> Outcome
     ensures { λ r. ⌜ r ≡ reply s (Calls.run budget) ⌝ }
 {
+    if !sound(s) {
+        return refuse(s, 24);
+    }
+    if s.open != 1 {
+        return refuse(s, 20);
+    }
+    let settings = s.settings;
     let g = s.graph;
     let d = s.multipliers;
-    let mut best = s.best;
-    let mut stack = s.stack;
-    let t = parts::run(
-        s.open,
-        g,
-        d,
-        s.ceiling,
-        s.sweeps,
-        s.step,
-        s.upper,
-        s.depth,
-        &mut stack,
-        s.has_best,
-        &mut best,
-        s.count,
-        budget,
-    );
-    let r = Search {
-        open: s.open,
-        graph: g,
-        multipliers: d,
-        ceiling: s.ceiling,
-        sweeps: s.sweeps,
-        step: s.step,
-        upper: t.upper,
-        depth: t.depth,
-        stack: stack,
-        has_best: t.has_best,
-        best: best,
-        count: t.count,
+    let f = Frame {
+        upper: s.upper,
+        depth: s.depth,
+        has_best: s.has_best,
+        count: s.count,
     };
-    let answer = t.answer;
+    let mut best = s.best;
+    let mut r = s;
+    let t = run_frame(g, d, settings, f, &mut r.stack, &mut best, budget);
+    let k = t.count;
+    r.best = best;
+    r.upper = t.upper;
+    r.count = k;
+    r.depth = t.depth;
+    r.has_best = t.has_best;
+    if t.depth == 0 {
+        return Outcome {
+            search: r,
+            answer: Answer::Finished(k),
+        };
+    }
     Outcome {
         search: r,
-        answer: answer,
+        answer: Answer::GoingOn(k),
     }
 }
 
@@ -190,25 +173,31 @@ pub fn run_core(s: Search, budget: u64) -> Outcome
 pub fn tell_core(s: Search) -> Outcome
     ensures { λ r. ⌜ r ≡ reply s Calls.tell ⌝ }
 {
+    if !sound(s) {
+        return refuse(s, 24);
+    }
+    if s.open != 1 {
+        return refuse(s, 20);
+    }
+    let k = s.count;
+    if s.depth != 0 {
+        return Outcome {
+            search: s,
+            answer: Answer::Searching(k),
+        };
+    }
+    if s.has_best != 1 {
+        return Outcome {
+            search: s,
+            answer: Answer::NoTour(k),
+        };
+    }
     let g = s.graph;
-    let d = s.multipliers;
-    let answer = parts::tell(
-        s.open,
-        g,
-        d,
-        s.ceiling,
-        s.sweeps,
-        s.step,
-        s.upper,
-        s.depth,
-        &s.stack,
-        s.has_best,
-        &s.best,
-        s.count,
-    );
+    let best = s.best;
+    let c = tour_cost(wide(g.m), &g.cost, &best);
     Outcome {
         search: s,
-        answer: answer,
+        answer: Answer::Best(c, k),
     }
 }
 
@@ -216,52 +205,37 @@ pub fn tell_core(s: Search) -> Outcome
 pub fn show_core(s: Search, out: &mut [u8]) -> Outcome
     ensures { λ r. ⌜ (r ≡ reply s (Calls.show (now (out .entry)))) × (now (out .exit) ≡ lent s (Calls.show (now (out .entry)))) ⌝ }
 {
-    let g = s.graph;
-    let d = s.multipliers;
-    let answer = parts::show(
-        s.open,
-        g,
-        d,
-        s.ceiling,
-        s.sweeps,
-        s.step,
-        s.upper,
-        s.depth,
-        &s.stack,
-        s.has_best,
-        &s.best,
-        s.count,
-        out,
-    );
+    if !sound(s) {
+        return refuse(s, 24);
+    }
+    if s.open != 1 {
+        return refuse(s, 20);
+    }
+    if s.depth != 0 {
+        return refuse(s, 22);
+    }
+    if s.has_best != 1 {
+        return refuse(s, 23);
+    }
+    if out.len() != wide(s.graph.m) {
+        return refuse(s, 11);
+    }
+    let best = s.best;
+    show_tour(best, out);
     Outcome {
         search: s,
-        answer: answer,
+        answer: Answer::Accepted,
     }
 }
 
-// Closing. Ruled out: a byte of the search left in the record.
+// Closing. Ruled out: a byte of the search left in the record; a record that fails its check made fresh.
 pub fn close_core(s: Search) -> Outcome
     ensures { λ r. ⌜ r ≡ reply s Calls.close ⌝ }
 {
-    let g = s.graph;
-    let d = s.multipliers;
-    if !check_record(
-        s.open,
-        g,
-        d,
-        s.ceiling,
-        s.sweeps,
-        s.step,
-        s.upper,
-        s.depth,
-        &s.stack,
-        s.has_best,
-        &s.best,
-        s.count,
-    ) {
+    if !sound(s) {
         return refuse(s, 24);
     }
-    if !s.open {
+    if s.open != 1 {
         return refuse(s, 20);
     }
     let f = Search::fresh();
@@ -273,21 +247,16 @@ pub fn close_core(s: Search) -> Outcome
 
 // The calls on a record that the caller lends: each is its core, and the record is then the core's.
 
-pub fn open(
-    s: &mut Search,
-    g: Graph,
-    multipliers: &[i32],
-    ceiling: i64,
-    sweeps: u32,
-    step: u32,
-) -> Answer
-    ensures { λ r. ⌜ Gives (now (s .entry)) (Calls.opens (openingOf g (now (multipliers .entry)) ceiling sweeps step)) r (now (s .exit)) ⌝ }
+// Ruled out: an answer with the record left as it was; a part of a refused opening in the record.
+pub fn open(s: &mut Search, g: Graph, multipliers: &[i32], settings: Settings) -> Answer
+    ensures { λ r. ⌜ Gives (now (s .entry)) (Calls.opens (openingOf g (now (multipliers .entry)) settings)) r (now (s .exit)) ⌝ }
 {
-    let out = open_core(*s, g, multipliers, ceiling, sweeps, step);
+    let out = open_core(*s, g, multipliers, settings);
     *s = out.search;
     out.answer
 }
 
+// Ruled out: a count that is not the record's; a record changed by a refusal.
 pub fn run(s: &mut Search, budget: u64) -> Answer
     ensures { λ r. ⌜ Gives (now (s .entry)) (Calls.run budget) r (now (s .exit)) ⌝ }
 {
@@ -296,6 +265,7 @@ pub fn run(s: &mut Search, budget: u64) -> Answer
     out.answer
 }
 
+// Ruled out: a record changed; the count of another record.
 pub fn tell(s: &mut Search) -> Answer
     ensures { λ r. ⌜ Gives (now (s .entry)) Calls.tell r (now (s .exit)) ⌝ }
 {
@@ -304,6 +274,7 @@ pub fn tell(s: &mut Search) -> Answer
     out.answer
 }
 
+// Ruled out: a record changed; a refusal with a byte of `out` changed.
 pub fn show(s: &mut Search, out: &mut [u8]) -> Answer
     ensures { λ r. ⌜ GivesList (now (s .entry)) (Calls.show (now (out .entry))) r (now (s .exit)) (now (out .exit)) ⌝ }
 {
@@ -312,6 +283,7 @@ pub fn show(s: &mut Search, out: &mut [u8]) -> Answer
     done.answer
 }
 
+// Ruled out: a search left open; a record that fails its check made fresh.
 pub fn close(s: &mut Search) -> Answer
     ensures { λ r. ⌜ Gives (now (s .entry)) Calls.close r (now (s .exit)) ⌝ }
 {

@@ -21,13 +21,18 @@ ghost use Rattle.search.specs.Filling.{Filling};
 ghost use Rattle.search.specs.Counting.{Ends, edged, DegreesTo, allTwo};
 ghost use Rattle.search.specs.Gains.{gainOf, maxGain, GainsTo};
 ghost use Rattle.search.specs.Marking.{markByte, FirstFree};
+use graph::wide;
+use machine::Settings;
 use onetree::BAR;
 use onetree::RuleAnswer;
 
-pub(crate) fn wide(x: u8) -> usize
-    ensures { λ r. ⌜ r ≡ x ⌝ }
-{
-    x as usize
+// What the opening of a node takes by value; the ends and costs of its m edges are lent beside it, since the language lends no struct.
+pub(crate) struct Subproblem {
+    pub n: usize,
+    pub m: usize,
+    pub multipliers: [i32; 20],
+    pub upper: i64,
+    pub settings: Settings,
 }
 
 // The degree of each vertex in the edges that are in, vertex v's at place v of r: one loop over the edges.
@@ -202,28 +207,29 @@ fn is_bound(answer: RuleAnswer) -> bool
 // One pass, by one call of the tree part, on the marks in row, which then has the tour or the marks after the rulings; the degrees of the
 // tree go into `degrees`, zero before. The hint is for the tree part alone.
 fn judge<'a>(
-    n: usize,
-    m: usize,
+    p: Subproblem,
     a: &'a [u8; 190],
     b: &'a [u8; 190],
     cost: &'a [i32; 190],
-    d: [i32; 20],
-    upper: i64,
     hint: &'a [u8],
     row: &mut [u8; 190],
     order: &mut [u8; 190],
     degrees: &mut [u8; 21],
 ) -> Judged
-    requires { ⌜ Valid (graphOf n m (now a) (now b) (now cost) (now row)) × (multipliersFit (fit n (pos 0) d) ≡ true)
-        × (ceilingFits upper ≡ true) × (now row ≡ bytesOf (marksIn m (now row)))
+    requires { ⌜ Valid (graphOf (p .n) (p .m) (now a) (now b) (now cost) (now row))
+        × (multipliersFit (fit (p .n) (pos 0) (p .multipliers)) ≡ true)
+        × (ceilingFits (p .upper) ≡ true) × (now row ≡ bytesOf (marksIn (p .m) (now row)))
         × (length (now order) ≡ maxEdges) × (now degrees ≡ replicate 21 0) ⌝ }
-    ensures { λ r. ⌜ JudgedIs (graphOf n m (now (a .entry)) (now (b .entry)) (now (cost .entry)) (now (row .entry)))
-        (fit n (pos 0) d) upper (r .verdict) (now (row .exit)) (now (degrees .exit)) × (r .live ≤ maxEdges)
+    ensures { λ r. ⌜ JudgedIs (graphOf (p .n) (p .m) (now (a .entry)) (now (b .entry)) (now (cost .entry)) (now (row .entry)))
+        (fit (p .n) (pos 0) (p .multipliers)) (p .upper) (r .verdict) (now (row .exit)) (now (degrees .exit)) × (r .live ≤ maxEdges)
         × (length (now (order .exit)) ≡ maxEdges) ⌝ }
 {
+    let n = p.n;
+    let m = p.m;
+    let d = p.multipliers;
     let mut tree = [0u8; 190];
     let mut rulings = [0u8; 190];
-    let p = onetree::pass(
+    let passed = onetree::pass(
         n,
         m,
         a,
@@ -231,13 +237,13 @@ fn judge<'a>(
         cost,
         row,
         &d[..n],
-        upper,
+        p.upper,
         hint,
         &mut tree,
         &mut rulings,
         order,
     );
-    let answer = p.answer;
+    let answer = passed.answer;
     if !is_bound(answer) {
         return Judged {
             verdict: Verdict::Shut,
@@ -255,50 +261,38 @@ fn judge<'a>(
     apply(&rulings, m, row);
     Judged {
         verdict: Verdict::Ruled,
-        live: p.live,
+        live: passed.live,
     }
 }
 
 // The node with the marks in row is opened: multipliers set to the opening ones, then passes 0 to `sweeps`.
 pub(crate) fn open_node<'a>(
-    n: usize,
-    m: usize,
+    p: Subproblem,
     a: &'a [u8; 190],
     b: &'a [u8; 190],
     cost: &'a [i32; 190],
-    multipliers: [i32; 20],
-    upper: i64,
-    sweeps: u32,
-    step: u32,
     row: &mut [u8; 190],
     top: &mut [u8; 190],
 ) -> Fate
-    requires { ⌜ Valid (graphOf n m (now a) (now b) (now cost) (now row)) × (multipliersFit (fit n (pos 0) multipliers) ≡ true)
-        × (ceilingFits upper ≡ true) × (step ≤ maxStep) × (now row ≡ bytesOf (marksIn m (now row))) ⌝ }
+    requires { ⌜ Valid (graphOf (p .n) (p .m) (now a) (now b) (now cost) (now row))
+        × (multipliersFit (fit (p .n) (pos 0) (p .multipliers)) ≡ true)
+        × (ceilingFits (p .upper) ≡ true) × (p .settings .step ≤ maxStep) × (now row ≡ bytesOf (marksIn (p .m) (now row))) ⌝ }
     ensures { λ r. ⌜ opened r (now (row .exit)) (now (top .exit))
-        ≡ openedAs (passes (network (graphOf n m (now (a .entry)) (now (b .entry)) (now (cost .entry)) (now (row .entry)))) step upper
-        sweeps (fit n (pos 0) multipliers) (marksIn m (now (row .entry)))) ⌝ }
+        ≡ openedAs (passes (network (graphOf (p .n) (p .m) (now (a .entry)) (now (b .entry)) (now (cost .entry)) (now (row .entry))))
+        (p .settings .step) (p .upper) (p .settings .sweeps) (fit (p .n) (pos 0) (p .multipliers))
+        (marksIn (p .m) (now (row .entry)))) ⌝ }
 {
-    let mut d = multipliers;
+    let settings = p.settings;
+    let mut d = p.multipliers;
     let mut order = [0u8; 190];
     let mut live: usize = 0;
-    let mut left = sweeps;
+    let mut left = settings.sweeps;
     loop {
         let hint = order;
         let mut degrees = [0u8; 21];
-        let j = judge(
-            n,
-            m,
-            a,
-            b,
-            cost,
-            d,
-            upper,
-            &hint[..live],
-            row,
-            &mut order,
-            &mut degrees,
-        );
+        let mut q = p;
+        q.multipliers = d;
+        let j = judge(q, a, b, cost, &hint[..live], row, &mut order, &mut degrees);
         let verdict = j.verdict;
         match verdict {
             Verdict::Shut => {
@@ -311,9 +305,9 @@ pub(crate) fn open_node<'a>(
             Verdict::Ruled => {}
         }
         if left == 0 {
-            return split(m, row, top);
+            return split(p.m, row, top);
         }
-        let next = gains(&degrees, d, n, step);
+        let next = gains(&degrees, d, p.n, settings.step);
         d = next;
         live = j.live;
         left = left - 1;

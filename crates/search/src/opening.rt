@@ -14,27 +14,29 @@ use crate::MAX_SWEEPS;
 use crate::Search;
 use crate::stack;
 use graph::Graph;
+use graph::wide;
+use machine::Settings;
 
 // The first of 15, 11, 12, 13, 14 that applies, or 0.
-pub(crate) fn fault(g: Graph, multipliers: &[i32], ceiling: i64, sweeps: u32, step: u32) -> u32
-    ensures { λ r. ⌜ r ≡ Calls.fault (openingOf g (now (multipliers .entry)) ceiling sweeps step) ⌝ }
+pub(crate) fn fault(g: Graph, multipliers: &[i32], settings: Settings) -> u32
+    ensures { λ r. ⌜ r ≡ Calls.fault (openingOf g (now (multipliers .entry)) settings) ⌝ }
 {
     if !graph::check(g) {
         return 15;
     }
-    if multipliers.len() != g.n {
+    if multipliers.len() != wide(g.n) {
         return 11;
     }
     if !onetree::multipliers_fit(multipliers) {
         return 12;
     }
-    if !onetree::ceiling_fits(ceiling) {
+    if !onetree::ceiling_fits(settings.ceiling) {
         return 13;
     }
-    if sweeps > MAX_SWEEPS {
+    if settings.sweeps > MAX_SWEEPS {
         return 14;
     }
-    if step > MAX_STEP {
+    if settings.step > MAX_STEP {
         return 14;
     }
     0
@@ -46,7 +48,7 @@ fn trim(g: Graph) -> Graph
     ensures { λ r. ⌜ r ≡ trimmed g ⌝ }
 {
     let mut t = g;
-    let mut k = g.m;
+    let mut k = wide(g.m);
     while k < 190 {
         t.a[k] = 0;
         t.b[k] = 0;
@@ -71,27 +73,25 @@ fn padded(d: &[i32]) -> [i32; 20]
     r
 }
 
-pub(crate) fn begin(g: Graph, multipliers: &[i32], ceiling: i64, sweeps: u32, step: u32) -> Search
-    requires { ⌜ Calls.fault (openingOf g (now multipliers) ceiling sweeps step) ≡ 0 ⌝ }
-    ensures { λ r. ⌜ r ≡ recordOf (Machine.begin (Machine.held (openingOf g (now (multipliers .entry)) ceiling sweeps step))) ⌝ }
+pub(crate) fn begin(g: Graph, multipliers: &[i32], settings: Settings) -> Search
+    requires { ⌜ Calls.fault (openingOf g (now multipliers) settings) ≡ 0 ⌝ }
+    ensures { λ r. ⌜ r ≡ recordOf (Machine.begin (Machine.held (openingOf g (now (multipliers .entry)) settings))) ⌝ }
 {
     let t = trim(g);
     let d = padded(multipliers);
     let marks = t.mark;
-    let mut nodes = [0u8; 36290];
+    let mut nodes = [0u8; 4180];
     stack::put(&mut nodes, 0, &marks);
     Search {
-        open: true,
+        settings: settings,
+        upper: settings.ceiling,
+        count: 0,
+        depth: 1,
         graph: t,
         multipliers: d,
-        ceiling: ceiling,
-        sweeps: sweeps,
-        step: step,
-        upper: ceiling,
-        depth: 1,
         stack: nodes,
-        has_best: false,
         best: [0; 190],
-        count: 0,
+        open: 1,
+        has_best: 0,
     }
 }

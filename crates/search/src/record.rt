@@ -6,16 +6,19 @@ ghost use lib.IntN.{pos};
 ghost use Rattle.lists.specs.Bools.{Says};
 ghost use Rattle.graph.specs.Limits.{maxVertices, maxEdges};
 ghost use Rattle.machine.specs.Calls.{fault};
-ghost use Rattle.search.specs.Record.{maxNodes, stackSize, searchWith};
+ghost use Rattle.search.specs.Record.{maxNodes, stackSize, noSettings};
 ghost use Rattle.search.specs.Canonical.{Zeros, GraphTidy, NodeZeros, StackTidy, NodeFits, StackFits, Bits};
 ghost use Rattle.search.specs.CheckParts.{InUse, FieldsTidy, FieldsFit, FieldsIdle, openingWith};
 ghost use Rattle.search.specs.Check.{check};
 use crate::MAX_COUNT;
+use crate::Search;
 use crate::opening;
 use graph::EXCLUDED;
-use graph::FREE;
 use graph::Graph;
 use graph::MAX_VERTICES;
+use graph::REQUIRED;
+use graph::wide;
+use machine::Settings;
 
 // Each loop over bytes keeps the greatest byte met and looks at it once, at the end: a loop with no way out in the middle takes many bytes
 // at a time.
@@ -65,7 +68,7 @@ fn multipliers_tidy(d: [i32; 20], n: usize) -> bool
 fn graph_tidy(g: Graph) -> bool
     ensures { λ r. ⌜ Says r (GraphTidy g) ⌝ }
 {
-    let m = g.m;
+    let m = wide(g.m);
     let a = g.a;
     if !zeros(a, m) {
         return false;
@@ -83,7 +86,7 @@ fn graph_tidy(g: Graph) -> bool
 }
 
 // Is every place of node p from `from` on zero?
-fn node_zeros(stack: &[u8; 36290], p: usize, from: usize) -> bool
+fn node_zeros(stack: &[u8; 4180], p: usize, from: usize) -> bool
     requires { ⌜ p < maxNodes ⌝ }
     ensures { λ r. ⌜ Says r (NodeZeros (now (stack .entry)) p from) ⌝ }
 {
@@ -100,12 +103,12 @@ fn node_zeros(stack: &[u8; 36290], p: usize, from: usize) -> bool
 }
 
 // Is every byte of the stack from `from` on zero?
-fn stack_zeros(stack: &[u8; 36290], from: usize) -> bool
+fn stack_zeros(stack: &[u8; 4180], from: usize) -> bool
     ensures { λ r. ⌜ Says r (Zeros 0 stackSize from (now (stack .entry))) ⌝ }
 {
     let mut most = 0;
     let mut i = from;
-    while i < 36290 {
+    while i < 4180 {
         let x = stack[i];
         if x > most {
             most = x;
@@ -119,13 +122,13 @@ fn stack_zeros(stack: &[u8; 36290], from: usize) -> bool
 fn nodes_in_use(depth: usize) -> usize
     ensures { λ r. ⌜ InUse depth r ⌝ }
 {
-    if depth < 191 {
+    if depth < 22 {
         return depth;
     }
-    191
+    22
 }
 
-fn stack_tidy(stack: &[u8; 36290], m: usize, depth: usize) -> bool
+fn stack_tidy(stack: &[u8; 4180], m: usize, depth: usize) -> bool
     ensures { λ r. ⌜ Says r (StackTidy m depth (now (stack .entry))) ⌝ }
 {
     let used = nodes_in_use(depth);
@@ -157,31 +160,31 @@ fn bits(a: [u8; 190]) -> bool
     most <= 1
 }
 
-// Has node p marks only, and at most m - p free edges?
-fn node_fits(stack: &[u8; 36290], m: usize, p: usize) -> bool
+// Has node p marks only, and at least p required edges?
+fn node_fits(stack: &[u8; 4180], m: usize, p: usize) -> bool
     requires { ⌜ (m ≤ maxEdges) × (p < maxNodes) ⌝ }
     ensures { λ r. ⌜ Says r (NodeFits m (now (stack .entry)) p) ⌝ }
 {
     let mut most = 0;
-    let mut frees: u8 = 0;
+    let mut requireds: u8 = 0;
     let mut j = 0;
     while j < m {
         let x = stack[190 * p + j];
         if x > most {
             most = x;
         }
-        if x == FREE {
-            frees = frees + 1;
+        if x == REQUIRED {
+            requireds = requireds + 1;
         }
         j = j + 1;
     }
     if most > EXCLUDED {
         return false;
     }
-    frees as usize + p <= m
+    p <= requireds as usize
 }
 
-fn stack_fits(stack: &[u8; 36290], m: usize, depth: usize) -> bool
+fn stack_fits(stack: &[u8; 4180], m: usize, depth: usize) -> bool
     requires { ⌜ (m ≤ maxEdges) × (depth ≤ maxNodes) ⌝ }
     ensures { λ r. ⌜ Says r (StackFits m depth (now (stack .entry))) ⌝ }
 {
@@ -202,46 +205,44 @@ fn fields_tidy(g: Graph, multipliers: [i32; 20], has_best: bool, best: [u8; 190]
     if !graph_tidy(g) {
         return false;
     }
-    if !multipliers_tidy(multipliers, g.n) {
+    if !multipliers_tidy(multipliers, wide(g.n)) {
         return false;
     }
     if has_best {
-        return zeros(best, g.m);
+        return zeros(best, wide(g.m));
     }
     zeros(best, 0)
 }
 
 // Are the arguments of an open record such as an opening accepts?
-fn opening_fits(g: Graph, multipliers: [i32; 20], ceiling: i64, sweeps: u32, step: u32) -> bool
-    ensures { λ r. ⌜ r ≡ eqb (fault (openingWith g multipliers ceiling sweeps step)) 0 ⌝ }
+fn opening_fits(g: Graph, multipliers: [i32; 20], settings: Settings) -> bool
+    ensures { λ r. ⌜ r ≡ eqb (fault (openingWith g multipliers settings)) 0 ⌝ }
 {
-    let n = g.n;
+    let n = wide(g.n);
     if n > MAX_VERTICES {
         return false;
     }
-    opening::fault(g, &multipliers[..n], ceiling, sweeps, step) == 0
+    opening::fault(g, &multipliers[..n], settings) == 0
 }
 
 fn fields_fit(
     g: Graph,
     multipliers: [i32; 20],
-    ceiling: i64,
-    sweeps: u32,
-    step: u32,
+    settings: Settings,
     upper: i64,
     depth: usize,
     best: [u8; 190],
     count: u64,
 ) -> bool
-    ensures { λ r. ⌜ Says r (FieldsFit (openingWith g multipliers ceiling sweeps step) upper depth best count) ⌝ }
+    ensures { λ r. ⌜ Says r (FieldsFit (openingWith g multipliers settings) upper depth best count) ⌝ }
 {
-    if !opening_fits(g, multipliers, ceiling, sweeps, step) {
+    if !opening_fits(g, multipliers, settings) {
         return false;
     }
     if !onetree::ceiling_fits(upper) {
         return false;
     }
-    if depth > g.m + 1 {
+    if depth > wide(g.n) + 2 {
         return false;
     }
     if !bits(best) {
@@ -250,18 +251,29 @@ fn fields_fit(
     count <= MAX_COUNT
 }
 
+// Are these the settings of a record where no search is open?
+fn blank(t: Settings) -> bool
+    ensures { λ r. ⌜ Says r (t ≡ noSettings) ⌝ }
+{
+    if t.ceiling != 0 {
+        return false;
+    }
+    if t.sweeps != 0 {
+        return false;
+    }
+    t.step == 0
+}
+
 fn idle(
-    n: usize,
-    m: usize,
-    ceiling: i64,
-    sweeps: u32,
-    step: u32,
+    n: u8,
+    m: u8,
+    settings: Settings,
     upper: i64,
     depth: usize,
     has_best: bool,
     count: u64,
 ) -> bool
-    ensures { λ r. ⌜ Says r (FieldsIdle n m ceiling sweeps step upper depth «has_best» count) ⌝ }
+    ensures { λ r. ⌜ Says r (FieldsIdle n m settings upper depth «has_best» count) ⌝ }
 {
     if n != 0 {
         return false;
@@ -269,13 +281,7 @@ fn idle(
     if m != 0 {
         return false;
     }
-    if ceiling != 0 {
-        return false;
-    }
-    if sweeps != 0 {
-        return false;
-    }
-    if step != 0 {
+    if !blank(settings) {
         return false;
     }
     if upper != 0 {
@@ -290,57 +296,40 @@ fn idle(
     count == 0
 }
 
-// Does the record of these parts stand for a state of the machine? The stack and the incumbent are lent, and from the record itself: a call
-// that took the record, or a part of it from a copy, would have the whole copied for it.
-pub(crate) fn check_record<'a>(
-    open: bool,
-    g: Graph,
-    multipliers: [i32; 20],
-    ceiling: i64,
-    sweeps: u32,
-    step: u32,
-    upper: i64,
-    depth: usize,
-    stack: &'a [u8; 36290],
-    has_best: bool,
-    best: &'a [u8; 190],
-    count: u64,
-) -> bool
-    ensures { λ r. ⌜ r ≡ check (searchWith «open» g multipliers ceiling sweeps step upper depth (now (stack .entry)) «has_best»
-        (now (best .entry)) count) ⌝ }
+// Does the record stand for a state of the machine? A flag is 0 or 1, and no other byte.
+pub(crate) fn sound(s: Search) -> bool
+    ensures { λ r. ⌜ r ≡ check s ⌝ }
 {
-    let tour = *best;
-    if !fields_tidy(g, multipliers, has_best, tour) {
+    if s.open > 1 {
         return false;
     }
-    if !stack_tidy(stack, g.m, depth) {
+    if s.has_best > 1 {
         return false;
     }
-    if !open {
+    let g = s.graph;
+    let d = s.multipliers;
+    let best = s.best;
+    let m = wide(g.m);
+    if !fields_tidy(g, d, s.has_best == 1, best) {
+        return false;
+    }
+    if !stack_tidy(&s.stack, m, s.depth) {
+        return false;
+    }
+    let settings = s.settings;
+    if s.open != 1 {
         return idle(
             g.n,
             g.m,
-            ceiling,
-            sweeps,
-            step,
-            upper,
-            depth,
-            has_best,
-            count,
+            settings,
+            s.upper,
+            s.depth,
+            s.has_best == 1,
+            s.count,
         );
     }
-    if !fields_fit(
-        g,
-        multipliers,
-        ceiling,
-        sweeps,
-        step,
-        upper,
-        depth,
-        tour,
-        count,
-    ) {
+    if !fields_fit(g, d, settings, s.upper, s.depth, best, s.count) {
         return false;
     }
-    stack_fits(stack, g.m, depth)
+    stack_fits(&s.stack, m, s.depth)
 }

@@ -1,9 +1,6 @@
 // Running: the top node is opened while one waits, budget is left and the count is below its limit. What changes is a small frame by
 // value beside the bytes of the stack and of the best tour, which are lent: nothing copies the record for a node.
 ghost use mathlib.Core.Path.{_≡_};
-ghost use mathlib.Core.List.{List};
-ghost use Prim.Native.Nat.{ℕ};
-ghost use Rattle.graph.specs.Valid.{graphOf};
 ghost use Rattle.machine.specs.Machine.{Progress, openTop, ran};
 ghost use Rattle.search.specs.Opening.{opened};
 ghost use Rattle.search.specs.Frames.{Holds, Opens};
@@ -11,14 +8,18 @@ ghost use Rattle.search.specs.Running.{Runs};
 use crate::compact::open_compact;
 use crate::cost::tour_cost;
 use crate::node::Fate;
+use crate::node::Subproblem;
 use crate::stack::node;
 use crate::stack::put;
+use graph::Graph;
+use graph::wide;
+use machine::Settings;
 
 // What changes of a search while it runs, but for the stack and the best tour.
 pub(crate) struct Frame {
     pub upper: i64,
     pub depth: usize,
-    pub has_best: bool,
+    pub has_best: u8,
     pub count: u64,
 }
 
@@ -30,7 +31,7 @@ fn settle<'a>(
     fate: Fate,
     row: &'a [u8; 190],
     top: &'a [u8; 190],
-    stack: &mut [u8; 36290],
+    stack: &mut [u8; 4180],
     best: &mut [u8; 190],
 ) -> Frame
     requires { ⌜ Opens m (now cost) f (now stack) (now best) (opened fate (now row) (now top)) ⌝ }
@@ -57,7 +58,7 @@ fn settle<'a>(
             Frame {
                 upper: u,
                 depth: p,
-                has_best: true,
+                has_best: 1,
                 count: k,
             }
         }
@@ -74,29 +75,22 @@ fn settle<'a>(
     }
 }
 
-// The run: the top node is opened, again and again.
-pub(crate) fn run_frame<'a>(
-    n: usize,
-    m: usize,
-    a: &'a [u8; 190],
-    b: &'a [u8; 190],
-    cost: &'a [i32; 190],
+// The run: the top node is opened, again and again. The graph's own marks count for nothing here: a node has its own.
+pub(crate) fn run_frame(
+    g: Graph,
     multipliers: [i32; 20],
-    sweeps: u32,
-    step: u32,
+    settings: Settings,
     f: Frame,
-    stack: &mut [u8; 36290],
+    stack: &mut [u8; 4180],
     best: &mut [u8; 190],
     budget: u64,
 ) -> Frame
-    requires { ⌜ ((x : List ℕ) × (s : Progress)
-        × Runs (graphOf n m (now a) (now b) (now cost) x) multipliers sweeps step f (now stack) (now best) s) ⌝ }
-    ensures { λ r. ⌜ ((x : List ℕ) (s : Progress)
-        → Runs (graphOf n m (now (a .entry)) (now (b .entry)) (now (cost .entry)) x) multipliers sweeps step f (now (stack .entry))
-        (now (best .entry)) s
-        → Runs (graphOf n m (now (a .entry)) (now (b .entry)) (now (cost .entry)) x) multipliers sweeps step r (now (stack .exit))
-        (now (best .exit)) (ran budget s)) ⌝ }
+    requires { ⌜ ((s : Progress) × Runs g multipliers settings f (now stack) (now best) s) ⌝ }
+    ensures { λ r. ⌜ ((s : Progress) → Runs g multipliers settings f (now (stack .entry)) (now (best .entry)) s
+        → Runs g multipliers settings r (now (stack .exit)) (now (best .exit)) (ran budget s)) ⌝ }
 {
+    let n = wide(g.n);
+    let m = wide(g.m);
     let mut t = f;
     let mut left = budget;
     let mut top = [0u8; 190];
@@ -108,20 +102,15 @@ pub(crate) fn run_frame<'a>(
             return t;
         }
         let mut row = node(stack, t.depth - 1);
-        let fate = open_compact(
-            n,
-            m,
-            a,
-            b,
-            cost,
-            multipliers,
-            t.upper,
-            sweeps,
-            step,
-            &mut row,
-            &mut top,
-        );
-        t = settle(m, cost, t, fate, &row, &top, stack, best);
+        let p = Subproblem {
+            n: n,
+            m: m,
+            multipliers: multipliers,
+            upper: t.upper,
+            settings: settings,
+        };
+        let fate = open_compact(p, &g.a, &g.b, &g.cost, &mut row, &mut top);
+        t = settle(m, &g.cost, t, fate, &row, &top, stack, best);
         left = left - 1;
     }
     t

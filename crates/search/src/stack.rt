@@ -7,7 +7,7 @@ ghost use Rattle.search.specs.Record.{maxNodes, stackSize};
 ghost use Rattle.search.specs.Pushing.{rowAt, Put};
 
 // The bytes of node p.
-pub(crate) fn node(stack: &[u8; 36290], p: usize) -> [u8; 190]
+pub(crate) fn node(stack: &[u8; 4180], p: usize) -> [u8; 190]
     requires { ⌜ p < maxNodes ⌝ }
     ensures { λ r. ⌜ r ≡ rowAt (now (stack .entry)) p ⌝ }
 {
@@ -21,7 +21,7 @@ pub(crate) fn node(stack: &[u8; 36290], p: usize) -> [u8; 190]
 }
 
 // The bytes x are stored as node p.
-pub(crate) fn put(stack: &mut [u8; 36290], p: usize, x: &[u8; 190])
+pub(crate) fn put(stack: &mut [u8; 4180], p: usize, x: &[u8; 190])
     requires { ⌜ (p < maxNodes) × (length (now stack) ≡ stackSize) ⌝ }
     ensures { λ _. ⌜ Put p maxEdges (now (x .entry)) (now (stack .entry)) (now (stack .exit)) ⌝ }
 {

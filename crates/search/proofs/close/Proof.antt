@@ -1,8 +1,8 @@
--- The thin function over `close_core`: ThinNone.antt at its theorem.
+-- The thin function over `close_core`: crate thin's None at its theorem.
 use Rattle.machine.specs.Calls as Calls
 use Rattle.search.specs.Replies.{reply}
 use Rattle.search.proofs.ThinTypes.{search, answer, ran}
-use Rattle.search.proofs.ThinNone.{spec-eq}
+use Rattle.thin.specs.None.{spec-eq}
 use Rattle.search.proofs.close_core.Symbol as core
 use Rattle.search.proofs.close_core.Met as core-thm
 use Rattle.search.proofs.close.Key as key

@@ -2,9 +2,8 @@
 use mathlib.Core.Path.{_≡_, sym, ap, _∙_}
 use mathlib.Core.Bool.{true}
 use borrow.Author.Needs.{needs}
-use borrow.Author.Tests.{not-true, not-false}
+use borrow.Author.Tests.{not-true, not-false, eq-eqb, ne-eqb}
 use Rattle.search.specs.Check.{check}
-use Rattle.search.specs.CheckParts.{check-parts}
 use Rattle.search.specs.Inverse.{Typed}
 use Rattle.search.specs.declared.Search.{Search}
 use Rattle.search.specs.ReplyCases.{reply-24, close-20, close-done}
@@ -14,24 +13,20 @@ use Rattle.search.proofs.close_core.Statement.{statement}
 use Rattle.search.proofs.close_core.Tie as tie
 
 -- the arrays of the record have the lengths of their types
-typed : (c : tie.Start) → Typed (c .args .t1)
+typed : (c : tie.Start) → Typed (c .args .s)
 typed c = search needs
 
-abbrev entry : tie.After-check-record → tie.Start
-entry c = c .before .before .before .before .before .before .before .before
+abbrev entry : tie.After-sound → tie.Start
+entry c = c .before
 
--- the record is the one that its parts make
-checked : (c : tie.After-check-record) → c .check-record .result ≡ check (entry c .args .t1)
-checked c =
-    let told = c .before .before .before .before in
-    c .check-record .ensures
-    ∙ check-parts (entry c .args .t1) (told .before .struct-told .given .1 .1 .1 .0 .1) (told .struct-told2 .given .1 .1 .1 .1 .1 .1 .0 .1)
+checked : (c : tie.After-sound) → c .sound .result ≡ check (entry c .args .s)
+checked c = c .sound .ensures
 
-passed : (c : tie.Else1) → check (entry (c .before) .args .t1) ≡ true
+passed : (c : tie.Else1) → check (entry (c .before) .args .s) ≡ true
 passed c = sym (checked (c .before)) ∙ not-false _ (c .if1 .left)
 
-check-record-requires : tie.Need-check-record-requires
-check-record-requires c κs = search needs
+sound-requires : tie.Need-sound-requires
+sound-requires c κs = search needs
 
 refuse-requires : tie.Need-refuse-requires
 refuse-requires c κs = search needs
@@ -46,9 +41,9 @@ refuse-requires-2 c κs = search needs
 
 returns-2 : tie.Need-returns-2
 returns-2 c =
-    let c1 = c .before .before in
+    let c1 = c .before .before .before in
     let start = entry (c1 .before) in
-    c .refuse2 .ensures ∙ sym (close-20 (start .args .t1) (typed start) (passed c1) (not-true _ (c .before .if2 .taken)))
+    c .refuse2 .ensures ∙ sym (close-20 (start .args .s) (typed start) (passed c1) (ne-eqb _ 1 (c .before .if2 .taken)))
 
 fresh-requires : tie.Need-fresh-requires
 fresh-requires c κs = search needs
@@ -56,16 +51,16 @@ fresh-requires c κs = search needs
 returns-3 : tie.Need-returns-3
 returns-3 c =
     let c2 = c .before in
-    let c1 = c2 .before in
+    let c1 = c2 .before .before in
     let start = entry (c1 .before) in
     ap (λ (f : Search). record { search = f; answer = Accepted }) (c .fresh .ensures)
-    ∙ sym (close-done (start .args .t1) (typed start) (passed c1) (not-false _ (c2 .if2 .left)))
+    ∙ sym (close-done (start .args .s) (typed start) (passed c1) (eq-eqb _ 1 (c2 .if2 .left)))
 
 pub close-core-spec : {M : Type 1} → statement M
 close-core-spec =
     tie.close
     (tie.spec
-    check-record-requires
+    sound-requires
     refuse-requires
     returns
     refuse-requires-2

@@ -1,44 +1,38 @@
--- The cases of `reply` at an opening, one for each return; a signed word that is passed on is read back as it was.
+-- The cases of `reply` at an opening, one for each return.
 use mathlib.Core.Path.{_≡_, sym, ap, _∙_}
 use mathlib.Core.Bool.{true}
 use borrow.Author.Needs.{needs}
-use borrow.Author.Tests.{not-true, not-false}
+use borrow.Author.Tests.{not-true, not-false, eq-eqb, ne-eqb}
 use Rattle.machine.specs.Machine.{Opening}
 use Rattle.machine.specs.Calls.{step}
 use Rattle.search.specs.Record.{openingOf}
 use Rattle.search.specs.Check.{check}
-use Rattle.search.specs.CheckParts.{check-parts}
 use Rattle.search.specs.Inverse.{Typed}
 use Rattle.search.specs.declared.Search.{Search}
 use Rattle.search.specs.ReplyCases.{reply-24, open-fault, open-done, open-21}
 use Rattle.machine.specs.Calls as Calls
-use mir.Facts.{toZ-ofZ}
 use Rattle.search.specs.declared.Answer.the-variants.{Accepted}
 use Rattle.search.proofs.open_core.Statement.{statement}
 use Rattle.search.proofs.open_core.Tie as tie
 
 abbrev asked : tie.Start → Opening
-asked c = openingOf (c .args .g) (c .args .multipliers .now) (c .args .ceiling) (c .args .sweeps) (c .args .step)
+asked c = openingOf (c .args .g) (c .args .multipliers .now) (c .args .settings)
 
 -- the arrays of the record have the lengths of their types
-typed : (c : tie.Start) → Typed (c .args .t1)
+typed : (c : tie.Start) → Typed (c .args .s)
 typed c = search needs
 
-abbrev entry : tie.After-check-record → tie.Start
-entry c = c .before .before .before .before .before .before .before .before
+abbrev entry : tie.After-sound → tie.Start
+entry c = c .before
 
--- the record is the one that its parts make
-checked : (c : tie.After-check-record) → c .check-record .result ≡ check (entry c .args .t1)
-checked c =
-    let told = c .before .before .before .before in
-    c .check-record .ensures
-    ∙ check-parts (entry c .args .t1) (told .before .struct-told .given .1 .1 .1 .0 .1) (told .struct-told2 .given .1 .1 .1 .1 .1 .1 .0 .1)
+checked : (c : tie.After-sound) → c .sound .result ≡ check (entry c .args .s)
+checked c = c .sound .ensures
 
-passed : (c : tie.Else1) → check (entry (c .before) .args .t1) ≡ true
+passed : (c : tie.Else1) → check (entry (c .before) .args .s) ≡ true
 passed c = sym (checked (c .before)) ∙ not-false _ (c .if1 .left)
 
-check-record-requires : tie.Need-check-record-requires
-check-record-requires c κs = search needs
+sound-requires : tie.Need-sound-requires
+sound-requires c κs = search needs
 
 refuse-requires : tie.Need-refuse-requires
 refuse-requires c κs = search needs
@@ -53,9 +47,9 @@ refuse-requires-2 c κs = search needs
 
 returns-2 : tie.Need-returns-2
 returns-2 c =
-    let c1 = c .before .before in
+    let c1 = c .before .before .before in
     let start = entry (c1 .before) in
-    c .refuse2 .ensures ∙ sym (open-21 (start .args .t1) (typed start) (passed c1) (c .before .if2 .taken) (asked start))
+    c .refuse2 .ensures ∙ sym (open-21 (start .args .s) (typed start) (passed c1) (eq-eqb _ 1 (c .before .if2 .taken)) (asked start))
 
 fault-requires : tie.Need-fault-requires
 fault-requires c κs = search needs
@@ -66,11 +60,11 @@ refuse-requires-3 c κs = search needs
 returns-3 : tie.Need-returns-3
 returns-3 c =
     let c2 = c .before .before .before in
-    let c1 = c2 .before in
+    let c1 = c2 .before .before in
     let start = entry (c1 .before) in
-    let found = rw (toZ-ofZ (start .fits .ceiling)) at (c .before .before .fault .ensures) in
+    let found = c .before .before .fault .ensures in
     c .refuse3 .ensures
-    ∙ sym (open-fault (start .args .t1) (typed start) (passed c1) (c2 .if2 .left) (asked start) _ (sym found) (c .before .if3 .taken))
+    ∙ sym (open-fault (start .args .s) (typed start) (passed c1) (ne-eqb _ 1 (c2 .if2 .left)) (asked start) _ (sym found) (c .before .if3 .taken))
 
 begin-requires : tie.Need-begin-requires
 begin-requires c κs = search needs
@@ -79,18 +73,17 @@ returns-4 : tie.Need-returns-4
 returns-4 c =
     let c3 = c .before in
     let c2 = c3 .before .before in
-    let c1 = c2 .before in
+    let c1 = c2 .before .before in
     let start = entry (c1 .before) in
-    let found = rw (toZ-ofZ (start .fits .ceiling)) at (c3 .before .fault .ensures) in
-    let made = rw (toZ-ofZ (start .fits .ceiling)) at (c .begin .ensures) in
-    ap (λ (f : Search). record { search = f; answer = Accepted }) made
-    ∙ sym (open-done (start .args .t1) (typed start) (passed c1) (c2 .if2 .left) (asked start) (sym found ∙ c3 .if3 .left))
+    let found = c3 .before .fault .ensures in
+    ap (λ (f : Search). record { search = f; answer = Accepted }) (c .begin .ensures)
+    ∙ sym (open-done (start .args .s) (typed start) (passed c1) (ne-eqb _ 1 (c2 .if2 .left)) (asked start) (sym found ∙ c3 .if3 .left))
 
 pub open-core-spec : {M : Type 1} → statement M
 open-core-spec =
     tie.close
     (tie.spec
-    check-record-requires
+    sound-requires
     refuse-requires
     returns
     refuse-requires-2

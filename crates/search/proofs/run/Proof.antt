@@ -1,9 +1,9 @@
--- The thin function over `run_core`: ThinNumber.antt at its theorem.
+-- The thin function over `run_core`: crate thin's Number at its theorem.
 use Rattle.machine.specs.Calls as Calls
 use Rattle.search.specs.Replies.{reply}
-use Rattle.search.proofs.Thin.{u64-arg}
+use Rattle.thin.specs.Parts.{u64-arg}
 use Rattle.search.proofs.ThinTypes.{search, answer, ran}
-use Rattle.search.proofs.ThinNumber.{spec-eq}
+use Rattle.thin.specs.Number.{spec-eq}
 use Rattle.search.proofs.run_core.Symbol as core
 use Rattle.search.proofs.run_core.Met as core-thm
 use Rattle.search.proofs.run.Key as key

@@ -1,8 +1,8 @@
--- The thin function over `show_core`: ThinList.antt at its theorem.
+-- The thin function over `show_core`: crate thin's List at its theorem.
 use Rattle.machine.specs.Calls as Calls
 use Rattle.search.specs.Replies.{reply, lent}
 use Rattle.search.proofs.ThinTypes.{search, answer, ran}
-use Rattle.search.proofs.ThinList.{spec-eq}
+use Rattle.thin.specs.List.{spec-eq}
 use Rattle.search.proofs.show_core.Symbol as core
 use Rattle.search.proofs.show_core.Met as core-thm
 use Rattle.search.proofs.show.Key as key

@@ -27,7 +27,7 @@ element-copy-out-r c = search needs
 element-write-r : tie.Need-element-write-r Inv-loop μ-loop
 element-write-r c =
     let l = c .before .before .before .before .loop in
-    omega (arith, c .before .wide .ensures, l .inv .1 .low (l .j) (omega arith))
+    omega (arith, c .before .wide .ensures .0, l .inv .1 .low (l .j) (omega arith))
 
 add-j : tie.Need-add-j Inv-loop μ-loop
 add-j c = search needs
@@ -38,7 +38,7 @@ loop-less c = search needs
 loop-again : tie.Need-loop-again Inv-loop μ-loop
 loop-again c =
     let l = c .before .before .before .before .loop in
-    (omega arith, l .inv .1, rw (c .before .wide .ensures) (placed-more _ _ _ _ (l .j) (l .r) (l .inv .1) (omega arith) (l .inv .2)))
+    (omega arith, l .inv .1, rw (c .before .wide .ensures .0) (placed-more _ _ _ _ (l .j) (l .r) (l .inv .1) (omega arith) (l .inv .2)))
 
 returns : tie.Need-returns Inv-loop μ-loop
 returns c = let l = c .before .loop in placed-to _ _ _ (l .j) _ (l .r) (omega arith) (l .inv .2)

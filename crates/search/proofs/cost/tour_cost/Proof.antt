@@ -9,7 +9,7 @@ use lib.IntN.{ℤ, pos}
 use mir.Val.{toZ}
 use mir.Syntax.{w64}
 use Rattle.integers.specs.Words.{back32, back64}
-use Rattle.integers.specs.Range.{InRange}
+use Rattle.integers.specs.Range.{InRange, within-range}
 use Rattle.graph.specs.declared.Graph.{Graph}
 use Rattle.graph.specs.Valid.{Valid}
 use Rattle.search.specs.Costs.{CostTo, Ticked, cost-none, cost-all, ticked}
@@ -47,7 +47,7 @@ tick-requires c κs =
     let sum = l .inv .2 g (s .pre .1) (s .pre .2) (s .pre .3) in
     rw (back32 (getD (s .args .costs .now) (l .k) (pos 0)) (c .tick-arg2 .given)) (
       subst (λ (x : List ℤ). InRange 1000000 (getD x (l .k) (pos 0))) (s .pre .3)
-          (s .pre .1 .each (l .k) (omega (arith, s .pre .2)) .range),
+          (within-range 1000000 _ (s .pre .1 .each (l .k) (omega (arith, s .pre .2)) .range)),
       record { high = omega (arith, sum .high); low = omega (arith, sum .low) },
     )
 
@@ -67,7 +67,7 @@ loop-again c =
       omega arith,
       l .inv .1,
       λ g v e q.
-          ticked (l .k) g w (toZ w64 (l .sum)) (c .tick .result) (omega (arith, e)) (v .each (l .k) (omega (arith, e)) .range)
+          ticked (l .k) g w (toZ w64 (l .sum)) (c .tick .result) (omega (arith, e)) (within-range 1000000 _ (v .each (l .k) (omega (arith, e)) .range))
           (l .inv .2 g v e q)
           (subst (λ (x : List ℤ). Ticked (getD w (l .k) 0) (getD x (l .k) (pos 0)) (toZ w64 (l .sum)) (c .tick .result)) (sym q) t),
     )

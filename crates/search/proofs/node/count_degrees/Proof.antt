@@ -37,7 +37,7 @@ element-copy-out-r : tie.Need-element-copy-out-r Inv-loop μ-loop
 element-copy-out-r c =
     let at = c .before .before .before .before .before .before .before in
     let e = at .before .pre .1 (at .loop .k) (omega arith) in
-    omega (arith, c .before .before .wide .ensures, e .less, e .high)
+    omega (arith, c .before .before .wide .ensures .0, e .less, e .high)
 
 add-r : tie.Need-add-r Inv-loop μ-loop
 add-r c =
@@ -48,27 +48,27 @@ element-write-r : tie.Need-element-write-r Inv-loop μ-loop
 element-write-r c =
     let at = c .before .before .before .before .before .before .before .before in
     let e = at .before .pre .1 (at .loop .k) (omega arith) in
-    omega (arith, c .before .before .before .wide .ensures, e .less, e .high)
+    omega (arith, c .before .before .before .wide .ensures .0, e .less, e .high)
 
 element-copy-out-r-2 : tie.Need-element-copy-out-r-2 Inv-loop μ-loop
 element-copy-out-r-2 c =
     let at = c .before .before .before .before .before .before .before .before in
     let e = at .before .pre .1 (at .loop .k) (omega arith) in
-    omega (arith, c .before .wide2 .ensures, e .less, e .high)
+    omega (arith, c .before .wide2 .ensures .0, e .less, e .high)
 
 add-r-2 : tie.Need-add-r-2 Inv-loop μ-loop
 add-r-2 c =
     let at = c .before .before .before .before .before .before .before .before .before in
     let e = at .before .pre .1 (at .loop .k) (omega arith) in
     rw (getD-set-other (at .loop .r) (c .before .before .before .before .wide .result) (c .before .before .wide2 .result) _ 0
-    (omega (arith, c .before .before .before .before .wide .ensures, c .before .before .wide2 .ensures, e .less)))
+    (omega (arith, c .before .before .before .before .wide .ensures .0, c .before .before .wide2 .ensures .0, e .less)))
     (omega (arith, at .loop .inv .2 .most (c .before .before .wide2 .result)))
 
 element-write-r-2 : tie.Need-element-write-r-2 Inv-loop μ-loop
 element-write-r-2 c =
     let at = c .before .before .before .before .before .before .before .before .before in
     let e = at .before .pre .1 (at .loop .k) (omega arith) in
-    omega (arith, c .before .before .wide2 .ensures, e .less, e .high)
+    omega (arith, c .before .before .wide2 .ensures .0, e .less, e .high)
 
 add-k : tie.Need-add-k Inv-loop μ-loop
 add-k c = search needs
@@ -83,7 +83,7 @@ loop-again c =
     ⊎-elim
     (λ w.
     let e : c .if1 .r ≡ raised (l .r) (w .2 .result) (w .4 .result) = w .7 in
-    rw (e, w .2 .ensures, w .4 .ensures) (
+    rw (e, w .2 .ensures .0, w .4 .ensures .0) (
       omega arith,
       l .inv .1,
       degrees-more (l .k) _ _ (l .r) (omega arith) (l .inv .2) (at .before .pre .1 (l .k) (omega arith)) (w .0 .taken),

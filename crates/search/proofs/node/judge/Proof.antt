@@ -6,8 +6,10 @@ use native.Mathlib.Omega.{arith}
 use borrow.Author.Needs.{needs}
 use lib.ListN.{length, getD, length-take}
 use lib.IntN.{ℤ, pos}
-use mir.Facts.{toZ-ofZ}
+use mir.Val.{toZ, ofZ}
+use mir.Syntax.{w64}
 use borrow.Author.Tests.{not-true, not-false}
+use Rattle.integers.specs.Words.{back64}
 use Rattle.lists.specs.Fill.{fit, fit-size}
 use Rattle.graph.specs.declared.Graph.{Graph}
 use Rattle.graph.specs.Valid.{graphOf}
@@ -21,64 +23,71 @@ use Rattle.search.proofs.node.judge.Tie as tie
 
 -- the graph with the node's marks
 abbrev given : tie.Start → Graph
-given s = graphOf (s .args .n) (s .args .m) (s .args .a .now) (s .args .b .now) (s .args .cost .now) (s .args .row .now)
+given s = graphOf (s .args .p .n) (s .args .p .m) (s .args .a .now) (s .args .b .now) (s .args .cost .now) (s .args .row .now)
 
 -- the first n multipliers
 abbrev used : tie.Start → List ℤ
-used s = fit (s .args .n) (pos 0) (s .args .t6)
+used s = fit (s .args .p .n) (pos 0) (s .args .p .multipliers)
 
-used-size : (s : tie.Start) → length (used s) ≡ s .args .n
-used-size s = fit-size (s .args .n) (pos 0) (s .args .t6)
-
--- the array has n of them
-enough : (s : tie.Start) → s .args .n ≤ length (s .args .t6)
-enough s = omega (arith, s .pre .0 .high)
+used-size : (s : tie.Start) → length (used s) ≡ s .args .p .n
+used-size s = fit-size (s .args .p .n) (pos 0) (s .args .p .multipliers)
 
 -- where the function starts
 abbrev start : tie.After-pass → tie.Start
-start p = p .before .before .before .before .before .before .before
+start p = p .before .before .before .before .before .before .before .before .before
+
+-- the array has n of them
+long : (s : tie.Start) → length (s .args .p .multipliers) ≡ 20
+long s = search (needs, s .good)
+
+enough : (s : tie.Start) → s .args .p .n ≤ length (s .args .p .multipliers)
+enough s = omega (arith, long s, s .pre .0 .high)
+
+-- the upper bound is read back from its word
+upper : (p : tie.After-pass) → let q = start p .args .p in toZ w64 (ofZ w64 (q .upper)) ≡ q .upper
+upper p = back64 (start p .args .p .upper) (p .before .struct-told .given .1 .1 .1 .0 .1)
 
 -- the tree part's promise, with the upper bound read back from its word and the slice as the first n multipliers
 said : (p : tie.After-pass) → let s = start p in
-    (ruleMeaning (p .pass .result .answer) ≡ ruleReply (given s) (used s) (s .args .upper) (s .args .m))
-    × (p .pass .last .1 .1 .1 .1 .1 .1 .1 .1 .1 .0 ≡ passTree (given s) (used s) (s .args .upper) blank)
-    × (p .pass .last .1 .1 .1 .1 .1 .1 .1 .1 .1 .1 .0 ≡ passRulings (given s) (used s) (s .args .upper) blank)
+    (ruleMeaning (p .pass .result .answer) ≡ ruleReply (given s) (used s) (s .args .p .upper) (s .args .p .m))
+    × (p .pass .last .1 .1 .1 .1 .1 .1 .1 .1 .1 .0 ≡ passTree (given s) (used s) (s .args .p .upper) blank)
+    × (p .pass .last .1 .1 .1 .1 .1 .1 .1 .1 .1 .1 .0 ≡ passRulings (given s) (used s) (s .args .p .upper) blank)
 said p =
     let s = start p in
-    let t = rw (toZ-ofZ (s .fits .upper), take-fit (s .args .n) (pos 0) (s .args .t6) (enough s)) at (p .pass .ensures) in
+    let t = rw (upper p, take-fit (s .args .p .n) (pos 0) (s .args .p .multipliers) (enough s)) at (p .pass .ensures) in
     (t .0, t .1, t .2)
 
 -- the hint for the next pass
 handed : (p : tie.After-pass) → (p .pass .result .live ≤ 190) × (length (p .pass .last .1 .1 .1 .1 .1 .1 .1 .1 .1 .1 .1 .0) ≡ 190)
 handed p =
     let a = start p .args in
-    hint-fits (ruleMeaning (p .pass .result .answer)) (a .row .now) (a .m) (a .order .now)
+    hint-fits (ruleMeaning (p .pass .result .answer)) (a .row .now) (a .p .m) (a .order .now)
     (p .pass .last .1 .1 .1 .1 .1 .1 .1 .1 .1 .1 .1 .0) (p .pass .result .live) (p .pass .ensures .3) (start p .pre .4)
 
 -- where there is a tree within the ceiling: that tree
-within : (c : tie.Else1) → let s = start (c .before .before) in (b : ℤ) × Within (given s) (used s) (s .args .upper) b
+within : (c : tie.Else1) → let s = start (c .before .before) in (b : ℤ) × Within (given s) (used s) (s .args .p .upper) b
 within c =
     let p = c .before .before in
     let s = start p in
-    answer-within (given s) (used s) (s .args .upper) (s .pre .0) (used-size s) (s .pre .1) (s .pre .2) _
+    answer-within (given s) (used s) (s .args .p .upper) (s .pre .0) (used-size s) (s .pre .1) (s .pre .2) _
     (sym (c .before .is-bound .ensures) ∙ not-false _ (c .if1 .left)) (said p .0)
 
 -- and its bytes
 tree-bytes : (c : tie.Else1)
-    → let p = c .before .before in p .pass .last .1 .1 .1 .1 .1 .1 .1 .1 .1 .0 ≡ treeBytes (start p .args .m) (within c .1 .tree)
+    → let p = c .before .before in p .pass .last .1 .1 .1 .1 .1 .1 .1 .1 .1 .0 ≡ treeBytes (start p .args .p .m) (within c .1 .tree)
 tree-bytes c =
     let p = c .before .before in
     let s = start p in
     said p .1
-    ∙ pass-tree (given s) (used s) (s .args .upper) (s .pre .0) (used-size s) (s .pre .1) (s .pre .2) _ (within c .0) (within c .1)
+    ∙ pass-tree (given s) (used s) (s .args .p .upper) (s .pre .0) (used-size s) (s .pre .1) (s .pre .2) _ (within c .0) (within c .1)
 
 array-share-prefix-d : tie.Need-array-share-prefix-d
-array-share-prefix-d c = search needs
+array-share-prefix-d c = enough (c .before .before .before)
 
 slice-aggregate-pass : tie.Need-slice-aggregate-pass
 slice-aggregate-pass c =
-    let s = c .before .before .before in
-    omega (arith, length-take (s .args .n) (s .args .t6), s .pre .0 .high)
+    let s = c .before .before .before .before in
+    omega (arith, length-take (s .args .p .n) (s .args .p .multipliers), enough s)
 
 pass-requires : tie.Need-pass-requires
 pass-requires c κs = search needs
@@ -90,7 +99,7 @@ returns : tie.Need-returns
 returns c =
     let p = c .before .before in
     let s = start p in (
-      answer-shut (given s) (used s) (s .args .upper) (s .pre .0) (used-size s) (s .pre .1) (s .pre .2) _
+      answer-shut (given s) (used s) (s .args .p .upper) (s .pre .0) (used-size s) (s .pre .1) (s .pre .2) _
           (sym (c .before .is-bound .ensures) ∙ not-true _ (c .if1 .taken)) (said p .0),
       omega arith,
       handed p .1,
@@ -109,14 +118,16 @@ returns-2 c =
     let b = c .before .before .before .before .before .before in
     let s = start (b .before .before) in
     let w = within b .1 in (
-      judged-found (given s) (s .pre .0) (used s) (s .args .upper) (within b .0) (w .tree) (w .least) (w .low) _ _ (tree-bytes b)
+      judged-found (given s) (s .pre .0) (used s) (s .args .p .upper) (within b .0) (w .tree) (w .least) (w .low) _ _ (tree-bytes b)
           (degrees-edged (given s) _ _ (c .before .before .before .count-degrees .ensures)) (sym (c .before .two-each .ensures) ∙ c .if2 .taken),
       omega arith,
       handed (b .before .before) .1,
     )
 
 apply-requires : tie.Need-apply-requires
-apply-requires c κs = search needs
+apply-requires c κs =
+    let s = start (c .before .before .before .before .before .before .before .before .before .before) in
+    (s .pre .0 .few, s .pre .3)
 
 returns-3 : tie.Need-returns-3
 returns-3 c =
@@ -124,7 +135,7 @@ returns-3 c =
     let p = b .before .before in
     let s = start p in
     let d = used s in
-    let u = s .args .upper in
+    let u = s .args .p .upper in
     let w = within b .1 in
     let ruled = pass-rulings (given s) d u (s .pre .0) (used-size s) (s .pre .1) (s .pre .2) _ (within b .0) w in (
       judged-ruled (given s) (s .pre .0) d u (within b .0) (w .tree) (w .least) (w .low) _ _ (tree-bytes b)

@@ -1,15 +1,12 @@
 -- The loop keeps: the passes that are left come to what all of them come to.
 use Prim.Native.Nat.{ℕ, _≤_, _<_, _-_}
-use mathlib.Core.Path.{_≡_, refl, ap, _∙_}
+use mathlib.Core.Path.{_≡_, refl, _∙_}
 use native.Mathlib.Omega.{arith}
 use borrow.Author.Needs.{needs}
 use mathlib.Core.Bool.{true}
 use mathlib.Core.List.{List}
 use lib.ListN.{length, getD, length-take}
 use lib.IntN.{ℤ, pos}
-use mir.Facts.{toZ-ofZ}
-use mir.Val.{toZ, ofZ}
-use mir.Syntax.{w64}
 use Rattle.lists.specs.Fill.{fit, fit-size, fit-at}
 use Rattle.integers.specs.Range.{InRange}
 use Rattle.graph.specs.declared.Graph.{Graph}
@@ -20,7 +17,6 @@ use Rattle.onetree.specs.Multipliers.{fit-ranged}
 use Rattle.search.specs.declared.node.Verdict.{Verdict}
 use Rattle.search.specs.declared.node.Verdict.the-variants as verdict
 use Rattle.search.specs.Judging.{JudgedIs, judged-as}
-use Rattle.search.specs.Opening.{openedAs}
 use Rattle.search.specs.Turns.{AtPass, withBytes, passesFrom, at-first, at-valid, at-marks}
 use Rattle.search.specs.Turns.{turn-shut, turn-found, turn-marks, turn-last, turn-next}
 use Rattle.search.proofs.node.open_node.Statement.{statement}
@@ -31,27 +27,29 @@ ranged : (n : ℕ) (d : List ℤ) → multipliersFit (fit n (pos 0) d) ≡ true 
 ranged n d h i b = rw (← fit-at n (pos 0) d i b) (fit-ranged (fit n (pos 0) d) h i (omega (arith, fit-size n (pos 0) d)))
 
 abbrev Inv-loop : tie.InvT-loop
-Inv-loop n m a b cost upper sweeps step row₀ top₀ d₀ order₀ live₀ left₀ row top d order live left =
-    Valid (graphOf n m a b cost row₀) × (ceilingFits (toZ w64 upper) ≡ true) × (step ≤ 10000)
-    × AtPass (graphOf n m a b cost row₀) step (toZ w64 upper)
-    (passesFrom (graphOf n m a b cost row₀) d₀ step (toZ w64 upper) left₀) left row d
+Inv-loop p a b cost row₀ top₀ settings d₀ order₀ live₀ left₀ row top d order live left =
+    let g = graphOf (p .n) (p .m) a b cost row₀ in
+    Valid g × (ceilingFits (p .upper) ≡ true) × (settings .step ≤ 10000)
+    × AtPass g (settings .step) (p .upper) (passesFrom g d₀ (settings .step) (p .upper) left₀) left row d
     × (live ≤ 190) × (length order ≡ 190)
 
 abbrev μ-loop : tie.MeasureT-loop
-μ-loop n m a b cost upper sweeps step row₀ top₀ d₀ order₀ live₀ left₀ row top d order live left =
-    left
+μ-loop p a b cost row₀ top₀ settings d₀ order₀ live₀ left₀ row top d order live left = left
 
 -- the graph with the node's marks at first
 abbrev given : tie.Start Inv-loop μ-loop → Graph
-given s = graphOf (s .args .n) (s .args .m) (s .args .a .now) (s .args .b .now) (s .args .cost .now) (s .args .row .now)
+given s =
+    let a = s .args in
+    graphOf (a .p .n) (a .p .m) (a .a .now) (a .b .now) (a .cost .now) (a .row .now)
 
 loop-holds : tie.Need-loop-holds Inv-loop μ-loop
 loop-holds c =
-    let u = toZ w64 (ofZ w64 (c .args .upper)) in (
-      c .pre .0,
-      rw (toZ-ofZ (c .fits .upper)) (c .pre .2),
-      c .pre .3,
-      at-first (given c) (c .args .multipliers) (c .args .step) u (c .args .sweeps) (c .pre .4) (c .pre .1),
+    let s = c .before .before in
+    let p = s .args .p in (
+      s .pre .0,
+      s .pre .2,
+      s .pre .3,
+      at-first (given s) (p .multipliers) (p .settings .step) (p .upper) (p .settings .sweeps) (s .pre .4) (s .pre .1),
       omega arith,
       refl,
     )
@@ -81,22 +79,13 @@ turn j = j .before .before .before .before .before
 
 -- where the function starts
 abbrev start : tie.After-judge Inv-loop μ-loop → tie.Start Inv-loop μ-loop
-start j = turn j .before
+start j = turn j .before .before .before
 
 -- what a pass comes to, by its verdict
 judged : (j : tie.After-judge Inv-loop μ-loop) (v : Verdict) → j .judge .result .verdict ≡ v
-    → JudgedIs (withBytes (given (start j)) (turn j .loop .row)) (fit (start j .args .n) (pos 0) (turn j .loop .d))
-    (toZ w64 (ofZ w64 (start j .args .upper))) v (j .judge .last .1 .1 .1 .1 .1 .1 .1 .1 .0)
-    (j .judge .last .1 .1 .1 .1 .1 .1 .1 .1 .1 .1 .0)
+    → JudgedIs (withBytes (given (start j)) (turn j .loop .row)) (fit (start j .args .p .n) (pos 0) (turn j .loop .d))
+    (start j .args .p .upper) v (j .judge .last .1 .1 .1 .1 .1 .0) (j .judge .last .1 .1 .1 .1 .1 .1 .1 .0)
 judged j v e = judged-as _ _ _ _ _ _ _ e (j .judge .ensures .0)
-
--- what all passes come to, with the upper bound read back from its word
-back : (s : tie.Start Inv-loop μ-loop) → let a = s .args in
-    openedAs (passesFrom (given s) (a .multipliers) (a .step) (toZ w64 (ofZ w64 (a .upper))) (a .sweeps))
-    ≡ openedAs (passesFrom (given s) (a .multipliers) (a .step) (a .upper) (a .sweeps))
-back s =
-    let a = s .args in
-    ap (λ (z : ℤ). openedAs (passesFrom (given s) (a .multipliers) (a .step) z (a .sweeps))) (toZ-ofZ (s .fits .upper))
 
 enum-told : tie.Need-enum-told Inv-loop μ-loop
 enum-told c = search needs
@@ -109,7 +98,7 @@ returns c =
     let j = c .before .before .before .before .before in
     let l = turn j .loop in
     let e = judged j verdict.Shut (c .before .before .before .enum-told .given .1) in
-    c .close .ensures ∙ turn-shut _ (l .inv .0) _ _ _ _ _ _ (l .inv .3) e ∙ back (start j)
+    c .close .ensures ∙ turn-shut _ (l .inv .0) _ _ _ _ _ _ (l .inv .3) e
 
 enum-told-2 : tie.Need-enum-told-2 Inv-loop μ-loop
 enum-told-2 c = search needs
@@ -119,7 +108,7 @@ returns-2 c =
     let j = c .before .before .before in
     let l = turn j .loop in
     let e = judged j verdict.Found (c .before .enum-told2 .given .1) in
-    turn-found _ (l .inv .0) _ _ _ _ _ _ (l .inv .3) _ e ∙ back (start j)
+    turn-found _ (l .inv .0) _ _ _ _ _ _ (l .inv .3) _ e
 
 enum-told-3 : tie.Need-enum-told-3 Inv-loop μ-loop
 enum-told-3 c = search needs
@@ -136,7 +125,7 @@ returns-3 c =
     let j = c .before .before .before .before .before .before in
     let l = turn j .loop in
     let e = judged j verdict.Ruled (c .before .before .before .before .enum-told3 .given .1) in
-    c .split .ensures ∙ turn-last _ (l .inv .0) _ _ _ _ _ _ (l .inv .3) _ _ e (c .before .before .before .if1 .taken) ∙ back (start j)
+    c .split .ensures ∙ turn-last _ (l .inv .0) _ _ _ _ _ _ (l .inv .3) _ _ e (c .before .before .before .if1 .taken)
 
 gains-requires : tie.Need-gains-requires Inv-loop μ-loop
 gains-requires c κs =

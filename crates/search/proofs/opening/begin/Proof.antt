@@ -1,16 +1,16 @@
 -- The trimmed graph, the padded multipliers and the one node are those of the record of `begin`.
 use native.Mathlib.Omega.{arith}
 use borrow.Author.Needs.{needs}
+use Rattle.integers.specs.Words.{back64}
 use Rattle.machine.specs.Machine.{Opening}
 use Rattle.machine.specs.Calls.{close, step}
 use Rattle.search.specs.Record.{openingOf}
 use Rattle.search.specs.Begun.{begun-valid, begun-long, begun}
-use mir.Facts.{toZ-ofZ}
 use Rattle.search.proofs.opening.begin.Statement.{statement}
 use Rattle.search.proofs.opening.begin.Tie as tie
 
 abbrev asked : tie.Start → Opening
-asked c = openingOf (c .args .g) (c .args .multipliers .now) (c .args .ceiling) (c .args .sweeps) (c .args .step)
+asked c = openingOf (c .args .g) (c .args .multipliers .now) (c .args .settings)
 
 trim-requires : tie.Need-trim-requires
 trim-requires c κs = begun-valid (asked c) (c .pre) .few
@@ -24,10 +24,11 @@ put-requires c κs = search needs
 
 returns : tie.Need-returns
 returns c =
-    let trimmed = c .before .before .before .before .before in
+    let padded = c .before .before .before .before .before in
+    let trimmed = padded .before in
     let start = trimmed .before in
-    begun (asked start) (start .pre) _ (trimmed .trim .ensures) _ (c .before .before .before .before .padded .ensures)
-    _ (toZ-ofZ (start .fits .ceiling)) _ (c .put .ensures)
+    begun (asked start) (start .pre) _ (trimmed .trim .ensures) _ (padded .padded .ensures)
+    _ (back64 (start .args .settings .ceiling) (c .struct-told .given .0 .1)) _ (c .before .put .ensures)
 
 pub begin-spec : {M : Type 1} → statement M
 begin-spec = tie.close (tie.spec trim-requires padded-requires put-requires returns)

@@ -22,16 +22,16 @@ use Rattle.search.proofs.record.fields_fit.Tie as tie
 abbrev held : tie.Start → Opening
 held c =
     let a = c .args in
-    openingWith (a .g) (a .multipliers) (a .ceiling) (a .sweeps) (a .step)
+    openingWith (a .g) (a .multipliers) (a .settings)
 
 told : (c : tie.After-opening-fits) → c .opening-fits .result ≡ eqb (fault (held (c .before))) 0
-told c = rw (toZ-ofZ (c .before .fits .ceiling)) at (c .opening-fits .ensures)
+told c = c .opening-fits .ensures
 
 no-fault : (c : tie.Else1) → fault (held (c .before .before)) ≡ 0
 no-fault c = eqb-true _ 0 (sym (told (c .before)) ∙ not-false _ (c .if1 .left))
 
-few : (c : tie.Else1) → c .before .before .args .g .m ≤ 190
-few c = begun-valid (held (c .before .before)) (no-fault c) .few
+few : (c : tie.Else1) → c .before .before .args .g .n ≤ 20
+few c = begun-valid (held (c .before .before)) (no-fault c) .high
 
 bounded : (c : tie.After-ceiling-fits) → c .ceiling-fits .result ≡ ceilingFits (c .before .before .before .args .upper)
 bounded c = rw (toZ-ofZ (c .before .before .before .fits .upper)) at (c .ceiling-fits .ensures)
@@ -48,11 +48,18 @@ ceiling-fits-requires c κs = search needs
 returns-2 : tie.Need-returns-2
 returns-2 c = λ t. true≢false (sym (bounded (c .before) ∙ t .upper) ∙ not-true _ (c .if2 .taken))
 
+wide-requires : tie.Need-wide-requires
+wide-requires c κs = search needs
+
+-- the number of vertices, taken out of the graph
+vertices : (c : tie.After-wide) → c .wide .result ≡ c .before .before .before .before .before .args .g .n
+vertices c = c .wide .ensures .0
+
 add-if3 : tie.Need-add-if3
-add-if3 c = omega (arith, few (c .before .before .before))
+add-if3 c = omega (arith, vertices c, few (c .before .before .before))
 
 returns-3 : tie.Need-returns-3
-returns-3 c = search needs
+returns-3 c = λ t. omega (arith, vertices (c .before), c .if3 .taken, t .depth)
 
 bits-requires : tie.Need-bits-requires
 bits-requires c κs = search needs
@@ -65,10 +72,11 @@ returns-5 c =
     let c3 = c .before .before in
     let c2 = c3 .before .before in
     let c1 = c2 .before .before in
+    let n = vertices (c3 .before) in
     says-le (c1 .before .before .args .count) maxCount (FieldsFit _ _ _ _ _) (λ count. record {
       opening = no-fault c1;
       upper = sym (bounded (c2 .before)) ∙ not-false _ (c2 .if2 .left);
-      depth = c3 .if3 .left;
+      depth = omega (arith, n, c3 .if3 .left);
       best = says-yes (c .before .bits .result) (c .before .bits .ensures) (not-false _ (c .if4 .left));
       count = count;
     }) (λ t. t .count)
@@ -81,6 +89,7 @@ fields-fit-spec =
     returns
     ceiling-fits-requires
     returns-2
+    wide-requires
     add-if3
     returns-3
     bits-requires

@@ -1,4 +1,4 @@
--- The loop keeps: how many of the first j edges are free, and the greatest of their bytes.
+-- The loop keeps: how many of the first j edges are required, and the greatest of their bytes.
 use Prim.Native.Nat.{ℕ, _+_, _*_, _≤_, _-_}
 use mathlib.Core.Path.{_≡_, sym, ap, _∙_}
 use mathlib.Core.Logic.{⊎-elim}
@@ -6,21 +6,21 @@ use native.Mathlib.Omega.{arith}
 use borrow.Author.Needs.{needs}
 use lib.ListN.{getD}
 use Rattle.search.specs.Record.{node}
-use Rattle.search.specs.CheckLoops.{says-le, frees-none, frees-free, frees-other}
+use Rattle.search.specs.CheckLoops.{says-le, requireds-none, requireds-one, requireds-other}
 use Rattle.search.specs.CheckParts.{Greatest, greatest-none, greatest-raised, greatest-kept}
-use Rattle.machine.specs.Machine as Machine
+use Rattle.machine.specs.Requireds as marked
 use Rattle.search.proofs.record.node_fits.Statement.{statement}
 use Rattle.search.proofs.record.node_fits.Tie as tie
 
 abbrev Inv-loop : tie.InvT-loop
-Inv-loop stack m p most₀ frees₀ j₀ most frees j =
-    (j ≤ m) × (frees ≡ Machine.frees (node j stack p)) × (frees ≤ j) × Greatest (λ k. getD stack (190 * p + k) 0) 0 m j most
+Inv-loop stack m p most₀ requireds₀ j₀ most requireds j =
+    (j ≤ m) × (requireds ≡ marked.requireds (node j stack p)) × (requireds ≤ j) × Greatest (λ k. getD stack (190 * p + k) 0) 0 m j most
 
 abbrev μ-loop : tie.MeasureT-loop
-μ-loop stack m p most₀ frees₀ j₀ most frees j = m - j
+μ-loop stack m p most₀ requireds₀ j₀ most requireds j = m - j
 
 loop-holds : tie.Need-loop-holds Inv-loop μ-loop
-loop-holds c = (omega arith, sym (frees-none (c .args .stack .now) (c .args .p)), omega arith, greatest-none _ _ _)
+loop-holds c = (omega arith, sym (requireds-none (c .args .stack .now) (c .args .p)), omega arith, greatest-none _ _ _)
 
 mul-x : tie.Need-mul-x Inv-loop μ-loop
 mul-x c = search needs
@@ -31,8 +31,8 @@ add-x c = search needs
 element-copy-out-x : tie.Need-element-copy-out-x Inv-loop μ-loop
 element-copy-out-x c = search needs
 
-add-frees : tie.Need-add-frees Inv-loop μ-loop
-add-frees c = search needs
+add-requireds : tie.Need-add-requireds Inv-loop μ-loop
+add-requireds c = search needs
 
 add-j : tie.Need-add-j Inv-loop μ-loop
 add-j c = search needs
@@ -46,8 +46,8 @@ loop-again c =
     let args = c .before .before .before .before .before .args in
     let stack = args .stack .now in (
       omega arith,
-      ⊎-elim (λ w. omega (arith, l .inv .1, frees-free stack (args .p) (l .j) (w .0 .taken)))
-          (λ w. omega (arith, l .inv .1, frees-other stack (args .p) (l .j) (w .0 .left))) (c .if2 .came),
+      ⊎-elim (λ w. omega (arith, l .inv .1, requireds-one stack (args .p) (l .j) (w .0 .taken)))
+          (λ w. omega (arith, l .inv .1, requireds-other stack (args .p) (l .j) (w .0 .left))) (c .if2 .came),
       ⊎-elim (λ w. omega arith) (λ w. omega arith) (c .if2 .came),
       ⊎-elim (λ w. greatest-raised _ _ _ (l .j) (l .most) _ (l .inv .3) (omega arith) (omega arith) (w .0 .taken) (w .1))
           (λ w. greatest-kept _ _ _ (l .j) (l .most) _ (l .inv .3) (w .0 .left) (w .1)) (c .before .if1 .came),
@@ -59,18 +59,15 @@ returns c = λ e. let l = c .before .before .loop in omega (arith, c .if3 .taken
 cast-result : tie.Need-cast-result Inv-loop μ-loop
 cast-result c = search needs
 
-add-result : tie.Need-add-result Inv-loop μ-loop
-add-result c = search needs
-
 returns-2 : tie.Need-returns-2 Inv-loop μ-loop
 returns-2 c =
     let l = c .before .before .loop in
     let args = c .before .before .before .args in
     let stack = args .stack .now in
     let all : l .j ≡ args .m = omega arith in
-    let frees : l .frees ≡ Machine.frees (node (args .m) stack (args .p)) =
-    l .inv .1 ∙ ap (λ (k : ℕ). Machine.frees (node k stack (args .p))) all in
-    says-le (l .frees + args .p) (args .m) _
+    let requireds : l .requireds ≡ marked.requireds (node (args .m) stack (args .p)) =
+    l .inv .1 ∙ ap (λ (k : ℕ). marked.requireds (node k stack (args .p))) all in
+    says-le (args .p) (l .requireds) _
     (λ h. ((λ k b. omega (arith, c .if3 .left, l .inv .3 .above k (omega arith) (omega arith))), omega arith)) (λ e. omega (arith, e .1))
 
 pub node-fits-spec : {M : Type 1} → statement M
@@ -83,11 +80,10 @@ node-fits-spec =
     mul-x
     add-x
     element-copy-out-x
-    add-frees
+    add-requireds
     add-j
     loop-less
     loop-again
     returns
     cast-result
-    add-result
     returns-2)

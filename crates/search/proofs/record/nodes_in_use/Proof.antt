@@ -1,4 +1,4 @@
--- By the two cases of `depth < 191`.
+-- By the two cases of `depth < 22`.
 use mathlib.Core.Path.{refl}
 use mathlib.Core.Logic.{inl, inr}
 use native.Mathlib.Omega.{arith}

@@ -11,7 +11,7 @@ use Rattle.search.proofs.record.stack_tidy.Statement.{statement}
 use Rattle.search.proofs.record.stack_tidy.Tie as tie
 
 abbrev Inv-loop : tie.InvT-loop
-Inv-loop stack m depth used p₀ p = InUse depth used × Zeros 0 36290 (190 * used) stack × ((k : ℕ) → k < p → NodeZeros stack k m)
+Inv-loop stack m depth used p₀ p = InUse depth used × Zeros 0 4180 (190 * used) stack × ((k : ℕ) → k < p → NodeZeros stack k m)
 
 abbrev μ-loop : tie.MeasureT-loop
 μ-loop stack m depth used p₀ p = used - p

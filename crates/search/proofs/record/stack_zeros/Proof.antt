@@ -9,10 +9,10 @@ use Rattle.search.proofs.record.stack_zeros.Statement.{statement}
 use Rattle.search.proofs.record.stack_zeros.Tie as tie
 
 abbrev Inv-loop : tie.InvT-loop
-Inv-loop stack from most₀ i₀ most i = (from ≤ i) × Greatest (λ k. getD stack k 0) from 36290 i most
+Inv-loop stack from most₀ i₀ most i = (from ≤ i) × Greatest (λ k. getD stack k 0) from 4180 i most
 
 abbrev μ-loop : tie.MeasureT-loop
-μ-loop stack from most₀ i₀ most i = 36290 - i
+μ-loop stack from most₀ i₀ most i = 4180 - i
 
 loop-holds : tie.Need-loop-holds Inv-loop μ-loop
 loop-holds c = (omega arith, greatest-none _ _ _)
@@ -35,7 +35,7 @@ loop-again c =
     )
 
 returns : tie.Need-returns Inv-loop μ-loop
-returns c = let l = c .before .loop in says-zero _ _ 36290 (l .i) (l .most) (l .inv .1) (omega arith)
+returns c = let l = c .before .loop in says-zero _ _ 4180 (l .i) (l .most) (l .inv .1) (omega arith)
 
 pub stack-zeros-spec : {M : Type 1} → statement M
 stack-zeros-spec =

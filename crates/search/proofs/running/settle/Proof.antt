@@ -4,7 +4,7 @@ use mathlib.Core.Path.{_≡_, ap, _∙_}
 use native.Mathlib.Omega.{arith}
 use borrow.Author.Needs.{needs}
 use lib.ListN.{length}
-use lib.IntN.{ℤ, pos, negsuc, _-ℤ_}
+use lib.IntN.{ℤ, pos, _+ℤ_, _-ℤ_}
 use mir.Facts.{toZ-ofZ}
 use mir.Val.{SFits}
 use mir.Syntax.{w64}
@@ -17,16 +17,15 @@ use Rattle.search.specs.Frames.{next-closes, next-finds, next-splits}
 use Rattle.search.proofs.running.settle.Statement.{statement}
 use Rattle.search.proofs.running.settle.Tie as tie
 
--- the cost less 1 fits
-less-fits : (z : ℤ) → InRange (maxCost * maxEdges) z → SFits w64 (z -ℤ pos 1)
-less-fits z r = record {
+-- the cost and a small number fit
+sum-fits : (z y : ℤ) → InRange (maxCost * maxEdges) z → InRange 10 y → SFits w64 (z +ℤ y)
+sum-fits z y r s = record {
   sfits =
-      mag-of-parts (z -ℤ pos 1) 9223372036854775808 (omega (arith, add-up z (negsuc 0), r .high))
-      (omega (arith, add-dn z (negsuc 0), r .low));
+      mag-of-parts (z +ℤ y) 9223372036854775808 (omega (arith, add-up z y, r .high, s .high)) (omega (arith, add-dn z y, r .low, s .low));
 }
 
 -- the place of the top node is one of the stack's
-in-stack : (s : tie.Start) → (s .args .f .depth - 1 < 191) × (length (s .args .stack .now) ≡ 36290)
+in-stack : (s : tie.Start) → (s .args .f .depth - 1 < 22) × (length (s .args .stack .now) ≡ 4180)
 in-stack s = (top-high _ _ _ _ _ _ (s .pre), holds-size _ _ _ _ _ (s .pre .holds))
 
 sub-p : tie.Need-sub-p
@@ -55,7 +54,7 @@ tour-cost-requires c κs =
 sub-u : tie.Need-sub-u
 sub-u c =
     let k = c .tour-cost in
-    rw (back64 (k .result) (k .ok)) (less-fits (k .result) (k .ensures .1))
+    rw (back64 (k .result) (k .ok)) (sum-fits (k .result) _ (k .ensures .1) (record { low = omega arith; high = omega arith }))
 
 enum-told-3 : tie.Need-enum-told-3
 enum-told-3 c = search needs
@@ -87,7 +86,7 @@ returns-2 : tie.Need-returns-2
 returns-2 c =
     let k = c .tour-cost in
     λ t.
-    rw (back64 (k .result) (k .ok), toZ-ofZ (less-fits (k .result) (k .ensures .1)))
+    rw (toZ-ofZ (sub-u c), back64 (k .result) (k .ok))
     (next-finds _ _ _ _ _ _ t _ _ (c .before .before .before .before .enum-told2 .given .1)
     (ap (λ (z : ℤ). z -ℤ pos 1) (k .ensures .0 (t .graph) (holds-valid _ _ _ _ _ (t .holds)) (t .many) (t .costs-are)))
     (c .before .before .put2 .ensures))

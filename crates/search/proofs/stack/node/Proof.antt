@@ -10,7 +10,7 @@ use Rattle.search.proofs.stack.node.Statement.{statement}
 use Rattle.search.proofs.stack.node.Tie as tie
 
 abbrev Inv-loop : tie.InvT-loop
-Inv-loop stack p r₀ j₀ r j = (j ≤ 190) × (p < 191) × Filling 0 190 j (λ i. getD stack (190 * p + i) 0) r
+Inv-loop stack p r₀ j₀ r j = (j ≤ 190) × (p < 22) × Filling 0 190 j (λ i. getD stack (190 * p + i) 0) r
 
 abbrev μ-loop : tie.MeasureT-loop
 μ-loop stack p r₀ j₀ r j = 190 - j

@@ -9,7 +9,7 @@ use Rattle.search.proofs.stack.put.Statement.{statement}
 use Rattle.search.proofs.stack.put.Tie as tie
 
 abbrev Inv-loop : tie.InvT-loop
-Inv-loop stack₀ p x j₀ stack j = (j ≤ 190) × (p < 191) × (length stack₀ ≡ 36290) × Put p j x stack₀ stack
+Inv-loop stack₀ p x j₀ stack j = (j ≤ 190) × (p < 22) × (length stack₀ ≡ 4180) × Put p j x stack₀ stack
 
 abbrev μ-loop : tie.MeasureT-loop
 μ-loop stack₀ p x j₀ stack j = 190 - j

@@ -1,0 +1,161 @@
+-- The flags, then the fields that must be zero, then the stack's bytes; then, where a search is open, its fields and its nodes, and else
+-- that the record is fresh.
+use Prim.Native.Nat.{ℕ, _≤_}
+use mathlib.Core.Path.{_≡_, sym, subst}
+use mathlib.Core.Bool.{Bool, true, false}
+use native.Mathlib.Omega.{arith}
+use borrow.Author.Needs.{needs}
+use borrow.Author.Tests.{not-true, not-false, eq-eqb, ne-eqb}
+use Rattle.lists.specs.Bools.{Says, says-yes, says-no}
+use Rattle.integers.specs.Words.{back64}
+use Rattle.search.specs.Canonical.{Flags, StackTidy, Tidy, StackFits, Stands}
+use Rattle.search.specs.Check.{check-no}
+use Rattle.search.specs.CheckLoops.{says-stands}
+use Rattle.search.specs.CheckParts.{Fitting, FieldsIdle, tidy-fields, tidy-whole, fits-fields, says-fits, says-idle}
+use Rattle.search.specs.Record.{hasTour}
+use Rattle.search.specs.Begun.{begun-valid}
+use Rattle.search.specs.declared.Search.{Search}
+use Rattle.search.proofs.record.sound.Statement.{statement}
+use Rattle.search.proofs.record.sound.Tie as tie
+
+returns : tie.Need-returns
+returns c = sym (check-no (c .before .args .t1) (λ h. omega (arith, h .flags .«open», c .if1 .taken)))
+
+returns-2 : tie.Need-returns-2
+returns-2 c = sym (check-no (c .before .before .args .t1) (λ h. omega (arith, h .flags .best, c .if2 .taken)))
+
+-- where m is taken out of the graph, where the flags are known, and the record
+abbrev at-flags : tie.After-wide → tie.Else2
+at-flags c = c .before .before .before .before
+
+abbrev given : tie.After-wide → Search
+given c = at-flags c .before .before .args .t1
+
+flags : (c : tie.After-wide) → Flags (given c)
+flags c = record { «open» = at-flags c .before .if1 .left; best = at-flags c .if2 .left }
+
+edges : (c : tie.After-wide) → c .wide .result ≡ given c .graph .m
+edges c = c .wide .ensures .0
+
+wide-requires : tie.Need-wide-requires
+wide-requires c κs = search needs
+
+fields-tidy-requires : tie.Need-fields-tidy-requires
+fields-tidy-requires c κs = search needs
+
+returns-3 : tie.Need-returns-3
+returns-3 c =
+    sym (check-no (given (c .before .before))
+    (λ h. says-no (c .before .fields-tidy .result) (c .before .fields-tidy .ensures) (not-true _ (c .if3 .taken))
+    (tidy-fields _ (h .tidy))))
+
+stack-tidy-requires : tie.Need-stack-tidy-requires
+stack-tidy-requires c κs = search needs
+
+-- where the fields are known to be tidy
+abbrev at-fields : tie.After-stack-tidy → tie.Else3
+at-fields c = c .before .before .before
+
+abbrev at-wide : tie.Else3 → tie.After-wide
+at-wide c = c .before .before
+
+-- what the test of the stack says, of the graph's own m
+stack-told : (c : tie.After-stack-tidy)
+    → let s = given (at-wide (at-fields c)) in Says (c .stack-tidy .result) (StackTidy (s .graph .m) (s .depth) (s .stack))
+stack-told c =
+    let s = given (at-wide (at-fields c)) in
+    subst (λ (k : ℕ). Says (c .stack-tidy .result) (StackTidy k (s .depth) (s .stack))) (edges (at-wide (at-fields c)))
+    (c .stack-tidy .ensures)
+
+returns-4 : tie.Need-returns-4
+returns-4 c =
+    sym (check-no (given (at-wide (at-fields (c .before))))
+    (λ h. says-no (c .before .stack-tidy .result) (stack-told (c .before)) (not-true _ (c .if4 .taken)) (h .tidy .stack)))
+
+-- the record, where all that must be zero is known to be
+abbrev at-stack : tie.Else4 → tie.After-wide
+at-stack c = at-wide (at-fields (c .before))
+
+tidy : (c : tie.Else4) → Tidy (given (at-stack c))
+tidy c =
+    let c3 = at-fields (c .before) in
+    tidy-whole (given (at-stack c))
+    (says-yes (c3 .before .fields-tidy .result) (c3 .before .fields-tidy .ensures) (not-false _ (c3 .if3 .left)))
+    (says-yes (c .before .stack-tidy .result) (stack-told (c .before)) (not-false _ (c .if4 .left)))
+
+idle-requires : tie.Need-idle-requires
+idle-requires c κs = search needs
+
+returns-5 : tie.Need-returns-5
+returns-5 c =
+    let c5 = c .before .before in
+    let c4 = c5 .before .before in
+    let s = given (at-stack c4) in
+    let word = back64 (s .upper) (c .before .struct-told .given .1 .0 .1) in
+    let found : Says (c .idle .result) (FieldsIdle (s .graph .n) (s .graph .m) (s .settings) (s .upper) (s .depth) (hasTour s) (s .count)) =
+    rw word at (c .idle .ensures) in
+    says-stands s (c .idle .result) false (ne-eqb _ 1 (c5 .if5 .taken)) (flags (at-stack c4)) (tidy c4)
+    (says-idle s (c .idle .result) found)
+
+fields-fit-requires : tie.Need-fields-fit-requires
+fields-fit-requires c κs = search needs
+
+abbrev at-open : tie.After-fields-fit → tie.Else5
+at-open c = c .before .before
+
+abbrev at-zeros : tie.After-fields-fit → tie.Else4
+at-zeros c = at-open c .before .before
+
+-- what the test of the fields says, its signed word read back
+told : (c : tie.After-fields-fit) → Says (c .fields-fit .result) (Fitting (given (at-stack (at-zeros c))))
+told c =
+    let s = given (at-stack (at-zeros c)) in
+    rw (back64 (s .upper) (c .before .struct-told2 .given .1 .0 .1)) at (c .fields-fit .ensures)
+
+returns-6 : tie.Need-returns-6
+returns-6 c =
+    let s = given (at-stack (at-zeros (c .before))) in
+    sym (check-no s
+    (λ h. says-no (c .before .fields-fit .result) (told (c .before)) (not-true _ (c .if6 .taken))
+    (fits-fields s (subst (λ (b : Bool). Stands b s) (eq-eqb (s .«open») 1 (at-open (c .before) .if5 .left)) (h .stands)))))
+
+fit : (c : tie.Else6) → Fitting (given (at-stack (at-zeros (c .before))))
+fit c = says-yes (c .before .fields-fit .result) (told (c .before)) (not-false _ (c .if6 .left))
+
+few : (s : Search) → Fitting s → (s .graph .m ≤ 190) × (s .depth ≤ 22)
+few s t = let v = begun-valid _ (t .opening) in (v .few, omega (arith, v .high, t .depth))
+
+stack-fits-requires : tie.Need-stack-fits-requires
+stack-fits-requires c κs =
+    let c6 = c .before .before in
+    let at = at-stack (at-zeros (c6 .before)) in
+    let e = few (given at) (fit c6) in
+    (omega (arith, edges at, e .0), e .1)
+
+returns-7 : tie.Need-returns-7
+returns-7 c =
+    let c6 = c .before .before .before in
+    let c4 = at-zeros (c6 .before) in
+    let at = at-stack c4 in
+    let s = given at in
+    let fits = subst (λ (k : ℕ). Says (c .stack-fits .result) (StackFits k (s .depth) (s .stack))) (edges at) (c .stack-fits .ensures) in
+    says-stands s (c .stack-fits .result) true (eq-eqb _ 1 (at-open (c6 .before) .if5 .left)) (flags at) (tidy c4)
+    (says-fits s (c .stack-fits .result) (fit c6) fits)
+
+pub sound-spec : {M : Type 1} → statement M
+sound-spec =
+    tie.close
+    (tie.spec
+    returns
+    returns-2
+    wide-requires
+    fields-tidy-requires
+    returns-3
+    stack-tidy-requires
+    returns-4
+    idle-requires
+    returns-5
+    fields-fit-requires
+    returns-6
+    stack-fits-requires
+    returns-7)

@@ -1,3 +1,4 @@
-pub mod Plain
+pub mod Answers
 pub mod Searches
-pub mod Unchanged
+pub mod Demand3
+pub mod Theorem

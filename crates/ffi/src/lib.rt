@@ -1,10 +1,10 @@
-// The calls for C and Rust. A graph goes in and out as its parts; a call answers with document 01's number, 0 where it is accepted,
-// and leaves the place in a lent number.
+// The calls for C, C++, Rust and Python. A graph goes in by value, a record or a graph to be filled is lent, and each call answers with the
+// same four numbers: document 01's number, 0 where the call is accepted, and the place, the value and the count of nodes, 0 where the answer
+// has none.
 ghost use mathlib.Core.Path.{_≡_};
 ghost use lib.ListN.{length};
-ghost use Rattle.graph.specs.Valid.{graphOf};
 ghost use Rattle.graph.specs.Chart.{reading, writeOutcome, writeLeaves};
-ghost use Rattle.ffi.specs.Plain.{numberOf, placeOf, leaves, checkOutcome};
+ghost use Rattle.ffi.specs.Answers.{plain, saidOutcome, checkOutcome, filledBy, Fills};
 
 mod searches;
 mod trees;
@@ -13,141 +13,103 @@ use graph::Graph;
 use graph::ReadAnswer;
 use graph::WriteAnswer;
 
-pub(crate) fn graph_of(
-    n: usize,
-    m: usize,
-    a: &[u8; 190],
-    b: &[u8; 190],
-    cost: &[i32; 190],
-    mark: &[u8; 190],
-) -> Graph
-    ensures { λ r.
-        ⌜ r ≡ graphOf n m (now (a .entry)) (now (b .entry)) (now (cost .entry)) (now (mark .entry)) ⌝ }
+// What a call answers beside document 01's numbers; no refusal has one of these. First 'no tree' and 'dead'.
+pub(crate) const NONE: u32 = 1000;
+
+pub(crate) const GOING_ON: u32 = 1001;
+
+pub(crate) const FINISHED: u32 = 1002;
+
+// 'None': no tour is within the ceiling.
+pub(crate) const NO_TOUR: u32 = 1003;
+
+pub(crate) const BEST: u32 = 1004;
+
+// What a call answers.
+#[repr(C)]
+pub struct Said {
+    pub number: u32,
+    pub place: u64,
+    pub value: i64,
+    pub nodes: u64,
+}
+
+// A lent graph as reading leaves it, and the answer.
+pub(crate) struct Filled {
+    pub graph: Graph,
+    pub said: Said,
+}
+
+// A number and a place alone.
+pub(crate) fn plain(number: u32, place: u64) -> Said
+    ensures { λ r. ⌜ r ≡ plain number place ⌝ }
 {
-    let from = *a;
-    let to = *b;
-    let costs = *cost;
-    let marks = *mark;
-    Graph {
-        n: n,
-        m: m,
-        a: from,
-        b: to,
-        cost: costs,
-        mark: marks,
+    Said {
+        number: number,
+        place: place,
+        value: 0,
+        nodes: 0,
     }
 }
 
 // Ruled out: 0 for a graph that breaks 'Legs and marks'; any number but 15 for it.
 #[no_mangle]
-pub extern "C" fn planner_check(
-    n: usize,
-    m: usize,
-    a: &[u8; 190],
-    b: &[u8; 190],
-    cost: &[i32; 190],
-    mark: &[u8; 190],
-) -> u32
-    ensures { λ r.
-        ⌜
-        r
-        ≡ numberOf (checkOutcome (graphOf n m (now (a .entry)) (now (b .entry)) (now (cost .entry)) (now (mark .entry))))
-        ⌝ }
+pub extern "C" fn planner_check(g: Graph) -> Said
+    ensures { λ r. ⌜ r ≡ saidOutcome (checkOutcome g) ⌝ }
 {
-    let g = graph_of(n, m, a, b, cost, mark);
     if graph::check(g) {
-        return 0;
+        return plain(0, 0);
     }
-    15
+    plain(15, 0)
 }
 
-// Ruled out: a part of the graph changed by a refusal; a place left as it was.
-#[no_mangle]
-pub extern "C" fn planner_read(
-    bytes: &[u8],
-    n: &mut usize,
-    m: &mut usize,
-    a: &mut [u8; 190],
-    b: &mut [u8; 190],
-    cost: &mut [i32; 190],
-    mark: &mut [u8; 190],
-    place: &mut u64,
-) -> u32
-    ensures { λ r.
-        ⌜
-        (r ≡ numberOf ((reading (now (bytes .entry))) .outcome))
-        × (now (place .exit) ≡ placeOf ((reading (now (bytes .entry))) .outcome))
-        × (now (n .exit) ≡ leaves ((reading (now (bytes .entry))) .outcome) ((reading (now (bytes .entry))) .graph .n) (now (n .entry)))
-        × (now (m .exit) ≡ leaves ((reading (now (bytes .entry))) .outcome) ((reading (now (bytes .entry))) .graph .m) (now (m .entry)))
-        × (now (a .exit) ≡ leaves ((reading (now (bytes .entry))) .outcome) ((reading (now (bytes .entry))) .graph .a) (now (a .entry)))
-        × (now (b .exit) ≡ leaves ((reading (now (bytes .entry))) .outcome) ((reading (now (bytes .entry))) .graph .b) (now (b .entry)))
-        × (now (cost .exit)
-        ≡ leaves ((reading (now (bytes .entry))) .outcome) ((reading (now (bytes .entry))) .graph .cost) (now (cost .entry)))
-        × (now (mark .exit)
-        ≡ leaves ((reading (now (bytes .entry))) .outcome) ((reading (now (bytes .entry))) .graph .mark) (now (mark .entry)))
-        ⌝ }
+// Reading, on a graph by value: where the bytes are refused the graph is as it was.
+fn read_into(g: Graph, bytes: &[u8]) -> Filled
+    ensures { λ r. ⌜ r ≡ filledBy g (reading (now (bytes .entry))) ⌝ }
 {
     let r = graph::read(bytes);
     let answer = r.answer;
     match answer {
         ReadAnswer::Read => {
-            let g = r.graph;
-            let from = g.a;
-            let to = g.b;
-            let costs = g.cost;
-            let marks = g.mark;
-            *n = g.n;
-            *m = g.m;
-            *a = from;
-            *b = to;
-            *cost = costs;
-            *mark = marks;
-            *place = 0;
-            0
+            let h = r.graph;
+            let said = plain(0, 0);
+            Filled {
+                graph: h,
+                said: said,
+            }
         }
         ReadAnswer::Refused(number, at) => {
-            *place = at;
-            number
+            let said = plain(number, at);
+            Filled {
+                graph: g,
+                said: said,
+            }
         }
     }
 }
 
+// Ruled out: a graph changed by a refusal; a place left out.
+#[no_mangle]
+pub extern "C" fn planner_read(g: &mut Graph, bytes: &[u8]) -> Said
+    ensures { λ r. ⌜ Fills (now (g .entry)) (reading (now (bytes .entry))) r (now (g .exit)) ⌝ }
+{
+    let out = read_into(*g, bytes);
+    *g = out.graph;
+    out.said
+}
+
 // Ruled out: a byte written by a refusal; 11 for a graph that breaks 'Legs and marks'.
 #[no_mangle]
-pub extern "C" fn planner_write(
-    n: usize,
-    m: usize,
-    a: &[u8; 190],
-    b: &[u8; 190],
-    cost: &[i32; 190],
-    mark: &[u8; 190],
-    out: &mut [u8],
-    place: &mut u64,
-) -> u32
+pub extern "C" fn planner_write(g: Graph, out: &mut [u8]) -> Said
     ensures { λ r.
         ⌜
-        (r
-        ≡ numberOf
-        (writeOutcome (graphOf n m (now (a .entry)) (now (b .entry)) (now (cost .entry)) (now (mark .entry)))
-        (length (now (out .entry)))))
-        × (now (place .exit)
-        ≡ placeOf
-        (writeOutcome (graphOf n m (now (a .entry)) (now (b .entry)) (now (cost .entry)) (now (mark .entry)))
-        (length (now (out .entry)))))
-        × (now (out .exit)
-        ≡ writeLeaves (graphOf n m (now (a .entry)) (now (b .entry)) (now (cost .entry)) (now (mark .entry))) (now (out .entry)))
+        (r ≡ saidOutcome (writeOutcome g (length (now (out .entry)))))
+        × (now (out .exit) ≡ writeLeaves g (now (out .entry)))
         ⌝ }
 {
-    let g = graph_of(n, m, a, b, cost, mark);
-    let answer = graph::write(g, &mut *out);
+    let answer = graph::write(g, out);
     match answer {
-        WriteAnswer::Written => {
-            *place = 0;
-            0
-        }
-        WriteAnswer::Refused(number, at) => {
-            *place = at;
-            number
-        }
+        WriteAnswer::Written => plain(0, 0),
+        WriteAnswer::Refused(number, at) => plain(number, at),
     }
 }

@@ -1,77 +1,56 @@
-// The tree call and the rule call for C and Rust. A call answers 0 and leaves the bound in a lent number; or 1,000, 'no tree' or 'dead';
-// or the refusal's number (its place is always 0).
+// The tree call and the rule call: 0 and the bound as the value; or 1,000, 'no tree' or 'dead'; or a refusal.
 ghost use mathlib.Core.Path.{_≡_};
 ghost use lib.ListN.{length};
 ghost use Rattle.onetree.specs.Answers.{treeReply, treeLeaves, ruleReply, ruleLeaves};
-ghost use Rattle.graph.specs.Valid.{graphOf};
-ghost use Rattle.ffi.specs.Plain.{replyNumber, replyBound};
-use crate::graph_of;
+ghost use Rattle.ffi.specs.Answers.{bound, saidReply};
+use crate::NONE;
+use crate::Said;
+use crate::plain;
+use graph::Graph;
 use onetree::RuleAnswer;
 use onetree::TreeAnswer;
 
-// Ruled out: a bound written with 'no tree'; 0 for another 1-tree than the least.
+fn bound(value: i64) -> Said
+    ensures { λ r. ⌜ r ≡ bound value ⌝ }
+{
+    Said {
+        number: 0,
+        place: 0,
+        value: value,
+        nodes: 0,
+    }
+}
+
+// Ruled out: a bound with 'no tree'; 0 for another 1-tree than the least.
 #[no_mangle]
-pub extern "C" fn planner_tree(
-    n: usize,
-    m: usize,
-    a: &[u8; 190],
-    b: &[u8; 190],
-    cost: &[i32; 190],
-    mark: &[u8; 190],
-    multipliers: &[i32],
-    out: &mut [u8],
-    bound: &mut i64,
-) -> u32
+pub extern "C" fn planner_tree(g: Graph, multipliers: &[i32], out: &mut [u8]) -> Said
     ensures { λ r.
         ⌜
-        (r ≡ replyNumber (treeReply (graphOf n m (now (a .entry)) (now (b .entry)) (now (cost .entry)) (now (mark .entry))) (now (multipliers .entry)) (length (now (out .entry)))))
-        × (now (bound .exit)
-        ≡ replyBound (treeReply (graphOf n m (now (a .entry)) (now (b .entry)) (now (cost .entry)) (now (mark .entry))) (now (multipliers .entry)) (length (now (out .entry)))) (now (bound .entry)))
-        × (now (out .exit) ≡ treeLeaves (graphOf n m (now (a .entry)) (now (b .entry)) (now (cost .entry)) (now (mark .entry))) (now (multipliers .entry)) (now (out .entry)))
+        (r ≡ saidReply (treeReply g (now (multipliers .entry)) (length (now (out .entry)))))
+        × (now (out .exit) ≡ treeLeaves g (now (multipliers .entry)) (now (out .entry)))
         ⌝ }
 {
-    let g = graph_of(n, m, a, b, cost, mark);
-    let answer = onetree::tree(g, multipliers, &mut *out);
+    let answer = onetree::tree(g, multipliers, out);
     match answer {
-        TreeAnswer::Bound(value) => {
-            *bound = value;
-            0
-        }
-        TreeAnswer::NoTree => 1000,
-        TreeAnswer::Refused(number, _) => number,
+        TreeAnswer::Bound(value) => bound(value),
+        TreeAnswer::NoTree => plain(NONE, 0),
+        TreeAnswer::Refused(number, at) => plain(number, at),
     }
 }
 
 // Ruled out: a ruling written where no 1-tree is within the ceiling; 0 for a ceiling out of range.
 #[no_mangle]
-pub extern "C" fn planner_rule(
-    n: usize,
-    m: usize,
-    a: &[u8; 190],
-    b: &[u8; 190],
-    cost: &[i32; 190],
-    mark: &[u8; 190],
-    multipliers: &[i32],
-    ceiling: i64,
-    out: &mut [u8],
-    bound: &mut i64,
-) -> u32
+pub extern "C" fn planner_rule(g: Graph, multipliers: &[i32], ceiling: i64, out: &mut [u8]) -> Said
     ensures { λ r.
         ⌜
-        (r ≡ replyNumber (ruleReply (graphOf n m (now (a .entry)) (now (b .entry)) (now (cost .entry)) (now (mark .entry))) (now (multipliers .entry)) ceiling (length (now (out .entry)))))
-        × (now (bound .exit)
-        ≡ replyBound (ruleReply (graphOf n m (now (a .entry)) (now (b .entry)) (now (cost .entry)) (now (mark .entry))) (now (multipliers .entry)) ceiling (length (now (out .entry)))) (now (bound .entry)))
-        × (now (out .exit) ≡ ruleLeaves (graphOf n m (now (a .entry)) (now (b .entry)) (now (cost .entry)) (now (mark .entry))) (now (multipliers .entry)) ceiling (now (out .entry)))
+        (r ≡ saidReply (ruleReply g (now (multipliers .entry)) ceiling (length (now (out .entry)))))
+        × (now (out .exit) ≡ ruleLeaves g (now (multipliers .entry)) ceiling (now (out .entry)))
         ⌝ }
 {
-    let g = graph_of(n, m, a, b, cost, mark);
-    let answer = onetree::rule(g, multipliers, ceiling, &mut *out);
+    let answer = onetree::rule(g, multipliers, ceiling, out);
     match answer {
-        RuleAnswer::Bound(value) => {
-            *bound = value;
-            0
-        }
-        RuleAnswer::Infeasible => 1000,
-        RuleAnswer::Refused(number, _) => number,
+        RuleAnswer::Bound(value) => bound(value),
+        RuleAnswer::Infeasible => plain(NONE, 0),
+        RuleAnswer::Refused(number, at) => plain(number, at),
     }
 }

@@ -1,51 +1,18 @@
--- By what `closed` says of the record made of the parts; a signed number goes through its bits.
-use mathlib.Core.Path.{refl}
-use borrow.Author.Needs.{needs}
-use Rattle.integers.specs.Words.{back64}
-use Rattle.ffi.proofs.searches.planner_close.Statement.{statement}
-use Rattle.ffi.proofs.searches.planner_close.Tie as tie
+-- The thin function over `closed`: crate thin's None at its theorem.
+use Rattle.machine.specs.Calls as Calls
+use Rattle.search.proofs.ThinTypes.{search}
+use Rattle.thin.specs.None.{spec-eq}
+use Rattle.ffi.specs.Searches as specs
+use Rattle.ffi.proofs.ThinTypes.{said, replied}
+use Rattle.ffi.proofs.searches.closed.Symbol as core
+use Rattle.ffi.proofs.searches.closed.Met as core-thm
+use Rattle.ffi.proofs.searches.planner_close.Key as key
+use Rattle.ffi.proofs.searches.planner_close.Statement as stated
+use Rattle.ffi.proofs.searches.planner_close.Code as code
 
-search-of-requires : tie.Need-search-of-requires
-search-of-requires c κs = search needs
-
-closed-requires : tie.Need-closed-requires
-closed-requires c κs = search needs
-
-returns : tie.Need-returns
-returns c =
-    let l = c .before .before .before .before .before .before .before .before .before .before .before .before .before in
-    let made = l .before .before .before in
-    let parts = made .before .before .before .before .before .before .before .before .before in
-    let start = parts .before .before .before .before .before .before .before .before .before in
-    let asked =
-    rw (
-      back64 (start .args .ceiling .now) (made .before .before .before .before .before .before .before .search-of-arg .given),
-      back64 (start .args .upper .now) (made .before .before .before .before .search-of-arg2 .given),
-    ) at (made .search-of .ensures) in
-    let said = rw (back64 (start .args .value .now) (l .before .before .closed-arg .given), asked) at (l .closed .ensures) in
-    rw (← said) (
-      refl,
-      refl,
-      refl,
-      refl,
-      refl,
-      refl,
-      refl,
-      refl,
-      refl,
-      back64 (l .closed .result .search .ceiling) (c .before .before .before .struct-told .given .1 .1 .1 .0 .1),
-      refl,
-      refl,
-      back64 (l .closed .result .search .upper) (c .before .before .struct-told2 .given .1 .1 .1 .1 .1 .1 .0 .1),
-      refl,
-      refl,
-      refl,
-      refl,
-      refl,
-      refl,
-      back64 (l .closed .result .said .value) (c .struct-told3 .given .1 .1 .0 .1),
-      refl,
-    )
-
-pub planner-close-spec : {M : Type 1} → statement M
-planner-close-spec = tie.close (tie.spec search-of-requires closed-requires returns)
+pub planner-close-spec : {M : Type 1} → stated.statement M
+unfolding code.routine
+planner-close-spec 𝓤 H 𝓜 𝓖 𝓡 =
+    spec-eq search said replied 𝓤 H 𝓜 𝓖 𝓡 code.env key.name core.name core.routine (code.unfolded 𝓤 H 𝓜 𝓡)
+    code.calls-ffi·searches·closed
+    (λ s. specs.replied s Calls.close) (core-thm.met 𝓤 H 𝓜 𝓖 𝓡)

@@ -1,53 +1,19 @@
--- By what `ran` says of the record made of the parts; a signed number goes through its bits.
-use mathlib.Core.Path.{refl}
-use borrow.Author.Needs.{needs}
-use Rattle.integers.specs.Words.{back64}
-use Rattle.ffi.proofs.searches.planner_run.Statement.{statement}
-use Rattle.ffi.proofs.searches.planner_run.Tie as tie
+-- The thin function over `ran`: crate thin's Number at its theorem.
+use Rattle.machine.specs.Calls as Calls
+use Rattle.thin.specs.Parts.{u64-arg}
+use Rattle.search.proofs.ThinTypes.{search}
+use Rattle.thin.specs.Number.{spec-eq}
+use Rattle.ffi.specs.Searches as specs
+use Rattle.ffi.proofs.ThinTypes.{said, replied}
+use Rattle.ffi.proofs.searches.ran.Symbol as core
+use Rattle.ffi.proofs.searches.ran.Met as core-thm
+use Rattle.ffi.proofs.searches.planner_run.Key as key
+use Rattle.ffi.proofs.searches.planner_run.Statement as stated
+use Rattle.ffi.proofs.searches.planner_run.Code as code
 
-graph-of-requires : tie.Need-graph-of-requires
-graph-of-requires c κs = search needs
-
-ran-requires : tie.Need-ran-requires
-ran-requires c κs = search needs
-
-returns : tie.Need-returns
-returns c =
-    let l = c .before .before .before in
-    let upper = l .before .before .before .before .before .before .before .before in
-    let ceiling = upper .before .before .before in
-    let made = ceiling .before .before .before in
-    let start = made .before .before .before .before .before .before .before in
-    let said =
-    rw (
-      back64 (start .args .ceiling .now) (ceiling .ran-arg .given),
-      back64 (start .args .upper .now) (upper .ran-arg2 .given),
-      back64 (start .args .value .now) (l .before .before .ran-arg5 .given),
-      made .graph-of .ensures,
-    ) at (l .ran .ensures) in
-    rw said (
-      refl,
-      refl,
-      refl,
-      refl,
-      refl,
-      refl,
-      refl,
-      refl,
-      refl,
-      refl,
-      refl,
-      refl,
-      back64 (l .ran .result .upper) (c .before .before .struct-told .given .0 .1),
-      refl,
-      refl,
-      refl,
-      refl,
-      refl,
-      refl,
-      back64 (l .ran .result .said .value) (c .struct-told2 .given .1 .1 .0 .1),
-      refl,
-    )
-
-pub planner-run-spec : {M : Type 1} → statement M
-planner-run-spec = tie.close (tie.spec graph-of-requires ran-requires returns)
+pub planner-run-spec : {M : Type 1} → stated.statement M
+unfolding code.routine
+planner-run-spec 𝓤 H 𝓜 𝓖 𝓡 =
+    spec-eq search said replied u64-arg 𝓤 H 𝓜 𝓖 𝓡 code.env key.name core.name core.routine (code.unfolded 𝓤 H 𝓜 𝓡)
+    code.calls-ffi·searches·ran
+    (λ s budget. specs.replied s (Calls.run budget)) (core-thm.met 𝓤 H 𝓜 𝓖 𝓡)

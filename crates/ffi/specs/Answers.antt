@@ -1,0 +1,66 @@
+-- What each exported call answers in numbers: document 01's number, 0 where the call is accepted, and a place, a value and a count of
+-- nodes, 0 where the answer has none. Definitions only.
+use mathlib.Core.Path.{_≡_}
+use mathlib.Core.Bool.{cond}
+use Prim.Native.Nat.{ℕ}
+use lib.IntN.{ℤ, pos}
+use Rattle.graph.specs.declared.Graph.{Graph}
+use Rattle.graph.specs.Valid.{valid}
+use Rattle.graph.specs.Answers.{Outcome, accepted, refused}
+use Rattle.graph.specs.Chart.{ReadResult}
+use Rattle.onetree.specs.Answers as one
+use Rattle.search.specs.declared.Answer.{Answer}
+use Rattle.search.specs.declared.Answer.the-variants.{Refused, Accepted, GoingOn, Finished, Searching, NoTour, Best}
+use Rattle.ffi.specs.declared.Said.{Said}
+use Rattle.ffi.specs.declared.Filled.{Filled}
+
+-- a number and a place alone
+abbrev pub plain : ℕ → ℕ → Said
+plain number place = record { number = number; place = place; value = pos 0; nodes = 0 }
+
+-- ---- a graph
+
+unfoldable pub saidOutcome : Outcome → Said
+saidOutcome accepted = plain 0 0
+saidOutcome (refused number place) = plain number place
+
+-- "15 a chart value that breaks 'Legs and marks'"
+unfoldable pub checkOutcome : Graph → Outcome
+checkOutcome g = cond (valid g) accepted (refused 15 0)
+
+-- the lent graph as reading leaves it: the graph that was read, or, where the bytes are refused, the graph as it was
+abbrev pub filled : Graph → Graph → Outcome → Filled
+filled g h accepted = record { graph = h; said = plain 0 0 }
+filled g h (refused number place) = record { graph = g; said = plain number place }
+
+abbrev pub filledBy : Graph → ReadResult → Filled
+filledBy g r = filled g (r .graph) (r .outcome)
+
+abbrev pub Fills : Graph → ReadResult → Said → Graph → Type 0
+Fills g r said after = (said ≡ filledBy g r .said) × (after ≡ filledBy g r .graph)
+
+-- ---- the tree call and the rule call: the value is the bound
+
+abbrev pub bound : ℤ → Said
+bound b = record { number = 0; place = 0; value = b; nodes = 0 }
+
+-- 1,000 is 'no tree' or 'dead'; no refusal has it
+unfoldable pub saidReply : one.Reply → Said
+saidReply (one.refused number place) = plain number place
+saidReply one.none = plain 1000 0
+saidReply (one.bounded b) = bound b
+
+-- ---- the calls on a record: the value is the best cost, the nodes are the count
+
+abbrev pub counted : ℕ → ℤ → ℕ → Said
+counted number value count = record { number = number; place = 0; value = value; nodes = count }
+
+-- 1,001 'going on', 1,002 'finished', 1,003 'none', 1,004 'the best cost'; no refusal has one of these
+unfoldable pub saidOf : Answer → Said
+saidOf (Refused number place) = plain number place
+saidOf Accepted = plain 0 0
+saidOf (GoingOn count) = counted 1001 (pos 0) count
+saidOf (Finished count) = counted 1002 (pos 0) count
+saidOf (Searching count) = counted 1001 (pos 0) count
+saidOf (NoTour count) = counted 1003 (pos 0) count
+saidOf (Best c count) = counted 1004 c count

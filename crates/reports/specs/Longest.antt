@@ -13,7 +13,7 @@ use borrow.Author.Tests.{le-ltb, ltb-true, ltb-false, leb-true, ne-eqb}
 use Rattle.lists.specs.Bools.{by-cases}
 use Rattle.graph.specs.declared.Graph.{Graph}
 use Rattle.graph.specs.Limits.{minVertices, maxVertices, maxRecords}
-use Rattle.graph.specs.Chart.{u32At, vertices, count, sizeOf, headerFault, reading}
+use Rattle.graph.specs.Chart.{u32At, vertices, recordCount, sizeOf, headerFault, reading}
 use Rattle.reports.specs.Input.{ceilingSize, ceilingOf, chartOf, printed}
 
 -- the longest file: "record count r (u16, at most 1,000)"
@@ -35,10 +35,10 @@ one-of true b = refl
 one-of false true = refl
 one-of false false = refl
 
-no-size : (s : List ℕ) → longestChart < length s → leb (count s) maxRecords && eqb (length s) (sizeOf (count s)) ≡ false
+no-size : (s : List ℕ) → longestChart < length s → leb (recordCount s) maxRecords && eqb (length s) (sizeOf (recordCount s)) ≡ false
 no-size s h =
-    by-cases (leb (count s) maxRecords)
-    (λ t. rw (t, ne-eqb (length s) (sizeOf (count s)) (λ e. omega (arith, leb-true (count s) maxRecords t))))
+    by-cases (leb (recordCount s) maxRecords)
+    (λ t. rw (t, ne-eqb (length s) (sizeOf (recordCount s)) (λ e. omega (arith, leb-true (recordCount s) maxRecords t))))
     (λ t. rw t)
 
 long-fault : (s : List ℕ) → longestChart < length s → headerFault s ≡ longFault s

@@ -5,6 +5,7 @@ use mathlib.Core.Bool.{cond}
 use mathlib.Core.List.{List, [], _++_}
 use lib.IntN.{ℤ}
 use Rattle.graph.specs.declared.Graph.{Graph}
+use Rattle.machine.specs.declared.Settings.{Settings}
 use Rattle.machine.specs.Machine.{Opening, State, noSearch}
 use Rattle.machine.specs.Calls.{Answer, refused, accepted, runs, tells, opens, run, tell, step, isAccepted}
 use Rattle.reports.specs.Text.{refusedLine, verdictLine, nodesLine}
@@ -16,8 +17,11 @@ abbrev pub budget : ℕ
 budget = 1000000
 
 -- "with zero dues, no sweeps, step 0"
+abbrev pub plainSettings : ℤ → Settings
+plainSettings ceiling = record { ceiling = ceiling; sweeps = 0; step = 0 }
+
 abbrev pub plainOpening : ℤ → Graph → Opening
-plainOpening ceiling g = record { graph = g; multipliers = zeroMultipliers g; ceiling = ceiling; sweeps = 0; step = 0 }
+plainOpening ceiling g = record { graph = g; multipliers = zeroMultipliers g; settings = plainSettings ceiling }
 
 -- the answer to print: a refused opening's own; else what tell gives after the run
 unfoldable pub lastAnswer : Opening → Answer

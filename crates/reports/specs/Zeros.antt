@@ -13,7 +13,7 @@ use Rattle.reports.specs.Puts.{Put}
 use Rattle.machine.specs.Calls.{Answer}
 use Rattle.search.specs.Record.{openingOf}
 use Rattle.reports.specs.Rulings.{replyText, rulesText}
-use Rattle.reports.specs.Searching.{lastAnswer, answerText, searchText}
+use Rattle.reports.specs.Searching.{plainSettings, lastAnswer, answerText, searchText}
 
 pub part : {A : Type 0} (n k : ℕ) (a : A) → k ≤ n → take k (replicate n a) ≡ replicate k a
 part n zero a h = refl
@@ -39,7 +39,7 @@ rules-put g v ceiling p =
     ) at p
 
 pub search-put : {k l : List ℕ} {i j : ℕ} (g : Graph) → Valid g → (ceiling : ℤ) (a : Answer)
-    → a ≡ lastAnswer (openingOf g (take (g .n) (replicate maxVertices (pos 0))) ceiling 0 0)
+    → a ≡ lastAnswer (openingOf g (take (g .n) (replicate maxVertices (pos 0))) (plainSettings ceiling))
     → Put (answerText a) k i l j
     → Put (searchText ceiling g) k i l j
 unfolding searchText

@@ -14,6 +14,7 @@ use crate::lines::put_edge;
 use crate::lines::put_refused;
 use graph::Graph;
 use graph::ReadAnswer;
+use graph::wide;
 use onetree::RuleAnswer;
 
 // One line an edge, after what ends at `at`.
@@ -21,7 +22,7 @@ fn put_edges(out: &mut [u8; 4096], at: usize, g: Graph, rulings: &[u8]) -> usize
     requires { ⌜ (at ≤ 56) × Valid g × (length (now rulings) ≡ g .m) ⌝ }
     ensures { λ r. ⌜ Put (edgeLines g (now (rulings .entry)) (g .m)) (now (out .entry)) at (now (out .exit)) r × (r ≤ 4096) ⌝ }
 {
-    let m = g.m;
+    let m = wide(g.m);
     let mut p = at;
     for k in 0..m {
         p = put_edge(out, p, k as u64 + 1, g.a[k], g.b[k], rulings[k]);
@@ -81,8 +82,8 @@ fn put_rules(out: &mut [u8; 4096], ceiling: i64, g: Graph) -> usize
     requires { ⌜ Valid g ⌝ }
     ensures { λ r. ⌜ Put (rulesText ceiling g) (now (out .entry)) 0 (now (out .exit)) r × (r ≤ 4096) ⌝ }
 {
-    let n = g.n;
-    let m = g.m;
+    let n = wide(g.n);
+    let m = wide(g.m);
     let multipliers = [0i32; 20];
     let mut rulings = [0u8; 190];
     put_reply(out, ceiling, g, &multipliers[..n], &mut rulings[..m])

@@ -9,7 +9,7 @@ ghost use Rattle.machine.specs.Calls.{isAccepted};
 ghost use Rattle.search.specs.Record.{openingOf};
 ghost use Rattle.search.specs.Replies.{means};
 ghost use Rattle.reports.specs.Puts.{Put};
-ghost use Rattle.reports.specs.Searching.{lastAnswer, answerText, searchText, searchProgramText};
+ghost use Rattle.reports.specs.Searching.{plainSettings, lastAnswer, answerText, searchText, searchProgramText};
 use crate::input::ceiling_of;
 use crate::lines::put_cost;
 use crate::lines::put_nodes;
@@ -17,6 +17,8 @@ use crate::lines::put_refused;
 use crate::text::put_word;
 use graph::Graph;
 use graph::ReadAnswer;
+use graph::wide;
+use machine::Settings;
 use search::Answer;
 use search::Search;
 
@@ -36,10 +38,15 @@ fn is_refused(answer: Answer) -> bool
 
 // The answer to print: a refused opening's, or what tell gives after one run.
 fn last_answer(g: Graph, multipliers: &[i32], ceiling: i64) -> Answer
-    ensures { λ r. ⌜ means r ≡ lastAnswer (openingOf g (now (multipliers .entry)) ceiling 0 0) ⌝ }
+    ensures { λ r. ⌜ means r ≡ lastAnswer (openingOf g (now (multipliers .entry)) (plainSettings ceiling)) ⌝ }
 {
     let s = Search::fresh();
-    let opened = search::open_core(s, g, multipliers, ceiling, 0, 0);
+    let settings = Settings {
+        ceiling: ceiling,
+        sweeps: 0,
+        step: 0,
+    };
+    let opened = search::open_core(s, g, multipliers, settings);
     let answer = opened.answer;
     if is_refused(answer) {
         return answer;
@@ -80,7 +87,7 @@ fn put_search(out: &mut [u8; 4096], ceiling: i64, g: Graph) -> usize
     requires { ⌜ Valid g ⌝ }
     ensures { λ r. ⌜ Put (searchText ceiling g) (now (out .entry)) 0 (now (out .exit)) r × (r ≤ 4096) ⌝ }
 {
-    let n = g.n;
+    let n = wide(g.n);
     let multipliers = [0i32; 20];
     let answer = last_answer(g, &multipliers[..n], ceiling);
     put_answer(out, answer)

@@ -2,13 +2,14 @@
 // reports::rulings_text; here stand only the calls that read and write.
 ghost use mathlib.Core.Path.{_≡_};
 ghost use lib.ListN.{length};
+ghost use Rattle.reports.specs.Longest.{enough};
 use libc::STDIN_FILENO;
 use libc::STDOUT_FILENO;
 
-// One byte more than the longest input, 4 + 8 + 12 × 1,000: of a longer one the same is printed as of these first bytes (`first-bytes`
-// in specs/Longest.antt of crate reports).
+// One byte more than the longest input, 4 + 8 + 12 × 1,000: of a longer one the same is printed as of these first bytes (`enough` and
+// `first-bytes` in specs/Longest.antt of crate reports).
 fn room() -> [u8; 12013]
-    ensures { λ r. ⌜ 12013 ≡ length r ⌝ }
+    ensures { λ r. ⌜ enough ≡ length r ⌝ }
 {
     [0; 12013]
 }

@@ -1,6 +1,7 @@
 -- After k turns the lines of k edges stand, each of at most 21 bytes.
 use Prim.Native.Nat.{_+_, _*_, _-_, _<_, _≤_}
 use mathlib.Core.Path.{_≡_}
+use borrow.Author.Needs.{needs}
 use native.Mathlib.Omega.{arith}
 use Rattle.reports.specs.Rulings.{edgeLines}
 use Rattle.reports.specs.Puts.{Put, none}
@@ -15,18 +16,21 @@ Inv-loop out₀ at rulings g m p₀ k₀ out p k =
 abbrev μ-loop : tie.MeasureT-loop
 μ-loop out₀ at rulings g m p₀ k₀ out p k = m - k
 
+wide-requires : tie.Need-wide-requires Inv-loop μ-loop
+wide-requires c κs = search needs
+
 loop-holds : tie.Need-loop-holds Inv-loop μ-loop
 unfolding edgeLines
-loop-holds c = (omega arith, c .before .pre .0, none (c .before .args .out .now) (c .before .args .at))
+loop-holds c = (omega arith, c .before .before .pre .0, none (c .before .before .args .out .now) (c .before .before .args .at))
 
 add-put-edge : tie.Need-add-put-edge Inv-loop μ-loop
 add-put-edge c = omega arith
 
 element-copy-out-put-edge : tie.Need-element-copy-out-put-edge Inv-loop μ-loop
-element-copy-out-put-edge c = omega (arith, c .before .before .before .before .pre .1 .few)
+element-copy-out-put-edge c = omega (arith, c .before .before .before .before .before .pre .1 .few)
 
 element-copy-out-put-edge-2 : tie.Need-element-copy-out-put-edge-2 Inv-loop μ-loop
-element-copy-out-put-edge-2 c = omega (arith, c .before .before .before .before .before .pre .1 .few)
+element-copy-out-put-edge-2 c = omega (arith, c .before .before .before .before .before .before .pre .1 .few)
 
 shared-slice-read-put-edge : tie.Need-shared-slice-read-put-edge Inv-loop μ-loop
 shared-slice-read-put-edge c = omega arith
@@ -34,7 +38,7 @@ shared-slice-read-put-edge c = omega arith
 put-edge-requires : tie.Need-put-edge-requires Inv-loop μ-loop
 put-edge-requires c κs =
     let l = c .before .before .before .before .before in
-    let s = l .before .before in
+    let s = l .before .before .before in
     omega (arith, s .pre .1 .few, line-room (s .args .t3) (s .pre .1) (l .loop .k) (omega arith))
 
 add-k : tie.Need-add-k Inv-loop μ-loop
@@ -46,7 +50,7 @@ loop-less c = omega arith
 loop-again : tie.Need-loop-again Inv-loop μ-loop
 loop-again c =
     let l = c .before .before .before .before .before .before in
-    let s = l .before .before in
+    let s = l .before .before .before in
     let g = s .args .t3 in
     let h : l .loop .k < g .m = omega arith in (
       omega arith,
@@ -57,7 +61,7 @@ loop-again c =
 returns : tie.Need-returns Inv-loop μ-loop
 returns c =
     let l = c .before in
-    let s = l .before .before in
+    let s = l .before .before .before in
     let e : l .loop .k ≡ s .args .t3 .m = omega arith in
     (rw e at (l .loop .inv .2), omega (arith, s .pre .1 .few))
 
@@ -67,6 +71,7 @@ put-edges-spec =
     (tie.spec
     Inv-loop
     μ-loop
+    wide-requires
     loop-holds
     add-put-edge
     element-copy-out-put-edge

@@ -7,6 +7,7 @@ use Rattle.machine.specs.Machine.{Opening}
 use Rattle.machine.specs.Calls.{opens}
 use Rattle.search.specs.Record.{fresh, openingOf}
 use Rattle.search.specs.Replies.{reply}
+use Rattle.reports.specs.Searching.{plainSettings}
 use Rattle.reports.specs.ThreeCalls.{answer-refused, answer-told}
 use borrow.Author.Needs.{needs}
 use Rattle.reports.proofs.searching.last_answer.Statement.{statement}
@@ -14,7 +15,7 @@ use Rattle.reports.proofs.searching.last_answer.Tie as tie
 
 -- what the search is opened with, and what the opening gives
 abbrev openedWith : tie.Start → Opening
-openedWith s = openingOf (s .args .g) (now (s .args .multipliers)) (s .args .ceiling) 0 0
+openedWith s = openingOf (s .args .g) (now (s .args .multipliers)) (plainSettings (s .args .ceiling))
 
 opening-reply : (c : tie.After-open-core) → c .open-core .result ≡ reply fresh (opens (openedWith (c .before .before)))
 opening-reply c = rw (c .before .fresh .ensures, toZ-ofZ (c .before .before .fits .ceiling)) at (c .open-core .ensures)

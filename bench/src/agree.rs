@@ -4,7 +4,8 @@
 use crate::fast::Verdict;
 use crate::forms::Forms;
 use crate::inputs::{Graph, Random, EXCLUDED, FREE, PLACES, REQUIRED, VERTICES};
-use crate::planner::{Job, Ours, Planner, Reference};
+use crate::ours::Ours;
+use crate::planner::{Job, Planner, Reference};
 
 /// How many graphs.
 const CASES: u64 = 3_000;
@@ -65,8 +66,8 @@ fn same<T: PartialEq + std::fmt::Debug>(
 /// Tree, rulings under ceilings about the bound, and a short search.
 fn one_graph(random: &mut Random) {
     let graph = sparse(random);
-    let d = any_multipliers(random, graph.n);
-    let m = graph.m;
+    let d = any_multipliers(random, graph.n());
+    let m = graph.m();
     let bound = same("tree", |side, out| side.tree(&graph, &d, &mut out[..m]));
     let above = [0, 1, 5, 100, 40_000_000][random.below(5)];
     let ceiling =

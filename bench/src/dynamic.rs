@@ -76,10 +76,14 @@ fn cheapest(paths: &Row, costs: &Row) -> i32 {
 
 /// Costs between the vertices but the first, and from the first to each.
 fn matrix(graph: &Graph) -> ([Row; VERTICES], Row) {
-    assert_eq!(graph.m, graph.n * (graph.n - 1) / 2, "a complete graph");
+    assert_eq!(
+        graph.m(),
+        graph.n() * (graph.n() - 1) / 2,
+        "a complete graph"
+    );
     let mut costs = [[0; VERTICES]; VERTICES];
     let mut first = [0; VERTICES];
-    for k in 0..graph.m {
+    for k in 0..graph.m() {
         let (a, b) = (graph.a[k] as usize, graph.b[k] as usize);
         if a == 1 {
             first[b - 2] = graph.cost[k];

@@ -1,9 +1,9 @@
 //! Seeded graphs: every run measures the same ones.
 
+use planner::raw;
+pub use planner::raw::{EDGES as PLACES, VERTICES};
 pub use planner_tests::random::Random;
-
-pub const PLACES: usize = 190;
-pub const VERTICES: usize = 20;
+use std::ops::{Deref, DerefMut};
 
 pub const FREE: u8 = 0;
 pub const REQUIRED: u8 = 1;
@@ -11,29 +11,46 @@ pub const EXCLUDED: u8 = 2;
 
 /// A graph as the library takes it: vertices 1 to n, edge k at place k - 1.
 #[derive(Clone)]
-pub struct Graph {
-    pub n: usize,
-    pub m: usize,
-    pub a: [u8; PLACES],
-    pub b: [u8; PLACES],
-    pub cost: [i32; PLACES],
-    pub mark: [u8; PLACES],
+pub struct Graph(pub raw::Graph);
+
+impl Deref for Graph {
+    type Target = raw::Graph;
+
+    fn deref(&self) -> &raw::Graph {
+        &self.0
+    }
+}
+
+impl DerefMut for Graph {
+    fn deref_mut(&mut self) -> &mut raw::Graph {
+        &mut self.0
+    }
 }
 
 impl Graph {
     pub fn empty(n: usize) -> Graph {
-        Graph {
-            n,
-            m: 0,
+        Graph(raw::Graph {
+            cost: [0; PLACES],
             a: [0; PLACES],
             b: [0; PLACES],
-            cost: [0; PLACES],
             mark: [FREE; PLACES],
-        }
+            n: n as u8,
+            m: 0,
+        })
+    }
+
+    #[inline(always)]
+    pub fn n(&self) -> usize {
+        self.n.into()
+    }
+
+    #[inline(always)]
+    pub fn m(&self) -> usize {
+        self.m.into()
     }
 
     pub fn add(&mut self, a: u8, b: u8, cost: i32, mark: u8) {
-        let k = self.m;
+        let k = self.m();
         (self.a[k], self.b[k]) = (a, b);
         (self.cost[k], self.mark[k]) = (cost, mark);
         self.m += 1;
@@ -100,14 +117,14 @@ pub fn multipliers(n: usize, number: u64) -> [i32; VERTICES] {
 /// The cost of the tour that always goes on to the nearest vertex not yet visited, from vertex 1.
 pub fn nearest_neighbour(graph: &Graph) -> i64 {
     let mut cost = [[0i64; VERTICES]; VERTICES];
-    for k in 0..graph.m {
+    for k in 0..graph.m() {
         let (a, b) = (graph.a[k] as usize - 1, graph.b[k] as usize - 1);
         cost[a][b] = graph.cost[k] as i64;
         cost[b][a] = cost[a][b];
     }
     let (mut at, mut visited, mut total) = (0, 1u32, 0);
-    for _ in 1..graph.n {
-        let open = (0..graph.n).filter(|v| visited >> v & 1 == 0);
+    for _ in 1..graph.n() {
+        let open = (0..graph.n()).filter(|v| visited >> v & 1 == 0);
         let next = open.min_by_key(|v| cost[at][*v]).expect("n - 1 steps");
         total += cost[at][next];
         visited |= 1 << next;

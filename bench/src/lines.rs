@@ -62,7 +62,7 @@ impl Ceiling {
         if self == Ceiling::NearestNeighbour {
             return inputs::nearest_neighbour(graph);
         }
-        let optimum = dynamic::Table::new(graph.n).optimum(graph);
+        let optimum = dynamic::Table::new(graph.n()).optimum(graph);
         match self {
             Ceiling::Optimum => optimum,
             _ => optimum + (optimum as f64 * 0.05).round() as i64,
@@ -72,7 +72,7 @@ impl Ceiling {
 
 pub fn job(graph: Graph, ceiling: Ceiling, (sweeps, step): (u32, u32)) -> Job {
     Job {
-        multipliers: vec![0; graph.n],
+        multipliers: vec![0; graph.n()],
         ceiling: ceiling.of(&graph),
         graph,
         sweeps,

@@ -5,7 +5,8 @@ use crate::clock::time;
 use crate::dynamic;
 use crate::forms::Forms;
 use crate::inputs::{Graph, PLACES};
-use crate::planner::{Job, Ours, Outcome, Planner, Reference};
+use crate::ours::Ours;
+use crate::planner::{Job, Outcome, Planner, Reference};
 use std::hint::black_box;
 use std::time::Instant;
 
@@ -92,7 +93,7 @@ fn search_once(planner: &mut impl Planner, job: &Job) -> (Times, Outcome) {
     let (fixed, _) = time(|| planner.run(black_box(0)));
     let (run, _) = time(|| planner.run(black_box(job.budget)));
     let (upper, depth) = planner.state();
-    let (finish, (verdict, count)) = time(|| planner.finish(&mut tour[..job.graph.m]));
+    let (finish, (verdict, count)) = time(|| planner.finish(&mut tour[..job.graph.m()]));
     let times = Times {
         run,
         fixed,
@@ -164,9 +165,9 @@ fn calls(graph: &Graph, mut call: impl FnMut(&mut [u8]) -> Option<i64>) -> (f64,
     let mut out = [0; PLACES];
     let (duration, bound) = time(|| {
         for _ in 1..CALLS {
-            black_box(call(black_box(&mut out[..graph.m])));
+            black_box(call(black_box(&mut out[..graph.m()])));
         }
-        call(&mut out[..graph.m])
+        call(&mut out[..graph.m()])
     });
     (duration / CALLS as f64, (bound, out))
 }

@@ -1,122 +1,77 @@
-//! The library's calls, with nothing around them: no allocation, no copy.
+//! The proved library's calls, with nothing around them: no allocation, and no copy but that of a graph by value.
 
-use crate::inputs::{Graph, PLACES, VERTICES};
-pub use planner_tests::calls::{BEST, FINISHED, GOING_ON, NONE, NO_TOUR};
-use planner_tests::{on_graph, on_record};
+use crate::fast::Verdict;
+use crate::inputs::Graph;
+use crate::planner::{Job, Planner};
+use ::planner::raw::{self, Said};
+use ::planner::Settings;
 
-/// 191 nodes of a mark for each edge.
-const STACK: usize = 191 * PLACES;
+pub struct Ours(Box<raw::Record>);
 
-/// The search record. All zero is the fresh one (docs/RECORD.md).
-pub struct Record {
-    open: u8,
-    graph: Graph,
-    multipliers: [i32; VERTICES],
-    ceiling: i64,
-    sweeps: u32,
-    step: u32,
-    pub upper: i64,
-    pub depth: usize,
-    stack: [u8; STACK],
-    has_best: u8,
-    best: [u8; PLACES],
-    count: u64,
-    /// the lent answers
-    place: u64,
-    value: i64,
-    nodes: u64,
+impl Ours {
+    pub fn new() -> Ours {
+        // SAFETY: the call takes nothing.
+        Ours(Box::new(unsafe { raw::planner_fresh() }))
+    }
 }
 
-/// Calls with the parts of a record in front and the lent answers behind.
-macro_rules! on {
-    ($record:expr, $name:ident($($argument:expr),*)) => {
-        // Safety: every list of the record has its length, and each list among the arguments goes with its own.
-        unsafe {
-            on_record!(
-                $record,
-                $name(
-                    $($argument,)*
-                    &mut $record.place,
-                    &mut $record.value,
-                    &mut $record.nodes
-                )
-            )
+/// The bound; none is 'no tree' or 'dead'.
+fn bound(said: Said) -> Option<i64> {
+    match said.number {
+        raw::ACCEPTED => Some(said.value),
+        raw::NONE => None,
+        refusal => panic!("refused {refusal}"),
+    }
+}
+
+// SAFETY of all calls: the record is borrowed here alone, and each list goes with its own length.
+impl Planner for Ours {
+    fn open(&mut self, job: &Job) {
+        let d = &job.multipliers;
+        let settings = Settings {
+            ceiling: job.ceiling,
+            sweeps: job.sweeps,
+            step: job.step,
+        };
+        let record = &mut *self.0;
+        let said = unsafe { raw::planner_open(record, job.graph.0, d.as_ptr(), d.len(), settings) };
+        assert_eq!(said.number, raw::ACCEPTED, "open refused");
+    }
+
+    fn run(&mut self, budget: u64) -> bool {
+        let said = unsafe { raw::planner_run(&mut *self.0, budget) };
+        said.number == raw::FINISHED
+    }
+
+    fn state(&self) -> (i64, usize) {
+        (self.0.upper, self.0.depth)
+    }
+
+    fn finish(&mut self, tour: &mut [u8]) -> (Verdict, u64) {
+        let record = &mut *self.0;
+        let told = unsafe { raw::planner_tell(record) };
+        let verdict = match told.number {
+            raw::BEST => Verdict::Cost(told.value),
+            raw::NO_TOUR => Verdict::None,
+            raw::GOING_ON => Verdict::GoingOn,
+            refusal => panic!("tell refused {refusal}"),
+        };
+        if let Verdict::Cost(_) = verdict {
+            let said = unsafe { raw::planner_show(record, tour.as_mut_ptr(), tour.len()) };
+            assert_eq!(said.number, raw::ACCEPTED, "show refused");
         }
-    };
-}
-
-impl Record {
-    pub fn fresh() -> Box<Record> {
-        // Safety: every field is a number or an array of numbers, for which all zero is a value.
-        unsafe { Box::new(std::mem::zeroed()) }
+        let said = unsafe { raw::planner_close(record) };
+        assert_eq!(said.number, raw::ACCEPTED, "close refused");
+        (verdict, told.nodes)
     }
 
-    pub fn open(&mut self, g: &Graph, d: &[i32], ceiling: i64, sweeps: u32, step: u32) -> u32 {
-        let (a, b, cost, mark) = (g.a.as_ptr(), g.b.as_ptr(), g.cost.as_ptr(), g.mark.as_ptr());
-        let (given, length) = (d.as_ptr(), d.len());
-        on!(
-            self,
-            planner_open(g.n, g.m, a, b, cost, mark, given, length, ceiling, sweeps, step)
-        )
+    fn tree(&mut self, graph: &Graph, d: &[i32], out: &mut [u8]) -> Option<i64> {
+        let (list, length) = (out.as_mut_ptr(), out.len());
+        bound(unsafe { raw::planner_tree(graph.0, d.as_ptr(), d.len(), list, length) })
     }
 
-    /// Whether the search is finished.
-    pub fn run(&mut self, budget: u64) -> bool {
-        let code = on!(self, planner_run(budget));
-        code == FINISHED
+    fn rule(&mut self, graph: &Graph, d: &[i32], ceiling: i64, out: &mut [u8]) -> Option<i64> {
+        let (list, length) = (out.as_mut_ptr(), out.len());
+        bound(unsafe { raw::planner_rule(graph.0, d.as_ptr(), d.len(), ceiling, list, length) })
     }
-
-    /// The number of the answer; the cost is then in `value`.
-    pub fn tell(&mut self) -> u32 {
-        on!(self, planner_tell())
-    }
-
-    pub fn show(&mut self, out: &mut [u8]) -> u32 {
-        on!(self, planner_show(out.as_mut_ptr(), out.len()))
-    }
-
-    pub fn close(&mut self) -> u32 {
-        on!(self, planner_close())
-    }
-
-    pub fn nodes(&self) -> u64 {
-        self.nodes
-    }
-
-    pub fn value(&self) -> i64 {
-        self.value
-    }
-}
-
-/// The bound of the least 1-tree, whose bytes are then in `out`; none is 'no tree'.
-pub fn tree(g: &Graph, d: &[i32], out: &mut [u8]) -> Option<i64> {
-    let mut bound = 0;
-    let code = unsafe {
-        on_graph!(
-            g,
-            planner_tree(d.as_ptr(), d.len(), out.as_mut_ptr(), out.len(), &mut bound)
-        )
-    };
-    assert!(code == 0 || code == NONE, "tree refused {code}");
-    (code == 0).then_some(bound)
-}
-
-/// The bound, and the rulings in `out`; none is 'dead'.
-pub fn rule(g: &Graph, d: &[i32], ceiling: i64, out: &mut [u8]) -> Option<i64> {
-    let mut bound = 0;
-    let code = unsafe {
-        on_graph!(
-            g,
-            planner_rule(
-                d.as_ptr(),
-                d.len(),
-                ceiling,
-                out.as_mut_ptr(),
-                out.len(),
-                &mut bound
-            )
-        )
-    };
-    assert!(code == 0 || code == NONE, "rule refused {code}");
-    (code == 0).then_some(bound)
 }

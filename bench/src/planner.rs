@@ -1,9 +1,8 @@
-//! The sides behind one face, so that all are called and timed alike (the reference in document 01's
-//! forms: forms/planner.rs).
+//! The sides behind one face, so that all are called and timed alike (the library: ours.rs; the
+//! reference in document 01's forms: forms/planner.rs).
 
 use crate::fast::{self, Verdict};
 use crate::inputs::{Graph, PLACES};
-use crate::ours;
 
 /// A search to be made.
 pub struct Job {
@@ -35,56 +34,6 @@ pub trait Planner {
     fn finish(&mut self, tour: &mut [u8]) -> (Verdict, u64);
     fn tree(&mut self, graph: &Graph, d: &[i32], out: &mut [u8]) -> Option<i64>;
     fn rule(&mut self, graph: &Graph, d: &[i32], ceiling: i64, out: &mut [u8]) -> Option<i64>;
-}
-
-/// The proved library.
-pub struct Ours(Box<ours::Record>);
-
-impl Ours {
-    pub fn new() -> Ours {
-        Ours(ours::Record::fresh())
-    }
-}
-
-impl Planner for Ours {
-    fn open(&mut self, job: &Job) {
-        let d = &job.multipliers;
-        let code = self
-            .0
-            .open(&job.graph, d, job.ceiling, job.sweeps, job.step);
-        assert_eq!(code, 0, "open refused");
-    }
-
-    fn run(&mut self, budget: u64) -> bool {
-        self.0.run(budget)
-    }
-
-    fn state(&self) -> (i64, usize) {
-        (self.0.upper, self.0.depth)
-    }
-
-    fn finish(&mut self, tour: &mut [u8]) -> (Verdict, u64) {
-        let verdict = match self.0.tell() {
-            ours::BEST => Verdict::Cost(self.0.value()),
-            ours::NO_TOUR => Verdict::None,
-            ours::GOING_ON => Verdict::GoingOn,
-            refusal => panic!("tell refused {refusal}"),
-        };
-        let count = self.0.nodes();
-        if let Verdict::Cost(_) = verdict {
-            assert_eq!(self.0.show(tour), 0, "show refused");
-        }
-        assert_eq!(self.0.close(), 0, "close refused");
-        (verdict, count)
-    }
-
-    fn tree(&mut self, graph: &Graph, d: &[i32], out: &mut [u8]) -> Option<i64> {
-        ours::tree(graph, d, out)
-    }
-
-    fn rule(&mut self, graph: &Graph, d: &[i32], ceiling: i64, out: &mut [u8]) -> Option<i64> {
-        ours::rule(graph, d, ceiling, out)
-    }
 }
 
 /// The optimized implementation without proofs and free of document 01's forms.

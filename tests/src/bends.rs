@@ -1,4 +1,4 @@
-//! Ways to make the reference wrong, each in one sentence of document 01. The self-test bends the law so and expects a suite to notice.
+//! Ways to make the reference wrong, each in one sentence of document 01 or of docs/RECORD.md. The self-test bends the law so and expects a suite to notice.
 
 use crate::report::Bend;
 
@@ -175,4 +175,29 @@ pub const FORM_WITHOUT_ORDER: Bend = Bend {
 pub const UPPER_NOT_LOWERED: Bend = Bend {
     what: "U stays as it is when a tour is found",
     bend: |law| law.upper_lowered = false,
+};
+
+pub const FLAG_OF_TWO: Bend = Bend {
+    what: "a record's flag of 2 is taken",
+    bend: |law| law.max_flag = 2,
+};
+
+pub const DEEPER_STACK: Bend = Bend {
+    what: "n + 3 nodes may wait in a record",
+    bend: |law| law.nodes_above_vertices = 3,
+};
+
+pub const SHALLOWER_STACK: Bend = Bend {
+    what: "only n + 1 nodes may wait in a record",
+    bend: |law| law.nodes_above_vertices = 1,
+};
+
+pub const FEWER_REQUIRED: Bend = Bend {
+    what: "node p of a record may have p - 1 required edges",
+    bend: |law| law.required_short = 1,
+};
+
+pub const JUNK_PAST_DEPTH: Bend = Bend {
+    what: "a record's nodes past its depth count for nothing",
+    bend: |law| law.zeros_past_depth = false,
 };

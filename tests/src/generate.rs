@@ -142,10 +142,10 @@ pub fn break_value(random: &mut Random, graph: &mut Graph) {
     let k = random.below(graph.m.clamp(1, PLACES));
     match random.below(14) {
         0 => graph.n = random.below(26),
-        1 => graph.n = random.word() as usize,
-        2 => graph.n = random.pick(&[0, 1, 2, 21, 22, 255, 256, 259, usize::MAX, 1 << 32, 1 << 63]),
+        1 => graph.n = random.byte().into(),
+        2 => graph.n = random.pick(&[0, 1, 2, 21, 22, 127, 128, 254, 255]),
         3 => graph.m = 191 + random.below(10),
-        4 => graph.m = random.pick(&[usize::MAX, 1 << 8, 1 << 16, (1 << 32) + 1, 1 << 63]),
+        4 => graph.m = random.pick(&[191, 192, 254, 255]),
         5 => graph.b[k] = graph.a[k],
         6 => std::mem::swap(&mut graph.a[k], &mut graph.b[k]),
         7 => graph.a[k] = 0,

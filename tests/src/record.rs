@@ -1,6 +1,6 @@
 //! The search record: its parts, the record of a state of the machine, and the record's own check as docs/RECORD.md states it.
 
-use crate::document::graph::{self, Graph, EXCLUDED, FREE, PLACES};
+use crate::document::graph::{self, Graph, EXCLUDED, PLACES, REQUIRED};
 use crate::document::law::Law;
 use crate::document::machine::{Call, Machine, Search};
 use crate::document::rulings::ceiling_fits;
@@ -8,44 +8,40 @@ use crate::document::tree::{self, Method};
 use std::fmt;
 
 /// Nodes that the stack has room for.
-pub const NODES: usize = 191;
+pub const NODES: usize = 22;
 
 pub const STACK: usize = NODES * PLACES;
+
+/// Bytes of a graph: a cost, two ends and a mark for each place, n and m.
+pub const GRAPH: usize = 7 * PLACES + 2;
+
+/// Bytes of a record before its stack: settings, three numbers, the graph and the multipliers.
+pub const BEFORE_STACK: usize = 16 + 3 * 8 + GRAPH + 4 * 20;
+
+/// Bytes of a record: behind the stack are the incumbent and two flags.
+pub const SIZE: usize = BEFORE_STACK + STACK + PLACES + 2;
 
 /// The record's parts, with any contents. Edge j of node p, both counted from 0, has its mark at place 190 · p + j of the stack.
 #[derive(Clone, PartialEq, Eq)]
 pub struct Record {
-    pub open: u8,
-    pub graph: Graph,
-    pub multipliers: [i32; 20],
     pub ceiling: i64,
     pub sweeps: u32,
     pub step: u32,
     pub upper: i64,
-    pub depth: usize,
-    pub stack: Vec<u8>,
-    pub has_best: u8,
-    pub best: [u8; PLACES],
     pub count: u64,
+    pub depth: usize,
+    pub graph: Graph,
+    pub multipliers: [i32; 20],
+    pub stack: Vec<u8>,
+    pub best: [u8; PLACES],
+    pub open: u8,
+    pub has_best: u8,
 }
 
 impl Record {
     /// All zero: no search is open.
     pub fn fresh() -> Record {
-        Record {
-            open: 0,
-            graph: Graph::from_edges(0, &[]),
-            multipliers: [0; 20],
-            ceiling: 0,
-            sweeps: 0,
-            step: 0,
-            upper: 0,
-            depth: 0,
-            stack: vec![0; STACK],
-            has_best: 0,
-            best: [0; PLACES],
-            count: 0,
-        }
+        Record::of_bytes(&[0; SIZE])
     }
 
     /// The one record of a state.
@@ -73,49 +69,40 @@ impl Record {
         record
     }
 
-    /// The parts one after the other, little-endian.
+    /// As it lies in memory: the fields in the header's order with nothing between them.
     pub fn bytes(&self) -> Vec<u8> {
-        let graph = &self.graph;
-        let mut bytes = vec![self.open];
-        bytes.extend(graph.n.to_le_bytes());
-        bytes.extend(graph.m.to_le_bytes());
-        bytes.extend([graph.a, graph.b].concat());
-        bytes.extend(graph.cost.iter().flat_map(|x| x.to_le_bytes()));
-        bytes.extend(graph.mark);
-        bytes.extend(self.multipliers.iter().flat_map(|x| x.to_le_bytes()));
-        bytes.extend(self.ceiling.to_le_bytes());
-        bytes.extend([self.sweeps, self.step].map(u32::to_le_bytes).concat());
-        bytes.extend(self.upper.to_le_bytes());
-        bytes.extend(self.depth.to_le_bytes());
-        bytes.push(self.has_best);
-        bytes.extend(self.best);
-        bytes.extend(self.count.to_le_bytes());
+        let mut bytes = Vec::with_capacity(SIZE);
+        bytes.extend(self.ceiling.to_ne_bytes());
+        bytes.extend([self.sweeps, self.step].map(u32::to_ne_bytes).concat());
+        bytes.extend(self.upper.to_ne_bytes());
+        bytes.extend(self.count.to_ne_bytes());
+        bytes.extend(self.depth.to_ne_bytes());
+        bytes.extend(graph_bytes(&self.graph));
+        bytes.extend(self.multipliers.iter().flat_map(|x| x.to_ne_bytes()));
         bytes.extend(&self.stack);
+        bytes.extend(self.best);
+        bytes.extend([self.open, self.has_best]);
         bytes
     }
 
-    /// The record with these parts, as `bytes` gives them.
+    /// The record that lies in memory so.
     pub fn of_bytes(bytes: &[u8]) -> Record {
         let mut rest = bytes;
-        let mut record = Record::fresh();
-        let graph = &mut record.graph;
-        record.open = next::<1>(&mut rest)[0];
-        graph.n = usize::from_le_bytes(next(&mut rest));
-        graph.m = usize::from_le_bytes(next(&mut rest));
-        graph.a = next(&mut rest);
-        graph.b = next(&mut rest);
-        graph.cost = std::array::from_fn(|_| i32::from_le_bytes(next(&mut rest)));
-        graph.mark = next(&mut rest);
-        record.multipliers = std::array::from_fn(|_| i32::from_le_bytes(next(&mut rest)));
-        record.ceiling = i64::from_le_bytes(next(&mut rest));
-        record.sweeps = u32::from_le_bytes(next(&mut rest));
-        record.step = u32::from_le_bytes(next(&mut rest));
-        record.upper = i64::from_le_bytes(next(&mut rest));
-        record.depth = usize::from_le_bytes(next(&mut rest));
-        record.has_best = next::<1>(&mut rest)[0];
-        record.best = next(&mut rest);
-        record.count = u64::from_le_bytes(next(&mut rest));
-        record.stack = rest.to_vec();
+        let record = Record {
+            ceiling: i64::from_ne_bytes(next(&mut rest)),
+            sweeps: u32::from_ne_bytes(next(&mut rest)),
+            step: u32::from_ne_bytes(next(&mut rest)),
+            upper: i64::from_ne_bytes(next(&mut rest)),
+            count: u64::from_ne_bytes(next(&mut rest)),
+            depth: usize::from_ne_bytes(next(&mut rest)),
+            graph: graph_of(&next::<GRAPH>(&mut rest)),
+            multipliers: std::array::from_fn(|_| i32::from_ne_bytes(next(&mut rest))),
+            stack: next::<STACK>(&mut rest).to_vec(),
+            best: next(&mut rest),
+            open: next::<1>(&mut rest)[0],
+            has_best: next::<1>(&mut rest)[0],
+        };
+        assert!(rest.is_empty(), "a record has {SIZE} bytes");
         record
     }
 
@@ -141,28 +128,27 @@ impl Record {
         search.stack = (0..self.depth)
             .map(|p| self.node(p)[..m].to_vec())
             .collect();
-        search.incumbent = (self.has_best == 1).then(|| self.best[..m].to_vec());
+        search.incumbent = (self.has_best != 0).then(|| self.best[..m].to_vec());
         search.count = self.count;
         Some(machine)
     }
 
     /// Whether the record passes its own check; refusal 24 where it does not.
     pub fn passes(&self, law: &Law) -> bool {
-        self.open <= 1
-            && self.has_best <= 1
-            && self.tidy()
-            && if self.open == 1 {
-                self.fits(law)
-            } else {
-                self.idle()
+        self.open <= law.max_flag
+            && self.has_best <= law.max_flag
+            && self.tidy(law)
+            && match self.open {
+                0 => self.idle(),
+                _ => self.fits(law),
             }
     }
 
     /// The places that are not used are zero.
-    fn tidy(&self) -> bool {
+    fn tidy(&self, law: &Law) -> bool {
         let graph = &self.graph;
         let past = graph.m.min(PLACES)..PLACES;
-        let best = if self.has_best == 1 { past.start } else { 0 };
+        let best = if self.has_best == 0 { 0 } else { past.start };
         graph.a[past.clone()].iter().all(|x| *x == 0)
             && graph.b[past.clone()].iter().all(|x| *x == 0)
             && graph.cost[past.clone()].iter().all(|x| *x == 0)
@@ -170,10 +156,10 @@ impl Record {
             && self.multipliers[graph.n.min(20)..].iter().all(|x| *x == 0)
             && self.best[best..].iter().all(|x| *x == 0)
             && (0..NODES).all(|p| {
-                let used = if p < self.depth {
-                    graph.m.min(PLACES)
-                } else {
-                    0
+                let used = match p < self.depth {
+                    true => graph.m.min(PLACES),
+                    false if law.zeros_past_depth => 0,
+                    false => PLACES,
                 };
                 self.node(p)[used..].iter().all(|x| *x == 0)
             })
@@ -196,8 +182,8 @@ impl Record {
             && self.count == 0
     }
 
-    /// A search is open: an opening accepts the arguments, U is a ceiling, at most m + 1 nodes wait, node p has marks only and at most
-    /// m - p of them free, the incumbent is of 0 and 1, and the count is at most 2^63 - 1.
+    /// A search is open: an opening accepts the arguments, U is a ceiling, at most n + 2 nodes wait, node p has marks only and at least
+    /// p of them required, the incumbent is of 0 and 1, and the count is at most 2^63 - 1.
     fn fits(&self, law: &Law) -> bool {
         let m = self.graph.m;
         graph::fits(law, &self.graph)
@@ -206,18 +192,40 @@ impl Record {
             && self.sweeps <= law.max_sweeps
             && self.step <= law.max_step
             && ceiling_fits(law, self.upper)
-            && self.depth <= m + 1
+            && self.depth <= NODES.min(self.graph.n + law.nodes_above_vertices)
             && (0..self.depth).all(|p| {
                 let marks = &self.node(p)[..m];
-                let free = marks.iter().filter(|mark| **mark == FREE).count();
-                marks.iter().all(|mark| *mark <= EXCLUDED) && free + p <= m
+                let required = marks.iter().filter(|mark| **mark == REQUIRED).count();
+                marks.iter().all(|mark| *mark <= EXCLUDED) && p <= required + law.required_short
             })
             && self.best.iter().all(|x| *x <= 1)
             && self.count < 1 << 63
     }
 }
 
-/// Takes the next bytes of a record.
+/// A graph as it lies in memory, in the header's order. Its n and m are bytes there, so no larger ones come up.
+pub fn graph_bytes(graph: &Graph) -> [u8; GRAPH] {
+    let byte = |count: usize| u8::try_from(count).expect("n and m are bytes");
+    let mut bytes: Vec<u8> = graph.cost.iter().flat_map(|x| x.to_ne_bytes()).collect();
+    bytes.extend([graph.a, graph.b, graph.mark].concat());
+    bytes.extend([byte(graph.n), byte(graph.m)]);
+    next(&mut bytes.as_slice())
+}
+
+/// The graph that lies in memory so.
+pub fn graph_of(bytes: &[u8]) -> Graph {
+    let mut rest = bytes;
+    Graph {
+        cost: std::array::from_fn(|_| i32::from_ne_bytes(next(&mut rest))),
+        a: next(&mut rest),
+        b: next(&mut rest),
+        mark: next(&mut rest),
+        n: next::<1>(&mut rest)[0].into(),
+        m: next::<1>(&mut rest)[0].into(),
+    }
+}
+
+/// Takes the next bytes.
 fn next<const N: usize>(rest: &mut &[u8]) -> [u8; N] {
     let (taken, left) = rest.split_at(N);
     *rest = left;

@@ -5,8 +5,11 @@ use std::arch::asm;
 use std::cell::RefCell;
 use std::collections::BTreeMap;
 
-/// No call of the library uses more stack than this, and neither program: README states it, `soak` holds them to it.
-pub const STATED: usize = 512 * 1024;
+/// No call of the library uses more stack than this: README states it, `soak` holds them to it.
+pub const STATED: usize = 64 * 1024;
+
+/// Nor does a program use more than this, with what the system puts there.
+pub const STATED_OF_PROGRAMS: usize = 128 * 1024;
 
 /// Words of the painted stack: more than STATED, so that a call that goes too deep is measured and does not break anything.
 const WORDS: usize = 4 * STATED / 8;

@@ -7,20 +7,20 @@ use crate::inputs::{Graph, EXCLUDED, PLACES, VERTICES};
 /// Whether document 01 accepts the graph, the multipliers and the length of the list. Without early
 /// exits, so that the compiler takes many edges at a time.
 fn fit(graph: &Graph, d: &[i32], length: usize) -> bool {
-    if !(3..=VERTICES).contains(&graph.n) || graph.m > PLACES {
+    if !(3..=VERTICES).contains(&graph.n()) || graph.m() > PLACES {
         return false;
     }
-    let (a, b) = (&graph.a[..graph.m], &graph.b[..graph.m]);
-    let n = graph.n as u8;
+    let (a, b) = (&graph.a[..graph.m()], &graph.b[..graph.m()]);
+    let n = graph.n() as u8;
     let ends = a.iter().zip(b);
     let mut fits = ends.fold(true, |all, (a, b)| all & (1 <= *a) & (a < b) & (*b <= n));
     let small = |all: bool, value: &i32| all & (value.unsigned_abs() <= 1_000_000);
-    fits &= graph.cost[..graph.m].iter().fold(true, small);
-    let marks = graph.mark[..graph.m].iter();
+    fits &= graph.cost[..graph.m()].iter().fold(true, small);
+    let marks = graph.mark[..graph.m()].iter();
     fits &= marks.fold(true, |all, mark| all & (*mark <= EXCLUDED));
-    fits && pairs_differ(graph.n, a, b)
-        && d.len() == graph.n
-        && length == graph.m
+    fits && pairs_differ(graph.n(), a, b)
+        && d.len() == graph.n()
+        && length == graph.m()
         && d[0] == 0
         && d.iter().fold(true, small)
 }
@@ -40,7 +40,7 @@ pub fn tree(graph: &Graph, d: &[i32], out: &mut [u8]) -> Option<i64> {
     assert!(fit(graph, d, out.len()), "unfit");
     let mut dense = Dense::blank();
     let bound = dense.tree(graph, d)?;
-    out.copy_from_slice(&dense.chosen[..graph.m]);
+    out.copy_from_slice(&dense.chosen[..graph.m()]);
     Some(bound)
 }
 

@@ -58,8 +58,8 @@ impl Dense {
     pub fn tree(&mut self, graph: &Graph, d: &[i32]) -> Option<i64> {
         let mut multipliers = [0; LANES];
         multipliers[..d.len()].copy_from_slice(d);
-        self.n = graph.n;
-        for k in 0..graph.m {
+        self.n = graph.n();
+        for k in 0..graph.m() {
             let (a, b) = (graph.a[k] - 1, graph.b[k] - 1);
             let cost = graph.cost[k];
             let edge = Edge { a, b, cost };
@@ -89,8 +89,8 @@ impl Dense {
 
     /// Finds the tree, if there is one.
     fn grow(&mut self, graph: &Graph, multipliers: &Lanes) -> bool {
-        self.first = self.three_at_first(graph.m);
-        let steps = self.prim(graph.m);
+        self.first = self.three_at_first(graph.m());
+        let steps = self.prim(graph.m());
         if self.first[1] == FAR || steps.len < self.n - 2 {
             return false;
         }
@@ -105,7 +105,7 @@ impl Dense {
         self.bound -= 2 * multipliers.iter().sum::<i32>() as i64;
         self.number_bits(&steps);
         // A required edge that is left out would close a circle, or be a third at vertex 0.
-        let marks = graph.mark[..graph.m].iter().zip(&self.chosen);
+        let marks = graph.mark[..graph.m()].iter().zip(&self.chosen);
         marks.fold(true, |all, (mark, chosen)| {
             all & ((*mark != REQUIRED) | (*chosen == 1))
         })
@@ -208,7 +208,7 @@ impl Dense {
         let limit: Lanes = self.tree.map(raise);
         let lanes = self.lanes();
         let (mut swapped, mut rulings) = (0u32, [0u8; NUMBERS]);
-        for k in 0..graph.m {
+        for k in 0..graph.m() {
             let edge = self.edges[k];
             let path = self.path[edge.a as usize % LANES] ^ self.path[edge.b as usize % LANES];
             let dearest = 31 - (path | 1).leading_zeros() as usize;
@@ -219,12 +219,12 @@ impl Dense {
                 swapped |= path & !self.bit[k] & (u32::MAX << from);
             }
         }
-        for k in 0..graph.m {
+        for k in 0..graph.m() {
             let kept = self.bit[k] & swapped != 0;
             let forced = (self.bit[k] != 0) & !kept;
             rulings[k] = if forced { 1 } else { rulings[k] };
         }
-        self.rule_first(graph.m, raise, &mut rulings);
+        self.rule_first(graph.m(), raise, &mut rulings);
         for (k, out) in out.iter_mut().enumerate() {
             let mark = graph.mark[k];
             *out = if mark == FREE { rulings[k] } else { mark + 2 };

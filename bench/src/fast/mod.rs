@@ -41,7 +41,7 @@ type Edges = [Edge; NUMBERS];
 
 fn edges_of(graph: &Graph) -> Edges {
     let mut edges = [Edge::default(); NUMBERS];
-    for (k, edge) in edges.iter_mut().enumerate().take(graph.m) {
+    for (k, edge) in edges.iter_mut().enumerate().take(graph.m()) {
         edge.a = graph.a[k] - 1;
         edge.b = graph.b[k] - 1;
         edge.cost = graph.cost[k];

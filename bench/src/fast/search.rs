@@ -60,7 +60,7 @@ pub struct Search {
 impl Search {
     pub fn open(graph: &Graph, d: &[i32], ceiling: i64, sweeps: u32, step: u32) -> Search {
         let mut search = Search {
-            m: graph.m,
+            m: graph.m(),
             opening_multipliers: [0; super::LANES],
             opening_keys: [0; NUMBERS],
             rank: [0; NUMBERS],
@@ -68,11 +68,11 @@ impl Search {
             sweeps,
             step: step as i32,
             upper: ceiling,
-            stack: Vec::with_capacity(graph.m + 2),
+            stack: Vec::with_capacity(graph.n() + 2),
             best: None,
             best_cost: 0,
             count: 0,
-            pass: Pass::new(graph.n, edges_of(graph)),
+            pass: Pass::new(graph.n(), edges_of(graph)),
             changes: Changes {
                 forced: Keys::new(),
                 barred: Keys::new(),
@@ -80,7 +80,7 @@ impl Search {
         };
         search.opening_multipliers[..d.len()].copy_from_slice(d);
         search.rank_edges();
-        search.stack.push(search.root(&graph.mark[..graph.m]));
+        search.stack.push(search.root(&graph.mark[..graph.m()]));
         search
     }
 

@@ -3,13 +3,13 @@
 
 use super::record::{Record, NODES};
 use super::Marks;
-use crate::inputs::{Graph, EXCLUDED, FREE, PLACES, VERTICES};
+use crate::inputs::{Graph, EXCLUDED, PLACES, REQUIRED, VERTICES};
 
 const WIDEST: u64 = 50_000_000;
 
 /// Document 01, 'Legs and marks'.
 pub fn graph_fits(graph: &Graph) -> bool {
-    let (n, m) = (graph.n, graph.m);
+    let (n, m) = (graph.n(), graph.m());
     if !(3..=VERTICES).contains(&n) || m > PLACES {
         return false;
     }
@@ -60,51 +60,54 @@ fn zero_numbers(numbers: &[i32]) -> bool {
 /// docs/RECORD.md.
 pub fn record_fits(record: &Record) -> bool {
     let graph = &record.graph;
-    let used = if record.open {
+    let flags = record.open <= 1 && record.has_best <= 1;
+    let used = if record.open == 1 {
         graph_fits(graph)
-            && multipliers_fit(&record.multipliers[..graph.n])
+            && multipliers_fit(&record.multipliers[..graph.n()])
             && ceiling_fits(record.ceiling)
             && sweeps_fit(record.sweeps, record.step)
             && ceiling_fits(record.upper)
-            && record.depth <= graph.m + 1
-            && nodes_fit(&record.stack[..record.depth], graph.m)
+            && record.depth <= graph.n() + 2
+            && nodes_fit(&record.stack[..record.depth], graph.m())
             && record.best.iter().fold(0, |most, byte| most.max(*byte)) <= 1
             && record.count < 1 << 63
     } else {
         closed(record)
     };
-    used && unused(record)
+    flags && used && unused(record)
 }
 
-/// Nodes from the bottom: marks, zero past m, and at place p at most m - p free ones.
+/// Nodes from the bottom: marks, zero past m, and at place p at least p required ones.
 fn nodes_fit(nodes: &[Marks], m: usize) -> bool {
     nodes.iter().enumerate().all(|(p, node)| {
         let most = node.iter().fold(0, |most, mark| most.max(*mark));
-        // Places past m are zero, and counted with the free ones.
-        let zeros = node.iter().map(|mark| (*mark == FREE) as u8).sum::<u8>();
-        most <= EXCLUDED && zero(&node[m..]) && zeros as usize + p <= PLACES
+        let required = node
+            .iter()
+            .map(|mark| (*mark == REQUIRED) as u8)
+            .sum::<u8>();
+        most <= EXCLUDED && zero(&node[m..]) && p <= required as usize
     })
 }
 
 /// The numbers of a record without a search are zero.
 fn closed(record: &Record) -> bool {
     let graph = &record.graph;
-    graph.n == 0
-        && graph.m == 0
+    graph.n() == 0
+        && graph.m() == 0
         && record.ceiling == 0
         && record.sweeps == 0
         && record.step == 0
         && record.upper == 0
         && record.depth == 0
         && record.count == 0
-        && !record.has_best
+        && record.has_best == 0
 }
 
 /// What is not in use is zero.
 fn unused(record: &Record) -> bool {
     let graph = &record.graph;
-    let (n, m, depth) = (graph.n, graph.m, record.depth);
-    let best = if record.has_best { m } else { 0 };
+    let (n, m, depth) = (graph.n(), graph.m(), record.depth);
+    let best = if record.has_best == 1 { m } else { 0 };
     debug_assert!(n <= VERTICES && m <= PLACES && depth <= NODES);
     zero(&graph.a[m..])
         && zero(&graph.b[m..])

@@ -23,7 +23,7 @@ pub fn rule(
     let slack = (slack.min(WIDEST + 1) as Key) << 32;
     begin(graph, rulings);
     rule_first(grown, slack, rulings);
-    let inside = &grown.edges[grown.required..graph.n - 2];
+    let inside = &grown.edges[grown.required..graph.n() - 2];
     let [refused, rest] = grown.outside(order);
     if inside.is_empty() || refused.is_empty() && rest.is_empty() {
         // Nothing can be swapped.
@@ -38,14 +38,14 @@ pub fn rule(
 
 /// Bars every free edge, sixteen at a time; the last ones may come twice.
 fn begin(graph: &Graph, rulings: &mut Marks) {
-    for start in (0..graph.m).step_by(16) {
+    for start in (0..graph.m()).step_by(16) {
         let start = start.min(PLACES - 16);
         let marks: &[u8; 16] = graph.mark[start..].first_chunk().expect("sixteen");
         let rulings = rulings[start..].first_chunk_mut().expect("sixteen");
         *rulings = marks.map(|mark| if mark == FREE { BAR } else { mark + 2 });
     }
-    let end = (graph.m + 16).min(PLACES);
-    rulings[graph.m..end].fill(KEEP);
+    let end = (graph.m() + 16).min(PLACES);
+    rulings[graph.m()..end].fill(KEEP);
 }
 
 /// At vertex 1: swaps with the dearest free tree edge there, and with the cheapest outside.

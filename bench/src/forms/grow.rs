@@ -78,7 +78,7 @@ impl Grown {
     /// All required edges; none where they close a circle.
     #[inline(always)]
     fn take_required(&mut self, graph: &Graph, keys: &[Key], label: &mut Labels) -> Option<i32> {
-        if keys.len() > graph.n - 2 {
+        if keys.len() > graph.n() - 2 {
             return None;
         }
         let mut cost = 0;
@@ -100,7 +100,7 @@ impl Grown {
     fn take_free(&mut self, graph: &Graph, keys: &[Key], label: &mut Labels) -> Option<i32> {
         let (mut len, mut refusals, mut looked_at) = (self.required, 0, 0);
         let mut cost = 0;
-        while len < graph.n - 2 {
+        while len < graph.n() - 2 {
             let key = *keys.get(looked_at)?;
             let (a, b) = ends(key);
             let (to, from) = (label[a], label[b]);
@@ -154,7 +154,7 @@ impl Grown {
     fn find_first(&mut self, graph: &Graph, d: &Lanes, edges: &[u8]) -> Option<i32> {
         let mut least = [FAR; 3];
         let (mut required, mut firsts, mut cost) = (0, 0, 0);
-        let place = graph.n - 2;
+        let place = graph.n() - 2;
         for k in edges.iter().map(|k| *k as usize) {
             let key = uncharged(graph, k);
             if graph.mark[k] == FREE {

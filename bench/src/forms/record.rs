@@ -2,13 +2,14 @@
 
 use super::{search, Marks, Multipliers};
 use crate::inputs::{Graph, PLACES, VERTICES};
+use ::planner::raw;
 
-pub const NODES: usize = PLACES + 1;
+pub const NODES: usize = VERTICES + 2;
 
 /// docs/RECORD.md says what the fields hold.
 #[derive(Clone)]
 pub struct Record {
-    pub open: bool,
+    pub open: u8,
     pub graph: Graph,
     pub multipliers: Multipliers,
     pub ceiling: i64,
@@ -17,10 +18,13 @@ pub struct Record {
     pub upper: i64,
     pub depth: usize,
     pub stack: [Marks; NODES],
-    pub has_best: bool,
+    pub has_best: u8,
     pub best: Marks,
     pub count: u64,
 }
+
+/// As large as the library's, so that a copy of one costs what a copy of the other does.
+const _: () = assert!(size_of::<Record>() == size_of::<raw::Record>());
 
 #[derive(Clone, Copy, PartialEq, Eq, Debug)]
 pub enum Answer {
@@ -43,7 +47,7 @@ pub struct Step {
 impl Record {
     pub fn fresh() -> Record {
         Record {
-            open: false,
+            open: 0,
             graph: Graph::empty(0),
             multipliers: [0; VERTICES],
             ceiling: 0,
@@ -52,7 +56,7 @@ impl Record {
             upper: 0,
             depth: 0,
             stack: [[0; PLACES]; NODES],
-            has_best: false,
+            has_best: 0,
             best: [0; PLACES],
             count: 0,
         }

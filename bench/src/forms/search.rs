@@ -13,7 +13,7 @@ const MOST: u64 = (1 << 63) - 1;
 fn fault(graph: &Graph, d: &[i32], ceiling: i64, sweeps: u32, step: u32) -> u32 {
     match () {
         _ if !graph_fits(graph) => 15,
-        _ if d.len() != graph.n => 11,
+        _ if d.len() != graph.n() => 11,
         _ if !multipliers_fit(d) => 12,
         _ if !ceiling_fits(ceiling) => 13,
         _ if !sweeps_fit(sweeps, step) => 14,
@@ -33,16 +33,16 @@ pub fn open(
     let record = &mut step.record;
     let refusal = match () {
         _ if !record_fits(record) => 24,
-        _ if record.open => 21,
+        _ if record.open == 1 => 21,
         _ => fault(graph, d, ceiling, sweeps, gain),
     };
     if refusal != 0 {
         step.answer = Answer::Refused(refusal);
         return step;
     }
-    let m = graph.m;
-    record.open = true;
-    (record.graph.n, record.graph.m) = (graph.n, m);
+    let m = graph.m();
+    record.open = 1;
+    (record.graph.n, record.graph.m) = (graph.n, graph.m);
     record.graph.a[..m].copy_from_slice(&graph.a[..m]);
     record.graph.b[..m].copy_from_slice(&graph.b[..m]);
     record.graph.cost[..m].copy_from_slice(&graph.cost[..m]);
@@ -60,7 +60,7 @@ pub fn open(
 fn unopened(record: &Record) -> u32 {
     match () {
         _ if !record_fits(record) => 24,
-        _ if !record.open => 20,
+        _ if record.open == 0 => 20,
         _ => 0,
     }
 }
@@ -68,7 +68,7 @@ fn unopened(record: &Record) -> u32 {
 pub fn tell(record: &Record) -> Answer {
     match unopened(record) {
         0 if record.depth > 0 => Answer::GoingOn(record.count),
-        0 if !record.has_best => Answer::None(record.count),
+        0 if record.has_best == 0 => Answer::None(record.count),
         0 => Answer::Best(cost(&record.graph, &record.best), record.count),
         refusal => Answer::Refused(refusal),
     }
@@ -82,14 +82,14 @@ fn cost(graph: &Graph, tour: &Marks) -> i64 {
 pub fn show(record: &Record, out: &mut [u8]) -> Answer {
     let refusal = match unopened(record) {
         0 if record.depth > 0 => 22,
-        0 if !record.has_best => 23,
-        0 if out.len() != record.graph.m => 11,
+        0 if record.has_best == 0 => 23,
+        0 if out.len() != record.graph.m() => 11,
         refusal => refusal,
     };
     if refusal != 0 {
         return Answer::Refused(refusal);
     }
-    out.copy_from_slice(&record.best[..record.graph.m]);
+    out.copy_from_slice(&record.best[..record.graph.m()]);
     Answer::Accepted
 }
 
@@ -168,13 +168,13 @@ impl Node {
             match tree::pass(graph, &d, record.upper, work, &mut self.rulings) {
                 tree::Answer::Infeasible => return false,
                 tree::Answer::Within(tree) => {
-                    if is_tour(&tree, graph.n) {
+                    if is_tour(&tree, graph.n()) {
                         improve(record, &tree);
                         return false;
                     }
                     self.apply();
                     if sweep < record.sweeps {
-                        adjust(&mut d, &tree, self.graph.n, record.step as i32);
+                        adjust(&mut d, &tree, self.graph.n(), record.step as i32);
                     }
                 }
             }
@@ -184,7 +184,7 @@ impl Node {
 
     /// Applies all rulings together, sixteen at a time; the last ones may come twice.
     fn apply(&mut self) {
-        for start in (0..self.graph.m).step_by(16) {
+        for start in (0..self.graph.m()).step_by(16) {
             let start = start.min(PLACES - 16);
             let marks: &mut [u8; 16] = self.graph.mark[start..].first_chunk_mut().expect("sixteen");
             let rulings: &[u8; 16] = self.rulings[start..].first_chunk().expect("sixteen");
@@ -205,10 +205,10 @@ fn is_tour(tree: &Tree, n: usize) -> bool {
 /// The tour is the best, and others must cost less.
 fn improve(record: &mut Record, tree: &Tree) {
     record.best = [0; PLACES];
-    for k in &tree.edges[..record.graph.n] {
+    for k in &tree.edges[..record.graph.n()] {
         record.best[*k as usize] = 1;
     }
-    record.has_best = true;
+    record.has_best = 1;
     // A tour's multipliers cancel out: its bound is its cost.
     record.upper = tree.bound - 1;
 }
@@ -224,7 +224,7 @@ fn adjust(d: &mut Multipliers, tree: &Tree, n: usize, step: i32) {
 /// where none is free.
 fn split(record: &mut Record, graph: &mut Graph) -> bool {
     let k = lowest_free(&graph.mark);
-    if k >= graph.m {
+    if k >= graph.m() {
         return false;
     }
     let excluded = &mut record.stack[record.depth];

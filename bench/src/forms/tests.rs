@@ -10,12 +10,12 @@ use crate::planner::{Job, Planner, Reference};
 fn random_job(random: &mut Random) -> Job {
     let graph = sparse(random);
     let highest = [0, 3, 50, 1_000_000][random.below(4)];
-    let mut d: Vec<i32> = (0..graph.n)
+    let mut d: Vec<i32> = (0..graph.n())
         .map(|_| random.between(-highest, highest) as i32)
         .collect();
     d[0] = 0;
     let mut list = [0; PLACES];
-    let bound = Reference::new().tree(&graph, &d, &mut list[..graph.m]);
+    let bound = Reference::new().tree(&graph, &d, &mut list[..graph.m()]);
     let above = [0, 1, 7, 100, 3_000, 40_000_000][random.below(6)] - random.below(2) as i64;
     Job {
         ceiling: (bound.unwrap_or(0) + above).clamp(-50_000_000, 50_000_000),
@@ -30,7 +30,7 @@ fn random_job(random: &mut Random) -> Job {
 /// Tree and rulings, then runs of several budgets, the state being compared after each.
 fn same(random: &mut Random, forms: &mut Forms) {
     let job = random_job(random);
-    let (graph, d, m) = (&job.graph, &job.multipliers, job.graph.m);
+    let (graph, d, m) = (&job.graph, &job.multipliers, job.graph.m());
     let mut free = Reference::new();
     let mut lists = [[7; PLACES]; 2];
     let trees = (
@@ -67,8 +67,8 @@ fn agrees_with_the_free_reference() {
 
 /// docs/RECORD.md, place by place.
 fn plain_check(r: &Record) -> bool {
-    let (n, m, depth) = (r.graph.n, r.graph.m, r.depth);
-    if n > VERTICES || m > PLACES || depth > m + 1 {
+    let (n, m, depth) = (r.graph.n(), r.graph.m(), r.depth);
+    if n > VERTICES || m > PLACES || depth > n + 2 {
         return false;
     }
     let g = &r.graph;
@@ -77,11 +77,14 @@ fn plain_check(r: &Record) -> bool {
         && (n..VERTICES).all(|v| r.multipliers[v] == 0)
         && (depth..r.stack.len()).all(|p| r.stack[p].iter().all(|mark| *mark == 0))
         && (0..depth).all(|p| r.stack[p][m..].iter().all(|mark| *mark == 0))
-        && (r.has_best || r.best.iter().all(|byte| *byte == 0));
-    if !r.open {
+        && (r.has_best == 1 || r.best.iter().all(|byte| *byte == 0));
+    if r.open > 1 || r.has_best > 1 {
+        return false;
+    }
+    if r.open == 0 {
         let numbers = [r.ceiling, r.upper, r.sweeps as i64, r.step as i64];
         let zero = numbers == [0; 4] && r.count == 0 && n == 0 && m == 0 && depth == 0;
-        return unused && zero && !r.has_best;
+        return unused && zero && r.has_best == 0;
     }
     let within = |value: i32| (-1_000_000..=1_000_000).contains(&value);
     let mut pairs: Vec<_> = (0..m).map(|k| (g.a[k], g.b[k])).collect();
@@ -101,8 +104,8 @@ fn plain_check(r: &Record) -> bool {
         && r.sweeps <= 15
         && r.step <= 10_000
         && (0..depth).all(|p| {
-            let free = r.stack[p][..m].iter().filter(|mark| **mark == 0).count();
-            r.stack[p].iter().all(|mark| *mark <= 2) && free + p <= m
+            let required = r.stack[p][..m].iter().filter(|mark| **mark == 1).count();
+            r.stack[p].iter().all(|mark| *mark <= 2) && p <= required
         })
         && r.best.iter().all(|byte| *byte <= 1)
         && r.count < 1 << 63
@@ -113,8 +116,8 @@ fn bend(r: &mut Record, random: &mut Random) {
     let byte = [0, 1, 2, 3, 21, 255][random.below(6)];
     let wide = [-1, 0, 1, 50_000_000, 50_000_001, -50_000_001][random.below(6)];
     match random.below(18) {
-        0 => r.open = !r.open,
-        1 => r.graph.n = byte as usize,
+        0 => r.open = byte,
+        1 => r.graph.n = byte,
         2 => r.graph.m = r.graph.m.wrapping_add(1),
         3 => r.graph.a[k] = byte,
         4 => r.graph.b[k] = byte,
@@ -125,10 +128,10 @@ fn bend(r: &mut Record, random: &mut Random) {
         9 => r.sweeps = [0, 15, 16][random.below(3)],
         10 => r.step = [0, 10_000, 10_001][random.below(3)],
         11 => r.upper = wide,
-        12 => r.depth = [0, r.depth + 1, r.depth.wrapping_sub(1), 191, 192][random.below(5)],
+        12 => r.depth = [0, r.depth + 1, r.depth.wrapping_sub(1), 22, 23][random.below(5)],
         13 => r.stack[p][k] = byte,
-        14 => r.stack[random.below(r.depth + 1) % 191][k] = byte,
-        15 => r.has_best = !r.has_best,
+        14 => r.stack[random.below(r.depth + 1) % 22][k] = byte,
+        15 => r.has_best = byte,
         16 => r.best[k] = byte,
         _ => r.count = [0, (1 << 63) - 1, 1 << 63][random.below(3)],
     }
@@ -168,7 +171,7 @@ fn checks_the_record_as_it_says() {
 #[test]
 fn refuses_in_document_01s_order() {
     let job = random_job(&mut Random::new(5));
-    let (g, d, m) = (&job.graph, &job.multipliers, job.graph.m);
+    let (g, d, m) = (&job.graph, &job.multipliers, job.graph.m());
     let mut record = Record::fresh();
     let mut list = vec![0; m];
     assert_eq!(record.run(1), Answer::Refused(20));
@@ -185,7 +188,7 @@ fn refuses_in_document_01s_order() {
         record.open(g, &d[1..], 60_000_000, 16, 0),
         Answer::Refused(11)
     );
-    let high = vec![1_000_001; g.n];
+    let high = vec![1_000_001; g.n()];
     assert_eq!(
         record.open(g, &high, 60_000_000, 16, 0),
         Answer::Refused(12)
@@ -196,5 +199,5 @@ fn refuses_in_document_01s_order() {
     assert_eq!(record.open(&bad, d, 0, 0, 0), Answer::Refused(21));
     assert_eq!(record.show(&mut list), Answer::Refused(22));
     assert_eq!(record.close(), Answer::Accepted);
-    assert!(record_fits(&record) && !record.open);
+    assert!(record_fits(&record) && record.open == 0);
 }

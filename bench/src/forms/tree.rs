@@ -70,7 +70,8 @@ pub fn pass(
 
 /// The multipliers by vertex; none where a check of the input fails.
 fn fit(graph: &Graph, d: &[i32], length: usize) -> Option<Lanes> {
-    let fits = graph_fits(graph) && d.len() == graph.n && length == graph.m && multipliers_fit(d);
+    let fits =
+        graph_fits(graph) && d.len() == graph.n() && length == graph.m() && multipliers_fit(d);
     fits.then(|| {
         let mut all = [0; LANES];
         all[1..=d.len()].copy_from_slice(d);
@@ -91,7 +92,7 @@ pub fn tree(graph: &Graph, d: &[i32], out: &mut [u8]) -> Option<i64> {
     let (mut grown, mut order) = (Grown::blank(), Order::blank());
     let bound = alone(graph, &d, &mut grown, &mut order)?;
     out.fill(0);
-    for k in &grown.edges[..graph.n] {
+    for k in &grown.edges[..graph.n()] {
         out[*k as usize] = 1;
     }
     Some(bound)
@@ -107,6 +108,6 @@ pub fn rule(graph: &Graph, d: &[i32], ceiling: i64, out: &mut [u8]) -> Option<i6
     let slack = ceiling - bound;
     let mut rulings = [0; PLACES];
     climb::rule(graph, &grown, &order, &mut hung, slack, &mut rulings);
-    out.copy_from_slice(&rulings[..graph.m]);
+    out.copy_from_slice(&rulings[..graph.m()]);
     Some(bound)
 }

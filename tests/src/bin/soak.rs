@@ -7,7 +7,7 @@ use planner_tests::random::Random;
 use planner_tests::soak::counts::Counts;
 use planner_tests::soak::programs::{ended, hunt_input, limited, Ended};
 use planner_tests::soak::{kind_of, random_of, run, Kind, Watch, KINDS};
-use planner_tests::stack::{self, STATED};
+use planner_tests::stack::{self, STATED, STATED_OF_PROGRAMS};
 use std::fs;
 use std::hint::black_box;
 use std::os::unix::process::ExitStatusExt;
@@ -27,6 +27,9 @@ const OWN: usize = 128 * 1024;
 
 /// Runs for which the stack is measured.
 const STACK_RUNS: u64 = 3_000;
+
+/// The calls that the library exports.
+const CALLS: usize = 11;
 
 /// What to do, as the command line says it.
 #[derive(Clone)]
@@ -229,23 +232,23 @@ fn soak(plan: &Plan) -> Result<(), String> {
 /// The most stack that each call and each program uses; fails where one is above what is stated.
 fn measure() -> Result<(), String> {
     let mut failed = None;
-    let mut deepest = stack::measuring(|| failed = library_runs().err());
+    let deepest = stack::measuring(|| failed = library_runs().err());
     if let Some(message) = failed {
         return Err(message);
-    }
-    for program in ["rulings", "hunt"] {
-        let kib = least_stack(program)
-            .ok_or(format!("{program} is missing or needs more than is stated"))?;
-        deepest.insert(program, 1024 * kib);
     }
     println!("stack, in bytes, over {STACK_RUNS} runs of seed {SEED}:");
     for (name, bytes) in &deepest {
         println!("{name}: {bytes}");
     }
+    for program in ["rulings", "hunt"] {
+        let kib = least_stack(program)
+            .ok_or(format!("{program} is missing or needs more than is stated"))?;
+        println!("{program}: {}; stated {STATED_OF_PROGRAMS}", 1024 * kib);
+    }
     let over: Vec<_> = deepest.iter().filter(|(_, used)| **used > STATED).collect();
     match deepest.iter().max_by_key(|(_, bytes)| **bytes) {
-        Some((name, bytes)) if over.is_empty() && deepest.len() == 13 => {
-            println!("deepest {name}, {bytes}; stated {STATED}");
+        Some((name, bytes)) if over.is_empty() && deepest.len() == CALLS => {
+            println!("deepest call {name}, {bytes}; stated {STATED}");
             Ok(())
         }
         _ => Err(format!("over {STATED}, or not all measured: {over:?}")),
@@ -273,7 +276,7 @@ fn least_stack(program: &str) -> Option<usize> {
         inputs.iter().map(one).collect()
     };
     let right = at(8 * 1024);
-    let (mut low, mut high) = (0, STATED / 1024);
+    let (mut low, mut high) = (0, STATED_OF_PROGRAMS / 1024);
     // A program that is not there fails alike under every limit.
     if right.iter().any(|end| end.status != Some(0)) || at(high) != right {
         return None;
@@ -337,10 +340,10 @@ fn signal_noticed() -> bool {
 }
 
 fn margin_noticed() -> bool {
-    let mut list = Lent::<u8>::new(4);
+    let mut list = Lent::new(4);
     let kept = list.margins_kept();
     // SAFETY: the margin behind the list is part of the same allocation.
-    unsafe { *list.pointer().add(4) ^= 1 };
+    unsafe { *list.pointer::<u8>().add(4) ^= 1 };
     kept && !list.margins_kept()
 }
 

@@ -1,5 +1,6 @@
-//! What document 01 fixes and a reader could get wrong, as a value. Every suite runs with
-//! `Law::AS_WRITTEN`; the self-test bends one field and expects the suite to notice.
+//! What document 01 and, of a record's check, docs/RECORD.md fix and a reader could get wrong, as a
+//! value. Every suite runs with `Law::AS_WRITTEN`; the self-test bends one field and expects the
+//! suite to notice.
 
 #[derive(Clone, Copy, Debug)]
 pub struct Law {
@@ -73,6 +74,15 @@ pub struct Law {
     pub marks_apart: bool,
     /// 22 and 23 come before 11
     pub record_before_length: bool,
+
+    /// a record's flags are 0 or 1
+    pub max_flag: u8,
+    /// its depth is at most n + 2
+    pub nodes_above_vertices: usize,
+    /// its node p has p required edges, less so many
+    pub required_short: usize,
+    /// its nodes that do not wait are zero
+    pub zeros_past_depth: bool,
 }
 
 impl Law {
@@ -110,5 +120,9 @@ impl Law {
         required_on_top: true,
         marks_apart: true,
         record_before_length: true,
+        max_flag: 1,
+        nodes_above_vertices: 2,
+        required_short: 0,
+        zeros_past_depth: true,
     };
 }

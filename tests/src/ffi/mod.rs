@@ -1,111 +1,105 @@
-//! The library's calls, for testing: whatever is lent has a margin on both sides, and what is only read is looked at again after the call.
+//! The library's calls, for testing: what they take is made of its bytes in the header's order (record.rs), whatever is lent has a margin on
+//! both sides, and what is only read is looked at again after the call.
 
-use crate::calls::{planner_check, planner_read, planner_write};
 use crate::document::graph::Graph;
+use crate::document::Refusal;
+use crate::record::{graph_bytes, graph_of, GRAPH};
 use crate::report::Hex;
-use crate::stack;
-use lent::{untouched_graph, Lent, LentGraph};
+use lent::Lent;
+use planner::raw::{self, planner_check, planner_read, planner_write, Said};
 
 pub mod lent;
 pub mod searches;
 pub mod trees;
 
-/// Makes a call with a graph's parts in front: the number, and whether the graph and its margins are as they were.
-macro_rules! of_graph {
-    ($name:ident, $graph:expr $(, $argument:expr)*) => {{
-        let graph: &Graph = $graph;
-        let mut lent = LentGraph::holding(graph);
-        // SAFETY: the graph's lists have 190 places, and each list among the arguments goes with its own length.
-        let number = stack::calling(stringify!($name), || unsafe {
-            $name(
-                graph.n,
-                graph.m,
-                lent.a.pointer(),
-                lent.b.pointer(),
-                lent.cost.pointer(),
-                lent.mark.pointer(),
-                $($argument),*
-            )
-        });
-        (number, lent.kept(graph))
-    }};
+/// Makes a call of the library, where its stack is measured.
+macro_rules! call {
+    ($name:ident($($argument:expr),*)) => {
+        // SAFETY: whatever is lent is a `Lent` of the size that its type has, or goes with its own length.
+        crate::stack::calling(stringify!($name), || unsafe { $name($($argument),*) })
+    };
 }
-use of_graph;
+use call;
 
+/// What a call answers, and what became of the lent list.
 #[derive(PartialEq, Eq, Debug)]
-pub struct CheckReply {
-    pub number: u32,
+pub struct Reply {
+    pub said: Said,
+    /// none if no byte of the list changed
+    pub out: Option<Hex>,
     pub margins_kept: bool,
 }
 
-/// The check call: 0 where the value meets 'Legs and marks', otherwise 15.
-pub fn check(graph: &Graph) -> CheckReply {
-    let (number, margins_kept) = of_graph!(planner_check, graph);
-    CheckReply {
+/// An answer of a number alone.
+pub fn only(number: u32) -> Said {
+    Said {
         number,
-        margins_kept,
+        place: 0,
+        value: 0,
+        nodes: 0,
+    }
+}
+
+/// A refusal's number and place.
+pub fn refused(refusal: Refusal) -> Said {
+    Said {
+        place: refusal.place,
+        ..only(refusal.number)
+    }
+}
+
+/// Accepted, with a bound.
+pub fn bound(value: i64) -> Said {
+    Said {
+        value,
+        ..only(raw::ACCEPTED)
+    }
+}
+
+/// The graph as a call takes it.
+pub fn by_value(graph: &Graph) -> raw::Graph {
+    // SAFETY: any bytes are a graph of numbers, and it has no others.
+    unsafe { std::mem::transmute::<[u8; GRAPH], raw::Graph>(graph_bytes(graph)) }
+}
+
+/// The check call: 0 where the value meets 'Legs and marks', otherwise 15.
+pub fn check(graph: &Graph) -> Reply {
+    let g = by_value(graph);
+    Reply {
+        said: call!(planner_check(g)),
+        out: None,
+        margins_kept: true,
     }
 }
 
 #[derive(PartialEq, Eq, Debug)]
 pub struct ReadReply {
-    pub number: u32,
-    pub place: u64,
-    /// none if no byte of the lent parts changed
+    pub said: Said,
+    /// none if no byte of the lent graph changed
     pub graph: Option<Graph>,
     pub margins_kept: bool,
 }
 
 pub fn read(bytes: &[u8]) -> ReadReply {
     let mut given = Lent::holding(bytes);
-    let mut graph = LentGraph::holding(&untouched_graph());
-    let mut place = Lent::new(1);
-    // SAFETY: `given` goes with its own length, and the graph's lists have 190 places.
-    let number = stack::calling("planner_read", || unsafe {
-        planner_read(
-            given.pointer(),
-            given.length(),
-            graph.n.pointer(),
-            graph.m.pointer(),
-            graph.a.pointer(),
-            graph.b.pointer(),
-            graph.cost.pointer(),
-            graph.mark.pointer(),
-            place.pointer(),
-        )
-    });
-    let kept = given.kept(bytes) && graph.margins_kept() && place.margins_kept();
+    let mut graph = Lent::new(GRAPH);
+    let (g, list) = (graph.pointer(), given.pointer());
+    let said = call!(planner_read(g, list, bytes.len()));
     ReadReply {
-        number,
-        place: place.first(),
-        graph: Some(graph.graph()).filter(|graph| *graph != untouched_graph()),
-        margins_kept: kept,
+        said,
+        graph: graph.changed().map(|bytes| graph_of(&bytes)),
+        margins_kept: given.kept(&Lent::holding(bytes)) && graph.margins_kept(),
     }
 }
 
-#[derive(PartialEq, Eq, Debug)]
-pub struct WriteReply {
-    pub number: u32,
-    pub place: u64,
-    /// none if no byte of the list changed
-    pub out: Option<Hex>,
-    pub margins_kept: bool,
-}
-
-pub fn write(graph: &Graph, length: usize) -> WriteReply {
+pub fn write(graph: &Graph, length: usize) -> Reply {
+    let g = by_value(graph);
     let mut out = Lent::new(length);
-    let mut place = Lent::new(1);
-    let (number, kept) = of_graph!(
-        planner_write,
-        graph,
-        out.pointer(),
-        out.length(),
-        place.pointer()
-    );
-    WriteReply {
-        number,
-        place: place.first(),
+    let list = out.pointer();
+    let said = call!(planner_write(g, list, length));
+    Reply {
+        said,
         out: out.changed().map(Hex),
-        margins_kept: kept && out.margins_kept() && place.margins_kept(),
+        margins_kept: out.margins_kept(),
     }
 }

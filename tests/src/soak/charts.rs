@@ -7,8 +7,7 @@ use crate::document::chart;
 use crate::document::graph::Graph;
 use crate::document::law::Law;
 use crate::document::tree::Method;
-use crate::ffi::trees::{self, BoundReply};
-use crate::ffi::{self, CheckReply, ReadReply, WriteReply};
+use crate::ffi::{self, trees, ReadReply, Reply};
 use crate::generate;
 use crate::random::Random;
 use crate::report::{hex, Outcome};
@@ -43,18 +42,17 @@ pub const VALUES: Kind = Kind {
     ],
 };
 
-/// Replies whose number is a field.
-macro_rules! numbered {
-    ($($reply:ty),*) => {
-        $(impl Numbered for $reply {
-            fn number(&self) -> Option<u32> {
-                Some(self.number)
-            }
-        })*
-    };
+impl Numbered for Reply {
+    fn number(&self) -> Option<u32> {
+        Some(self.said.number)
+    }
 }
 
-numbered!(CheckReply, ReadReply, WriteReply, BoundReply);
+impl Numbered for ReadReply {
+    fn number(&self) -> Option<u32> {
+        Some(self.said.number)
+    }
+}
 
 /// Longer than any list that a call takes.
 const OVER_LONG: usize = 100_000;
@@ -118,8 +116,8 @@ fn exaggerate(random: &mut Random, given: &mut Arguments) {
         }
         1 => given.multipliers = any_words(random, graph.n.min(20)),
         2 => given.ceiling = random.word() as i64,
-        3 => graph.n = random.word() as usize,
-        4 => graph.m = random.word() as usize,
+        3 => graph.n = random.byte().into(),
+        4 => graph.m = random.byte().into(),
         5 => graph.m = random.below(192),
         6 => {
             graph.a.iter_mut().for_each(|a| *a = random.byte());

@@ -8,7 +8,7 @@ use crate::document::{chart, programs};
 use crate::generate;
 use crate::random::Random;
 use crate::report::{hex, Outcome};
-use crate::stack::STATED;
+use crate::stack::STATED_OF_PROGRAMS;
 use crate::suites::programs::{input, output, path};
 use std::os::unix::process::ExitStatusExt;
 use std::process::Command;
@@ -135,6 +135,6 @@ fn compare(
         name,
         || hex(bytes),
         wanted,
-        || ended(&mut limited(name, STATED / 1024), bytes),
+        || ended(&mut limited(name, STATED_OF_PROGRAMS / 1024), bytes),
     )
 }

@@ -4,10 +4,10 @@ use super::{Kind, Numbered, Watch};
 use crate::bends;
 use crate::document::machine::{Call, Machine};
 use crate::document::tree::Method;
-use crate::ffi::searches::Reply;
+use crate::ffi::{only, Reply};
 use crate::generate;
 use crate::random::Random;
-use crate::record::{Record, STACK};
+use crate::record::{Record, BEFORE_STACK, STACK};
 use crate::report::Outcome;
 use crate::suites::damage::{harm, sound};
 use crate::suites::records::{reply, vary};
@@ -22,6 +22,9 @@ pub const RECORDS: Kind = Kind {
         bends::MARK_THREE,
         bends::UPPER_AT_COST,
         bends::EXCLUDED_ON_TOP,
+        bends::FLAG_OF_TWO,
+        bends::FEWER_REQUIRED,
+        bends::JUNK_PAST_DEPTH,
     ],
 };
 
@@ -41,17 +44,20 @@ pub const LISTS: Kind = Kind {
 
 impl Numbered for (Reply, Record) {
     fn number(&self) -> Option<u32> {
-        Some(self.0.number)
+        self.0.number()
     }
 }
 
-/// A place of a record: any, one beside the stack, which is most of the record and stands at its end, or one that is in use.
+/// A place of a record: any, one that is in use, or one beside the stack, which is most of the record.
 fn a_place(random: &mut Random, bytes: &[u8]) -> usize {
     let used: Vec<usize> = (0..bytes.len()).filter(|at| bytes[*at] != 0).collect();
     match random.below(3) {
         0 => random.below(bytes.len()),
         1 if !used.is_empty() => random.pick(&used),
-        _ => random.below(bytes.len() - STACK),
+        _ => match random.below(bytes.len() - STACK) {
+            before if before < BEFORE_STACK => before,
+            behind => behind + STACK,
+        },
     }
 }
 
@@ -82,10 +88,7 @@ fn expected(machine: &mut Option<Machine>, record: &Record, call: &Call) -> (Rep
         Some(machine) => (reply(&machine.call(call)), Record::of(&machine.search)),
         None => {
             let refused = Reply {
-                number: 24,
-                place: 0,
-                value: None,
-                nodes: None,
+                said: only(24),
                 out: None,
                 margins_kept: true,
             };

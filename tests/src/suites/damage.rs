@@ -1,12 +1,14 @@
 //! Records with damage, through the library: every call refuses 24, and changes nothing, exactly where the stated check fails.
 
 use crate::bends;
+use crate::document::graph::{EXCLUDED, FREE, PLACES, REQUIRED};
 use crate::document::law::Law;
 use crate::document::machine::{Call, Machine};
 use crate::document::tree::Method;
+use crate::ffi::{only, Reply};
 use crate::generate;
 use crate::random::Random;
-use crate::record::{Record, STACK};
+use crate::record::{Record, NODES, STACK};
 use crate::report::{Outcome, Suite, Tally};
 
 pub const SUITE: Suite = Suite {
@@ -19,6 +21,11 @@ pub const SUITE: Suite = Suite {
         bends::MARK_THREE,
         bends::HIGHER_COST,
         bends::HIGHER_MULTIPLIER,
+        bends::FLAG_OF_TWO,
+        bends::DEEPER_STACK,
+        bends::SHALLOWER_STACK,
+        bends::FEWER_REQUIRED,
+        bends::JUNK_PAST_DEPTH,
     ],
 };
 
@@ -36,11 +43,11 @@ pub fn sound(random: &mut Random) -> Record {
 
 /// Changes one part; the record may still pass.
 pub fn harm(random: &mut Random, record: &mut Record) {
-    let m = record.graph.m.clamp(1, 190);
+    let (n, m) = (record.graph.n.clamp(3, 20), record.graph.m.clamp(1, PLACES));
     let k = if random.one_in(2) {
         random.below(m)
     } else {
-        random.below(190)
+        random.below(PLACES)
     };
     let byte = if random.one_in(3) {
         random.byte()
@@ -59,13 +66,13 @@ pub fn harm(random: &mut Random, record: &mut Record) {
     ]);
     let place = match random.below(3) {
         0 => random.below(STACK),
-        1 => 190 * record.depth.min(190) + random.below(190),
-        _ => 190 * random.below(record.depth.clamp(1, 191)) + k,
+        1 => PLACES * record.depth.min(NODES - 1) + random.below(PLACES),
+        _ => PLACES * random.below(record.depth.clamp(1, NODES)) + k,
     };
     match random.below(17) {
         0 => record.open = byte,
-        1 => record.graph.n = random.pick(&[0, 2, 3, 4, 20, 21, usize::MAX]),
-        2 => record.graph.m = random.pick(&[0, m - 1, m + 1, 190, 191, usize::MAX]),
+        1 => record.graph.n = random.pick(&[0, 2, 3, 4, 20, 21, 255]),
+        2 => record.graph.m = random.pick(&[0, m - 1, m + 1, 190, 191, 255]),
         3 => record.graph.a[k] = byte,
         4 => record.graph.b[k] = byte,
         5 => record.graph.cost[k] = signed,
@@ -75,8 +82,8 @@ pub fn harm(random: &mut Random, record: &mut Record) {
         9 => record.sweeps = random.pick(&[0, 15, 16, u32::MAX]),
         10 => record.step = random.pick(&[0, 10_000, 10_001, u32::MAX]),
         11 => record.upper = wide,
-        12 => record.depth = random.pick(&[0, 1, 2, m, m + 1, m + 2, 191, 192, usize::MAX]),
-        13 => record.stack[place.min(STACK - 1)] = byte,
+        12 => record.depth = random.pick(&[0, 1, 2, n + 2, n + 3, m + 2, 22, 23, usize::MAX]),
+        13 => record.stack[place] = byte,
         14 => record.has_best = byte,
         15 => record.best[k] = byte,
         _ => record.count = random.pick(&[0, 1, (1 << 63) - 1, 1 << 63, u64::MAX]),
@@ -90,18 +97,30 @@ fn run(law: &Law, tally: &mut Tally) -> Outcome {
         for _ in 0..1 + random.below(2) {
             harm(random, &mut harmed);
         }
-        let call = match random.below(5) {
-            0 => generate::opening(random, 5, 10, false),
-            1 => Call::Run { budget: 0 },
-            2 => Call::Tell,
-            3 => Call::Show {
-                length: harmed.graph.m.min(200),
-            },
-            _ => Call::Close,
-        };
+        let call = any_call(random, &harmed);
         judge(law, tally, &harmed, &call)?;
     }
-    each_bit(law, tally, random)
+    flags(law, tally, random)?;
+    for n in 3..=20 {
+        for depth in 0..=NODES {
+            stacks(law, tally, random, n, depth)?;
+        }
+    }
+    each_bit(law, tally, &Record::fresh())?;
+    each_bit(law, tally, &going_on(random))?;
+    each_bit(law, tally, &finished(random))
+}
+
+fn any_call(random: &mut Random, record: &Record) -> Call {
+    match random.below(5) {
+        0 => generate::opening(random, 5, 10, false),
+        1 => Call::Run { budget: 0 },
+        2 => Call::Tell,
+        3 => Call::Show {
+            length: record.graph.m.min(200),
+        },
+        _ => Call::Close,
+    }
 }
 
 /// Whether the call is refused 24 exactly where the check fails; then nothing may change.
@@ -110,28 +129,122 @@ fn judge(law: &Law, tally: &mut Tally, harmed: &Record, call: &Call) -> Outcome 
     let mut after = harmed.clone();
     let reply = after.call(call);
     let passes = harmed.passes(law);
-    tally.compare("24", input, &!passes, &(reply.number == 24))?;
+    tally.compare("24", input, &!passes, &(reply.said.number == 24))?;
     if passes {
         return Ok(());
     }
     tally.compare("as it was", input, harmed, &after)?;
-    let untouched = (0, None, None, None, true);
-    let lent = (
-        reply.place,
-        reply.value,
-        reply.nodes,
-        reply.out,
-        reply.margins_kept,
-    );
-    tally.compare("lent", input, &untouched, &lent)
+    let refused = Reply {
+        said: only(24),
+        out: None,
+        margins_kept: true,
+    };
+    tally.compare("said and lent", input, &refused, &reply)
 }
 
-/// Each single bit of the record of a search that is going on.
-fn each_bit(law: &Law, tally: &mut Tally, random: &mut Random) -> Outcome {
-    let mut record = sound(random);
-    while record.depth < 3 || record.has_best == 0 {
-        record = sound(random);
+/// A search with nodes that wait and an incumbent.
+fn going_on(random: &mut Random) -> Record {
+    loop {
+        let record = sound(random);
+        if record.depth >= 3 && record.has_best == 1 {
+            return record;
+        }
     }
+}
+
+/// A search that found a tour and has no node left.
+fn finished(random: &mut Random) -> Record {
+    loop {
+        let record = sound(random);
+        if record.depth == 0 && record.has_best == 1 {
+            return record;
+        }
+    }
+}
+
+/// Every value of each flag, in records of every kind.
+fn flags(law: &Law, tally: &mut Tally, random: &mut Random) -> Outcome {
+    for record in [Record::fresh(), going_on(random), finished(random)] {
+        for byte in 0..=255 {
+            let call = any_call(random, &record);
+            let mut harmed = record.clone();
+            harmed.open = byte;
+            judge(law, tally, &harmed, &call)?;
+            let mut harmed = record.clone();
+            harmed.has_best = byte;
+            judge(law, tally, &harmed, &call)?;
+        }
+    }
+    Ok(())
+}
+
+/// A search of n vertices in which so many nodes wait, node p with p required edges: then each node with one required edge fewer, with a
+/// mark of 3, and with a byte past m; each other node with a byte in it; and other depths.
+fn stacks(law: &Law, tally: &mut Tally, random: &mut Random, n: usize, depth: usize) -> Outcome {
+    let m = n * (n - 1) / 2;
+    let record = waiting(random, n, depth);
+    let mut judge = |record: Record| judge(law, tally, &record, &Call::Tell);
+    judge(record.clone())?;
+    for p in 0..NODES {
+        let node = PLACES * p..PLACES * (p + 1);
+        let mut with = |place: usize, byte: u8| {
+            let mut harmed = record.clone();
+            harmed.stack[place] = byte;
+            judge(harmed)
+        };
+        if p < depth {
+            let required = record.stack[node.clone()]
+                .iter()
+                .position(|x| *x == REQUIRED);
+            if let Some(k) = required {
+                with(node.start + k, random.pick(&[FREE, EXCLUDED]))?;
+            }
+            with(node.start + random.below(m), 3)?;
+            if m < PLACES {
+                with(node.start + m + random.below(PLACES - m), 1)?;
+            }
+        } else {
+            with(node.start + random.below(PLACES), 1)?;
+        }
+    }
+    for other in [depth + 1, 255, 256 + depth, (1 << 32) + depth, usize::MAX] {
+        let mut harmed = record.clone();
+        harmed.depth = other;
+        judge(harmed)?;
+    }
+    Ok(())
+}
+
+/// An opening's record with its stack written anew; of few edges the upper nodes have all of them required.
+fn waiting(random: &mut Random, n: usize, depth: usize) -> Record {
+    let m = n * (n - 1) / 2;
+    let mut machine = Machine::new(&Law::AS_WRITTEN, Method::Kruskal);
+    machine.call(&Call::Open {
+        graph: Box::new(generate::graph_of(random, n, m)),
+        multipliers: generate::multipliers(random, n),
+        ceiling: 0,
+        sweeps: 0,
+        step: 0,
+    });
+    if let Some(search) = &mut machine.search {
+        search.stack = (0..depth)
+            .map(|p| {
+                let mut marks: Vec<u8> = (0..m)
+                    .map(|k| match k < p {
+                        true => REQUIRED,
+                        false => random.pick(&[FREE, EXCLUDED]),
+                    })
+                    .collect();
+                random.shuffle(&mut marks);
+                marks
+            })
+            .collect();
+    }
+    Record::of(&machine.search)
+}
+
+/// Each single bit of a record.
+fn each_bit(law: &Law, tally: &mut Tally, record: &Record) -> Outcome {
     let mut bytes = record.bytes();
     for bit in 0..8 * bytes.len() {
         bytes[bit / 8] ^= 1 << (bit % 8);

@@ -3,7 +3,6 @@
 
 use super::searches::opening;
 use crate::bends;
-use crate::calls::{BEST, FINISHED, NO_TOUR};
 use crate::document::graph::{Graph, FREE};
 use crate::document::law::Law;
 use crate::document::machine::{Call, Machine, Verdict};
@@ -12,7 +11,8 @@ use crate::document::tree::Method;
 use crate::generate;
 use crate::random::Random;
 use crate::record::Record;
-use crate::report::{Outcome, Suite, Tally};
+use crate::report::{Hex, Outcome, Suite, Tally};
+use planner::raw::{BEST, FINISHED, NO_TOUR};
 
 pub const SUITE: Suite = Suite {
     name: "library searches",
@@ -57,23 +57,22 @@ fn one(
     let budget = (1u64 << (free + 1)) - 1;
     let first = random.word() % (budget + 1);
     let mut record = Record::made_fresh();
-    tally.compare("opened", input, &0, &record.call(&open).number)?;
+    tally.compare("opened", input, &0, &record.call(&open).said.number)?;
     record.call(&Call::Run { budget: first });
     let ran = record.call(&Call::Run {
         budget: budget - first,
     });
-    tally.compare("finished", input, &FINISHED, &ran.number)?;
-    let told = record.call(&Call::Tell);
-    let number = if expected.is_some() { BEST } else { NO_TOUR };
-    tally.compare(
-        "verdict",
-        input,
-        &(number, expected),
-        &(told.number, told.value),
-    )?;
+    tally.compare("finished", input, &FINISHED, &ran.said.number)?;
+    let told = record.call(&Call::Tell).said;
+    let told = (told.number, told.value);
+    let verdict = match expected {
+        Some(cost) => (BEST, cost),
+        None => (NO_TOUR, 0),
+    };
+    tally.compare("verdict", input, &verdict, &told)?;
     let shown = record.call(&Call::Show { length: graph.m });
-    let fit = match (expected, shown.number, &shown.out) {
-        (Some(cost), 0, Some(edges)) => {
+    let fit = match (expected, shown.said.number, &shown.out) {
+        (Some(cost), 0, Some(Hex(edges))) => {
             tours::is_tour(graph, edges)
                 && tours::is_allowed(graph, edges)
                 && tours::cost(graph, edges) == cost
@@ -86,10 +85,9 @@ fn one(
     machine.call(&open);
     machine.call(&Call::Run { budget });
     let verdict = match machine.search.as_ref().map(|search| search.verdict()) {
-        Some(Verdict::Cost(cost)) => Some((BEST, Some(cost))),
-        Some(Verdict::None) => Some((NO_TOUR, None)),
+        Some(Verdict::Cost(cost)) => Some((BEST, cost)),
+        Some(Verdict::None) => Some((NO_TOUR, 0)),
         _ => None,
     };
-    let told = Some((told.number, told.value));
-    tally.compare("the machine's verdict", input, &verdict, &told)
+    tally.compare("the machine's verdict", input, &verdict, &Some(told))
 }

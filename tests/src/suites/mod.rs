@@ -14,6 +14,8 @@ pub mod check;
 #[cfg(feature = "library")]
 pub mod damage;
 #[cfg(feature = "library")]
+pub mod layout;
+#[cfg(feature = "library")]
 pub mod library_searches;
 #[cfg(feature = "rulings")]
 pub mod programs;
@@ -58,6 +60,8 @@ pub fn all() -> Vec<Suite> {
         damage::SUITE,
         #[cfg(feature = "library")]
         library_searches::SUITE,
+        #[cfg(feature = "library")]
+        layout::SUITE,
         #[cfg(feature = "library")]
         wrapper::SUITE,
         #[cfg(feature = "rulings")]

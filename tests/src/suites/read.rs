@@ -4,7 +4,7 @@ use crate::bends;
 use crate::chart_cases::every_file;
 use crate::document::chart;
 use crate::document::law::Law;
-use crate::ffi::{read, ReadReply};
+use crate::ffi::{only, read, refused, ReadReply};
 use crate::report::{hex, Outcome, Suite, Tally};
 
 pub const SUITE: Suite = Suite {
@@ -26,13 +26,12 @@ pub const SUITE: Suite = Suite {
 
 /// What the call must answer.
 pub fn expected(law: &Law, bytes: &[u8]) -> ReadReply {
-    let (number, place, graph) = match chart::read(law, bytes) {
-        Ok(graph) => (0, 0, Some(graph)),
-        Err(refusal) => (refusal.number, refusal.place, None),
+    let (said, graph) = match chart::read(law, bytes) {
+        Ok(graph) => (only(0), Some(graph)),
+        Err(refusal) => (refused(refusal), None),
     };
     ReadReply {
-        number,
-        place,
+        said,
         graph,
         margins_kept: true,
     }

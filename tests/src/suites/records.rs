@@ -2,15 +2,15 @@
 //! every byte of the record.
 
 use crate::bends;
-use crate::calls::{ACCEPTED, BEST, FINISHED, GOING_ON, NO_TOUR};
 use crate::document::law::Law;
 use crate::document::machine::{Answer, Call, Machine, Verdict};
 use crate::document::tree::Method;
-use crate::ffi::searches::Reply;
+use crate::ffi::{only, refused, Reply};
 use crate::generate;
 use crate::random::Random;
 use crate::record::Record;
-use crate::report::{Outcome, Suite, Tally};
+use crate::report::{Hex, Outcome, Suite, Tally};
+use planner::raw::{Said, ACCEPTED, BEST, FINISHED, GOING_ON, NO_TOUR};
 
 pub const SUITE: Suite = Suite {
     name: "records",
@@ -33,29 +33,29 @@ pub const SUITE: Suite = Suite {
 
 /// What the library says where the machine answers so.
 pub fn reply(answer: &Answer) -> Reply {
-    let (number, value, nodes) = match answer {
-        Answer::Refused(refusal) => (refusal.number, None, None),
-        Answer::Accepted | Answer::Shown(_) => (ACCEPTED, None, None),
-        Answer::Ran { finished, count } => (
-            if *finished { FINISHED } else { GOING_ON },
-            None,
-            Some(*count),
-        ),
+    let counted = |number: u32, value: i64, nodes: u64| Said {
+        value,
+        nodes,
+        ..only(number)
+    };
+    let said = match *answer {
+        Answer::Refused(refusal) => refused(refusal),
+        Answer::Accepted | Answer::Shown(_) => only(ACCEPTED),
+        Answer::Ran { finished, count } => {
+            counted(if finished { FINISHED } else { GOING_ON }, 0, count)
+        }
         Answer::Told { verdict, count } => match verdict {
-            Verdict::GoingOn => (GOING_ON, None, Some(*count)),
-            Verdict::None => (NO_TOUR, None, Some(*count)),
-            Verdict::Cost(cost) => (BEST, Some(*cost), Some(*count)),
+            Verdict::GoingOn => counted(GOING_ON, 0, count),
+            Verdict::None => counted(NO_TOUR, 0, count),
+            Verdict::Cost(cost) => counted(BEST, cost, count),
         },
     };
     let out = match answer {
-        Answer::Shown(edges) if !edges.is_empty() => Some(edges.clone()),
+        Answer::Shown(edges) if !edges.is_empty() => Some(Hex(edges.clone())),
         _ => None,
     };
     Reply {
-        number,
-        place: 0,
-        value,
-        nodes,
+        said,
         out,
         margins_kept: true,
     }

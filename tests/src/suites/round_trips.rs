@@ -19,7 +19,10 @@ pub const SUITE: Suite = Suite {
 /// The graph's file, unless writing is refused.
 fn written(graph: &Graph) -> Option<Vec<u8>> {
     let reply = write(graph, 8 + 12 * graph.m.min(PLACES));
-    reply.out.filter(|_| reply.number == 0).map(|out| out.0)
+    reply
+        .out
+        .filter(|_| reply.said.number == 0)
+        .map(|out| out.0)
 }
 
 fn run(law: &Law, tally: &mut Tally) -> Outcome {

@@ -4,15 +4,16 @@
 use super::own_rulings::turning_ceiling;
 use super::own_trees::graph_for;
 use crate::bends;
-use crate::calls::NONE;
 use crate::document::graph::Graph;
 use crate::document::law::Law;
 use crate::document::rulings::{self, Ruled};
 use crate::document::tree::Method;
-use crate::ffi::trees::{rule, BoundReply};
+use crate::ffi::trees::rule;
+use crate::ffi::{bound, only, Reply};
 use crate::generate::{self, MAX};
 use crate::random::Random;
-use crate::report::{Outcome, Suite, Tally};
+use crate::report::{Hex, Outcome, Suite, Tally};
+use planner::raw::NONE;
 
 pub const SUITE: Suite = Suite {
     name: "rule",
@@ -34,7 +35,7 @@ pub struct Arguments {
     pub length: usize,
 }
 
-pub fn expected(law: &Law, method: Method, given: &Arguments) -> BoundReply {
+pub fn expected(law: &Law, method: Method, given: &Arguments) -> Reply {
     let Arguments {
         graph,
         multipliers,
@@ -42,14 +43,16 @@ pub fn expected(law: &Law, method: Method, given: &Arguments) -> BoundReply {
         length,
     } = given;
     let ruled = rulings::call(law, method, graph, multipliers, *ceiling, *length);
-    let (number, bound, out) = match ruled {
-        Ok(Ruled::Bound { bound, rulings }) => (0, Some(bound), Some(rulings)),
-        Ok(Ruled::Infeasible) => (NONE, None, None),
-        Err(refusal) => (refusal.number, None, None),
+    let (said, out) = match ruled {
+        Ok(Ruled::Bound {
+            bound: least,
+            rulings,
+        }) => (bound(least), Some(Hex(rulings))),
+        Ok(Ruled::Infeasible) => (only(NONE), None),
+        Err(refusal) => (only(refusal.number), None),
     };
-    BoundReply {
-        number,
-        bound,
+    Reply {
+        said,
         out,
         margins_kept: true,
     }

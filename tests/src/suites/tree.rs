@@ -2,14 +2,15 @@
 
 use super::own_trees::graph_for;
 use crate::bends;
-use crate::calls::NONE;
 use crate::document::graph::Graph;
 use crate::document::law::Law;
 use crate::document::tree::{self, Method};
-use crate::ffi::trees::{tree, BoundReply};
+use crate::ffi::trees::tree;
+use crate::ffi::{bound, only, Reply};
 use crate::generate;
 use crate::random::Random;
-use crate::report::{Outcome, Suite, Tally};
+use crate::report::{Hex, Outcome, Suite, Tally};
+use planner::raw::NONE;
 
 pub const SUITE: Suite = Suite {
     name: "tree",
@@ -30,15 +31,14 @@ pub fn expected(
     graph: &Graph,
     multipliers: &[i32],
     length: usize,
-) -> BoundReply {
-    let (number, bound, out) = match tree::call(law, method, graph, multipliers, length) {
-        Ok(Some(tree)) => (0, Some(tree.bound), Some(tree.edges)),
-        Ok(None) => (NONE, None, None),
-        Err(refusal) => (refusal.number, None, None),
+) -> Reply {
+    let (said, out) = match tree::call(law, method, graph, multipliers, length) {
+        Ok(Some(tree)) => (bound(tree.bound), Some(Hex(tree.edges))),
+        Ok(None) => (only(NONE), None),
+        Err(refusal) => (only(refusal.number), None),
     };
-    BoundReply {
-        number,
-        bound,
+    Reply {
+        said,
         out,
         margins_kept: true,
     }

@@ -9,11 +9,12 @@ use crate::document::machine::{self, Answer, Call, Machine};
 use crate::document::rulings::{self, BAR, FORCE, KEEP};
 use crate::document::tree::{self, Method};
 use crate::document::{chart, Refusal};
+use crate::ffi::by_value;
 use crate::generate;
-use crate::planner::{self, Edge, Mark, Progress, Ruled, Ruling, Search, Told, Tree, Verdict};
 use crate::random::Random;
-use crate::record::Record;
+use crate::record::{Record, SIZE};
 use crate::report::{hex, Outcome, Suite, Tally};
+use planner::{Edge, Mark, Progress, Ruled, Ruling, Search, Settings, Told, Tree, Verdict};
 
 pub const SUITE: Suite = Suite {
     name: "wrapper",
@@ -39,7 +40,7 @@ fn run(law: &Law, tally: &mut Tally) -> Outcome {
     for _ in 0..2_000 {
         searches(law, tally, random)?;
     }
-    too_many_edges(tally)
+    too_many(tally)
 }
 
 fn mark(byte: u8) -> Mark {
@@ -50,22 +51,24 @@ fn mark(byte: u8) -> Mark {
     }
 }
 
-/// The graph as the wrapper has it; none where it has no way to say it.
-fn wrapped(graph: &Graph) -> Option<planner::Graph> {
+/// The graph made of its edges, as a user makes it, and its edges again. Edges cannot say what breaks the rules of marks and sizes.
+fn edges(tally: &mut Tally, graph: &Graph) -> Outcome {
     if graph.m > PLACES || graph.marks().iter().any(|mark| *mark > 2) {
-        return None;
+        return Ok(());
     }
-    let edges: Vec<Edge> = graph
-        .edges()
-        .iter()
-        .map(|edge| Edge {
-            a: edge.a,
-            b: edge.b,
-            cost: edge.cost,
-            mark: mark(edge.mark),
-        })
-        .collect();
-    Some(planner::Graph::from_edges(graph.n, &edges))
+    let edge = |edge: &graph::Edge| Edge {
+        a: edge.a,
+        b: edge.b,
+        cost: edge.cost,
+        mark: mark(edge.mark),
+    };
+    let edges: Vec<Edge> = graph.edges().iter().map(edge).collect();
+    let input = || format!("{graph:?}");
+    let made = planner::Graph::from_edges(graph.n, &edges);
+    let expected = by_value(&Graph::from_edges(graph.n, &graph.edges()));
+    tally.compare("made of edges", input, &expected, &made)?;
+    let again = (made.vertices(), made.edges());
+    tally.compare("the edges again", input, &(graph.n, edges), &again)
 }
 
 fn refusal(refusal: Refusal) -> planner::Refusal {
@@ -79,12 +82,12 @@ fn files(law: &Law, tally: &mut Tally) -> Outcome {
     every_file(&mut |case, bytes, _| {
         let read = chart::read(law, bytes);
         let expected = match &read {
-            Ok(graph) => Ok(wrapped(graph)),
+            Ok(graph) => Ok(by_value(graph)),
             Err(refused) => Err(refusal(*refused)),
         };
         let got = planner::Graph::read(bytes);
         let input = || hex(bytes);
-        tally.compare(case, input, &expected, &got.clone().map(Some))?;
+        tally.compare(case, input, &expected, &got)?;
         if let (Ok(graph), Ok(got)) = (read, got) {
             let expected = chart::write(law, &graph, 8 + 12 * graph.m).map_err(refusal);
             tally.compare("written", input, &expected, &got.write())?;
@@ -138,9 +141,8 @@ fn expected_rulings(law: &Law, given: &Arguments) -> Result<Ruled, planner::Refu
 fn trees(law: &Law, tally: &mut Tally, random: &mut Random, wrong: bool) -> Outcome {
     let small = random.one_in(2);
     let given = arguments(random, small, wrong);
-    let Some(graph) = wrapped(&given.graph) else {
-        return Ok(());
-    };
+    edges(tally, &given.graph)?;
+    let graph = by_value(&given.graph);
     let (multipliers, ceiling) = (&given.multipliers, given.ceiling);
     let input = || {
         let graph = &given.graph;
@@ -156,7 +158,7 @@ fn trees(law: &Law, tally: &mut Tally, random: &mut Random, wrong: bool) -> Outc
 
 /// What the wrapper's call on a search must answer, in one type for all five.
 #[derive(PartialEq, Eq, Debug)]
-enum Said {
+pub enum Said {
     Accepted,
     Ran(Progress),
     Told(Told),
@@ -183,8 +185,8 @@ fn said(answer: Answer) -> Result<Said, planner::Refusal> {
     })
 }
 
-fn answer(search: &mut Search, call: &Call) -> Option<Result<Said, planner::Refusal>> {
-    Some(match call {
+pub fn answer(search: &mut Search, call: &Call) -> Result<Said, planner::Refusal> {
+    match call {
         Call::Open {
             graph,
             multipliers,
@@ -192,40 +194,26 @@ fn answer(search: &mut Search, call: &Call) -> Option<Result<Said, planner::Refu
             sweeps,
             step,
         } => {
-            let graph = wrapped(graph)?;
-            let opened = search.open(&graph, multipliers, *ceiling, *sweeps, *step);
+            let settings = Settings {
+                ceiling: *ceiling,
+                sweeps: *sweeps,
+                step: *step,
+            };
+            let opened = search.open(&by_value(graph), multipliers, settings);
             opened.map(|()| Said::Accepted)
         }
         Call::Run { budget } => search.run(*budget).map(Said::Ran),
         Call::Tell => search.tell().map(Said::Told),
         Call::Show { .. } => search.show().map(Said::Shown),
         Call::Close => search.close().map(|()| Said::Accepted),
-    })
+    }
 }
 
 /// The wrapper's record as the tests have it.
 fn parts(record: &planner::Record) -> Record {
-    let edge = |edge: &Edge| graph::Edge {
-        a: edge.a,
-        b: edge.b,
-        cost: edge.cost,
-        mark: edge.mark as u8,
-    };
-    let edges: Vec<graph::Edge> = record.graph.edges().iter().map(edge).collect();
-    Record {
-        open: record.open,
-        graph: Graph::from_edges(record.graph.vertices(), &edges),
-        multipliers: record.multipliers,
-        ceiling: record.ceiling,
-        sweeps: record.sweeps,
-        step: record.step,
-        upper: record.upper,
-        depth: record.depth,
-        stack: record.stack.to_vec(),
-        has_best: record.has_best,
-        best: record.best,
-        count: record.count,
-    }
+    // SAFETY: a record has no bytes but those of its numbers.
+    let bytes = unsafe { std::mem::transmute::<planner::Record, [u8; SIZE]>(record.clone()) };
+    Record::of_bytes(&bytes)
 }
 
 /// One list of calls; and at its end a record that fails its check.
@@ -237,9 +225,7 @@ fn searches(law: &Law, tally: &mut Tally, random: &mut Random) -> Outcome {
     let made = Record::made_fresh();
     tally.compare("fresh", fresh, &made, &parts(search.record()))?;
     for (i, call) in list.iter().enumerate() {
-        let Some(got) = answer(&mut search, call) else {
-            continue;
-        };
+        let got = answer(&mut search, call);
         let m = machine.search.as_ref().map_or(0, |search| search.graph.m);
         let expected = said(match call {
             Call::Show { .. } => machine.call(&Call::Show { length: m }),
@@ -261,22 +247,33 @@ fn searches(law: &Law, tally: &mut Tally, random: &mut Random) -> Outcome {
     tally.compare("24", input, &Err(unfit), &refused)
 }
 
-/// More edges than a graph has places for are refused by every call, 191 or 100,000 of them.
-fn too_many_edges(tally: &mut Tally) -> Outcome {
+/// More edges than a graph has places for, or more vertices, are refused by every call, also where their last byte would do.
+fn too_many(tally: &mut Tally) -> Outcome {
     let unfit = planner::Refusal {
         number: 15,
         place: 0,
     };
-    for m in [PLACES + 1, 1_000, 100_000] {
-        let graph = planner::Graph::from_edges(20, &vec![Edge::free(1, 2, 0); m]);
+    let settings = Settings {
+        ceiling: 0,
+        sweeps: 0,
+        step: 0,
+    };
+    for (n, m) in [
+        (20, PLACES + 1),
+        (20, 256),
+        (20, 257),
+        (20, 100_000),
+        (260, 1),
+    ] {
+        let graph = planner::Graph::from_edges(n, &vec![Edge::free(1, 2, 0); m]);
         let got = [
             graph.check().err(),
             graph.write().err(),
             planner::tree(&graph, &[0; 20]).err(),
             planner::rule(&graph, &[0; 20], 0).err(),
-            Search::fresh().open(&graph, &[0; 20], 0, 0, 0).err(),
+            Search::fresh().open(&graph, &[0; 20], settings).err(),
         ];
-        let input = || format!("{m} edges");
+        let input = || format!("{n} vertices, {m} edges");
         tally.compare("15", input, &[Some(unfit); 5], &got)?;
     }
     Ok(())

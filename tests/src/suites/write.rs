@@ -4,7 +4,7 @@ use crate::bends;
 use crate::document::chart;
 use crate::document::graph::Graph;
 use crate::document::law::Law;
-use crate::ffi::{write, WriteReply};
+use crate::ffi::{only, refused, write, Reply};
 use crate::generate;
 use crate::random::Random;
 use crate::report::{Hex, Outcome, Suite, Tally};
@@ -22,14 +22,13 @@ pub const SUITE: Suite = Suite {
 };
 
 /// What the call must answer.
-pub fn expected(law: &Law, graph: &Graph, length: usize) -> WriteReply {
-    let (number, place, out) = match chart::write(law, graph, length) {
-        Ok(bytes) => (0, 0, Some(Hex(bytes))),
-        Err(refusal) => (refusal.number, refusal.place, None),
+pub fn expected(law: &Law, graph: &Graph, length: usize) -> Reply {
+    let (said, out) = match chart::write(law, graph, length) {
+        Ok(bytes) => (only(0), Some(Hex(bytes))),
+        Err(refusal) => (refused(refusal), None),
     };
-    WriteReply {
-        number,
-        place,
+    Reply {
+        said,
         out,
         margins_kept: true,
     }

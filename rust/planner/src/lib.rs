@@ -1,0 +1,390 @@
+//! The proved route planner for Rust: what include/planner.h is for C, without `unsafe`.
+//!
+//! Every call takes any input, answers and ends. What is wrong is refused by document 01's numbers ([`Refusal`]) and changes nothing;
+//! nothing panics. The crate links the library itself: name it by path, and run `make` before.
+//!
+//! ```
+//! use planner::{Edge, Graph, Search, Settings, Verdict};
+//!
+//! let graph = Graph::from_edges(3, &[Edge::free(1, 2, 4), Edge::free(1, 3, 3), Edge::free(2, 3, 2)]);
+//! let mut search = Search::fresh();
+//! search.open(&graph, &[0; 3], Settings { ceiling: 100, sweeps: 0, step: 0 })?;
+//! search.run(1_000_000)?;
+//! assert_eq!(search.tell()?.verdict, Verdict::Best(9));
+//! assert_eq!(search.show()?, [true; 3]);
+//! # Ok::<(), planner::Refusal>(())
+//! ```
+
+pub mod raw;
+
+pub use raw::{Graph, Record, Settings};
+
+use raw::{Said, EDGES};
+use std::fmt;
+
+/// Document 01's answer to a wrong call: a number and a place, which is 0 but in reading.
+#[derive(Clone, Copy, PartialEq, Eq, Debug)]
+pub struct Refusal {
+    pub number: u32,
+    pub place: u64,
+}
+
+impl Refusal {
+    /// What the number means.
+    pub fn meaning(&self) -> &'static str {
+        match self.number {
+            1 => "a file under 8 bytes",
+            2 => "n is not 3 to 20",
+            3 => "a zero byte of the header is not zero",
+            4 => "over 1,000 records, or a length that is not 8 + 12 for each record",
+            5 => "the head or a next is above the number of records",
+            6 => "a record was met before on the chain",
+            7 => "not 1 <= a < b <= n",
+            8 => "a mark above 2, or a zero byte of the record is not zero",
+            9 => "a cost out of range",
+            10 => "a pair of vertices was met before",
+            11 => "a list of wrong length",
+            12 => "a multiplier out of range, or the first is not 0",
+            13 => "a ceiling out of range",
+            14 => "sweeps or step out of range",
+            15 => "a graph that breaks the rules for edges and marks",
+            20 => "no search is open",
+            21 => "a search is open",
+            22 => "the search is going on",
+            23 => "the search found no tour",
+            24 => "the record fails its own check",
+            _ => "a number that document 01 does not have",
+        }
+    }
+}
+
+impl fmt::Display for Refusal {
+    fn fmt(&self, f: &mut fmt::Formatter) -> fmt::Result {
+        write!(f, "refused {} at {}: ", self.number, self.place)?;
+        f.write_str(self.meaning())
+    }
+}
+
+impl std::error::Error for Refusal {}
+
+impl Said {
+    fn refusal(self) -> Refusal {
+        Refusal {
+            number: self.number,
+            place: self.place,
+        }
+    }
+
+    /// The answer of a call that is accepted by 0 alone.
+    fn accepted(self) -> Result<Said, Refusal> {
+        match self.number {
+            raw::ACCEPTED => Ok(self),
+            _ => Err(self.refusal()),
+        }
+    }
+}
+
+#[derive(Clone, Copy, PartialEq, Eq, Debug)]
+pub enum Mark {
+    Free,
+    Required,
+    Excluded,
+}
+
+impl Mark {
+    fn of(byte: u8) -> Mark {
+        match byte {
+            0 => Mark::Free,
+            1 => Mark::Required,
+            _ => Mark::Excluded,
+        }
+    }
+}
+
+/// An edge between the vertices a < b, numbered from 1.
+#[derive(Clone, Copy, PartialEq, Eq, Debug)]
+pub struct Edge {
+    pub a: u8,
+    pub b: u8,
+    pub cost: i32,
+    pub mark: Mark,
+}
+
+impl Edge {
+    /// A free edge.
+    pub fn free(a: u8, b: u8, cost: i32) -> Edge {
+        let mark = Mark::Free;
+        Edge { a, b, cost, mark }
+    }
+}
+
+impl Graph {
+    /// The graph with these edges, in this order. Of more than 190 edges, or n above 255, comes a graph that every call refuses.
+    pub fn from_edges(n: usize, edges: &[Edge]) -> Graph {
+        let byte = |count: usize| u8::try_from(count).unwrap_or(u8::MAX);
+        let mut graph = Graph {
+            cost: [0; EDGES],
+            a: [0; EDGES],
+            b: [0; EDGES],
+            mark: [0; EDGES],
+            n: byte(n),
+            m: byte(edges.len()),
+        };
+        for (k, edge) in edges.iter().take(EDGES).enumerate() {
+            graph.a[k] = edge.a;
+            graph.b[k] = edge.b;
+            graph.cost[k] = edge.cost;
+            graph.mark[k] = edge.mark as u8;
+        }
+        graph
+    }
+
+    /// How many vertices.
+    pub fn vertices(&self) -> usize {
+        self.n.into()
+    }
+
+    /// The edges, in order; at most 190. A mark above 2, which every call refuses, counts as excluded here.
+    pub fn edges(&self) -> Vec<Edge> {
+        let edge = |k: usize| Edge {
+            a: self.a[k],
+            b: self.b[k],
+            cost: self.cost[k],
+            mark: Mark::of(self.mark[k]),
+        };
+        (0..self.places()).map(edge).collect()
+    }
+
+    /// How many places are in use.
+    fn places(&self) -> usize {
+        EDGES.min(self.m.into())
+    }
+
+    /// Whether the graph keeps to the rules: 15 where it does not.
+    pub fn check(&self) -> Result<(), Refusal> {
+        // SAFETY: the call takes a value.
+        let said = unsafe { raw::planner_check(*self) };
+        said.accepted().map(|_| ())
+    }
+
+    /// The graph in the bytes of a chart file; 1 to 10.
+    pub fn read(bytes: &[u8]) -> Result<Graph, Refusal> {
+        let mut graph = Graph::from_edges(0, &[]);
+        // SAFETY: `bytes` has the length that is passed with it and is only read; `graph` is borrowed here alone.
+        let said = unsafe { raw::planner_read(&mut graph, bytes.as_ptr(), bytes.len()) };
+        said.accepted().map(|_| graph)
+    }
+
+    /// The graph's chart file; 15.
+    pub fn write(&self) -> Result<Vec<u8>, Refusal> {
+        let mut out = vec![0; 8 + 12 * self.places()];
+        // SAFETY: `out` has the length that is passed with it and is borrowed here alone.
+        let said = unsafe { raw::planner_write(*self, out.as_mut_ptr(), out.len()) };
+        said.accepted().map(|_| out)
+    }
+}
+
+/// The least 1-tree.
+#[derive(Clone, PartialEq, Eq, Debug)]
+pub enum Tree {
+    /// The graph has no 1-tree.
+    None,
+    /// Its bound, and for each edge whether it is in.
+    Found { bound: i64, edges: Vec<bool> },
+}
+
+/// What a ceiling does to an edge.
+#[derive(Clone, Copy, PartialEq, Eq, Debug)]
+pub enum Ruling {
+    Keep,
+    Force,
+    Bar,
+    /// It was required before.
+    Required,
+    /// It was excluded before.
+    Excluded,
+}
+
+impl Ruling {
+    fn of(byte: u8) -> Ruling {
+        match byte {
+            0 => Ruling::Keep,
+            1 => Ruling::Force,
+            2 => Ruling::Bar,
+            3 => Ruling::Required,
+            _ => Ruling::Excluded,
+        }
+    }
+}
+
+/// What a ceiling does to a graph.
+#[derive(Clone, PartialEq, Eq, Debug)]
+pub enum Ruled {
+    /// No 1-tree has a bound at or below the ceiling.
+    Infeasible,
+    /// The least bound, and a ruling for each edge.
+    Within { bound: i64, rulings: Vec<Ruling> },
+}
+
+/// The least 1-tree of a graph under n multipliers; 15, 11, 12.
+pub fn tree(graph: &Graph, multipliers: &[i32]) -> Result<Tree, Refusal> {
+    let mut out = vec![0; graph.places()];
+    // SAFETY: `multipliers` and `out` have the lengths that are passed with them; only `out` is written, and it is borrowed here alone.
+    let said = unsafe {
+        raw::planner_tree(
+            *graph,
+            multipliers.as_ptr(),
+            multipliers.len(),
+            out.as_mut_ptr(),
+            out.len(),
+        )
+    };
+    if said.number == raw::NONE {
+        return Ok(Tree::None);
+    }
+    let bound = said.accepted()?.value;
+    let edges = bits(&out);
+    Ok(Tree::Found { bound, edges })
+}
+
+/// What a ceiling rules for each edge, under n multipliers; 15, 11, 12, 13.
+pub fn rule(graph: &Graph, multipliers: &[i32], ceiling: i64) -> Result<Ruled, Refusal> {
+    let mut out = vec![0; graph.places()];
+    // SAFETY: as in `tree`.
+    let said = unsafe {
+        raw::planner_rule(
+            *graph,
+            multipliers.as_ptr(),
+            multipliers.len(),
+            ceiling,
+            out.as_mut_ptr(),
+            out.len(),
+        )
+    };
+    if said.number == raw::NONE {
+        return Ok(Ruled::Infeasible);
+    }
+    let bound = said.accepted()?.value;
+    let rulings = out.iter().map(|byte| Ruling::of(*byte)).collect();
+    Ok(Ruled::Within { bound, rulings })
+}
+
+fn bits(bytes: &[u8]) -> Vec<bool> {
+    bytes.iter().map(|byte| *byte == 1).collect()
+}
+
+/// How far a run came; both with the number of nodes opened since the opening.
+#[derive(Clone, Copy, PartialEq, Eq, Debug)]
+pub enum Progress {
+    GoingOn { nodes: u64 },
+    Finished { nodes: u64 },
+}
+
+/// What a search has to say of the cheapest tour.
+#[derive(Clone, Copy, PartialEq, Eq, Debug)]
+pub enum Verdict {
+    GoingOn,
+    /// No tour is at or below the ceiling.
+    NoTour,
+    /// The cost of the cheapest.
+    Best(i64),
+}
+
+/// The verdict, and the number of nodes opened.
+#[derive(Clone, Copy, PartialEq, Eq, Debug)]
+pub struct Told {
+    pub verdict: Verdict,
+    pub nodes: u64,
+}
+
+/// A search for the cheapest tour. It owns its record, 5,824 bytes on the heap.
+#[derive(Clone, Debug)]
+pub struct Search {
+    record: Box<Record>,
+}
+
+impl Default for Search {
+    fn default() -> Search {
+        Search::fresh()
+    }
+}
+
+impl Search {
+    /// No search is open.
+    pub fn fresh() -> Search {
+        // SAFETY: the call takes nothing.
+        let record = unsafe { raw::planner_fresh() };
+        Search::from_record(Box::new(record))
+    }
+
+    /// The search that a record stands for, which may hold anything.
+    pub fn from_record(record: Box<Record>) -> Search {
+        Search { record }
+    }
+
+    /// The record: whoever stores a search stores this.
+    pub fn record(&self) -> &Record {
+        &self.record
+    }
+
+    /// Opens a search of a graph with n multipliers; 24, 21, 15, 11, 12, 13, 14.
+    pub fn open(
+        &mut self,
+        graph: &Graph,
+        multipliers: &[i32],
+        settings: Settings,
+    ) -> Result<(), Refusal> {
+        // SAFETY: the record is borrowed here alone; `multipliers` has the length that is passed with it and is only read.
+        let said = unsafe {
+            raw::planner_open(
+                &mut *self.record,
+                *graph,
+                multipliers.as_ptr(),
+                multipliers.len(),
+                settings,
+            )
+        };
+        said.accepted().map(|_| ())
+    }
+
+    /// Opens at most `budget` nodes; 24, 20.
+    pub fn run(&mut self, budget: u64) -> Result<Progress, Refusal> {
+        // SAFETY: the record is borrowed here alone.
+        let said = unsafe { raw::planner_run(&mut *self.record, budget) };
+        let nodes = said.nodes;
+        match said.number {
+            raw::GOING_ON => Ok(Progress::GoingOn { nodes }),
+            raw::FINISHED => Ok(Progress::Finished { nodes }),
+            _ => Err(said.refusal()),
+        }
+    }
+
+    /// The verdict; 24, 20.
+    pub fn tell(&mut self) -> Result<Told, Refusal> {
+        // SAFETY: the record is borrowed here alone.
+        let said = unsafe { raw::planner_tell(&mut *self.record) };
+        let verdict = match said.number {
+            raw::GOING_ON => Verdict::GoingOn,
+            raw::NO_TOUR => Verdict::NoTour,
+            raw::BEST => Verdict::Best(said.value),
+            _ => return Err(said.refusal()),
+        };
+        let nodes = said.nodes;
+        Ok(Told { verdict, nodes })
+    }
+
+    /// For each edge whether the cheapest tour has it; 24, 20, 22, 23.
+    pub fn show(&mut self) -> Result<Vec<bool>, Refusal> {
+        let mut out = vec![0; self.record.graph.places()];
+        // SAFETY: the record and `out` are borrowed here alone; `out` has the length that is passed with it.
+        let said = unsafe { raw::planner_show(&mut *self.record, out.as_mut_ptr(), out.len()) };
+        said.accepted().map(|_| bits(&out))
+    }
+
+    /// Ends the search: the record is fresh again; 24, 20.
+    pub fn close(&mut self) -> Result<(), Refusal> {
+        // SAFETY: the record is borrowed here alone.
+        let said = unsafe { raw::planner_close(&mut *self.record) };
+        said.accepted().map(|_| ())
+    }
+}

@@ -1,0 +1,121 @@
+//! The library's types and calls as C sees them, in the order of include/planner.h; what each promises for every input is in
+//! crates/ffi/specs. The safe functions of this crate call these.
+
+/// The most vertices.
+pub const VERTICES: usize = 20;
+/// The most edges: every pair of 20 vertices.
+pub const EDGES: usize = 190;
+/// The most nodes that wait in a search.
+pub const NODES: usize = VERTICES + 2;
+
+/// A call is accepted. No refusal has this number or one of those below.
+pub const ACCEPTED: u32 = 0;
+/// `planner_tree`: no tree; `planner_rule`: no 1-tree is within the ceiling.
+pub const NONE: u32 = 1000;
+/// `planner_run`, `planner_tell`.
+pub const GOING_ON: u32 = 1001;
+/// `planner_run`.
+pub const FINISHED: u32 = 1002;
+/// `planner_tell`: finished, and no tour is within the ceiling.
+pub const NO_TOUR: u32 = 1003;
+/// `planner_tell`: finished, and the best cost is told.
+pub const BEST: u32 = 1004;
+
+/// What a call answers. A field without a value is 0.
+#[repr(C)]
+#[derive(Clone, Copy, PartialEq, Eq, Debug)]
+pub struct Said {
+    pub number: u32,
+    pub place: u64,
+    pub value: i64,
+    pub nodes: u64,
+}
+
+/// Vertices 1 to n and edges 1 to m; edge k stands at place k - 1 and joins a and b. Marks: 0 free, 1 required, 2 excluded. It may hold
+/// anything: a call refuses by 15 what breaks the rules. What stands past m counts for nothing.
+#[repr(C)]
+#[derive(Clone, Copy, PartialEq, Eq, Debug)]
+pub struct Graph {
+    pub cost: [i32; EDGES],
+    pub a: [u8; EDGES],
+    pub b: [u8; EDGES],
+    pub mark: [u8; EDGES],
+    pub n: u8,
+    pub m: u8,
+}
+
+/// What an opening takes beside the graph and the multipliers.
+#[repr(C)]
+#[derive(Clone, Copy, PartialEq, Eq, Debug)]
+pub struct Settings {
+    pub ceiling: i64,
+    pub sweeps: u32,
+    pub step: u32,
+}
+
+/// The record that the calls on a search work on (docs/RECORD.md). With contents that fail its check every call is refused 24.
+#[repr(C)]
+#[derive(Clone, PartialEq, Eq, Debug)]
+pub struct Record {
+    pub settings: Settings,
+    pub upper: i64,
+    pub count: u64,
+    pub depth: usize,
+    pub graph: Graph,
+    pub multipliers: [i32; VERTICES],
+    pub stack: [u8; NODES * EDGES],
+    pub best: [u8; EDGES],
+    pub open: u8,
+    pub has_best: u8,
+}
+
+/// Holds a type to the header: its size, and where each field stands.
+macro_rules! layout {
+    ($kind:ty, $size:expr, $($field:ident at $offset:expr),*) => {
+        const _: () = assert!(std::mem::size_of::<$kind>() == $size);
+        $(const _: () = assert!(std::mem::offset_of!($kind, $field) == $offset);)*
+    };
+}
+
+layout!(Said, 32, number at 0, place at 8, value at 16, nodes at 24);
+layout!(Graph, 1_332, cost at 0, a at 760, b at 950, mark at 1_140, n at 1_330, m at 1_331);
+layout!(Settings, 16, ceiling at 0, sweeps at 8, step at 12);
+layout!(
+    Record, 5_824,
+    settings at 0, upper at 16, count at 24, depth at 32, graph at 40, multipliers at 1_372, stack at 1_452, best at 5_632, open at 5_822,
+    has_best at 5_823
+);
+
+// A pointer must lead to as much memory as the call is told, also where the length is 0, and no two that are lent may overlap.
+extern "C" {
+    pub fn planner_check(g: Graph) -> Said;
+    pub fn planner_read(g: *mut Graph, bytes: *const u8, length: usize) -> Said;
+    pub fn planner_write(g: Graph, out: *mut u8, length: usize) -> Said;
+    pub fn planner_tree(
+        g: Graph,
+        multipliers: *const i32,
+        multipliers_length: usize,
+        out: *mut u8,
+        length: usize,
+    ) -> Said;
+    pub fn planner_rule(
+        g: Graph,
+        multipliers: *const i32,
+        multipliers_length: usize,
+        ceiling: i64,
+        out: *mut u8,
+        length: usize,
+    ) -> Said;
+    pub fn planner_fresh() -> Record;
+    pub fn planner_open(
+        s: *mut Record,
+        g: Graph,
+        multipliers: *const i32,
+        multipliers_length: usize,
+        settings: Settings,
+    ) -> Said;
+    pub fn planner_run(s: *mut Record, budget: u64) -> Said;
+    pub fn planner_tell(s: *mut Record) -> Said;
+    pub fn planner_show(s: *mut Record, out: *mut u8, length: usize) -> Said;
+    pub fn planner_close(s: *mut Record) -> Said;
+}

@@ -1,0 +1,165 @@
+/* What C and C++ see of include/planner.h: the sizes, where each field stands, and that calls fill every field which they should. It prints
+ * how much it compared. Build and run: see .ci/run. */
+#include "planner.h"
+#include <stdio.h>
+#include <string.h>
+
+#ifdef __cplusplus
+#define CLAIM(claim) static_assert(claim, #claim)
+#else
+#define CLAIM(claim) _Static_assert(claim, #claim)
+#endif
+#define AT(kind, field, offset) CLAIM(offsetof(kind, field) == (offset))
+
+CLAIM(sizeof(planner_said) == 32);
+AT(planner_said, number, 0);
+AT(planner_said, place, 8);
+AT(planner_said, value, 16);
+AT(planner_said, nodes, 24);
+
+CLAIM(sizeof(planner_graph) == 1332);
+AT(planner_graph, cost, 0);
+AT(planner_graph, a, 760);
+AT(planner_graph, b, 950);
+AT(planner_graph, mark, 1140);
+AT(planner_graph, n, 1330);
+AT(planner_graph, m, 1331);
+
+CLAIM(sizeof(planner_settings) == 16);
+AT(planner_settings, ceiling, 0);
+AT(planner_settings, sweeps, 8);
+AT(planner_settings, step, 12);
+
+CLAIM(sizeof(planner_search) == 5824);
+AT(planner_search, settings, 0);
+AT(planner_search, upper, 16);
+AT(planner_search, count, 24);
+AT(planner_search, depth, 32);
+AT(planner_search, graph, 40);
+AT(planner_search, multipliers, 1372);
+AT(planner_search, stack, 1452);
+AT(planner_search, best, 5632);
+AT(planner_search, open, 5822);
+AT(planner_search, has_best, 5823);
+
+static int passed, failed;
+
+static void expect(const char *what, int holds) {
+    if (holds) {
+        passed++;
+        return;
+    }
+    failed++;
+    printf("layout: %s\n", what);
+}
+
+static void said_so(const char *what, planner_said said, uint32_t number, uint64_t place, int64_t value, uint64_t nodes) {
+    expect(what, said.number == number && said.place == place && said.value == value && said.nodes == nodes);
+}
+
+/* Whether these are the bytes of a record from an offset on. */
+static int stands(const planner_search *s, size_t offset, const void *bytes, size_t length) {
+    return memcmp((const unsigned char *)s + offset, bytes, length) == 0;
+}
+
+/* A graph of 7 vertices with all edges but one: different costs, and marks of all three kinds. Its file goes into bytes. */
+enum { N = 7, M = 20, FILE_LENGTH = 8 + 12 * M };
+
+static planner_graph sample(uint8_t bytes[FILE_LENGTH]) {
+    planner_graph g;
+    int k = 0;
+    memset(&g, 0, sizeof g);
+    memset(bytes, 0, FILE_LENGTH);
+    for (int a = 1; a <= N; a++) {
+        for (int b = a + 1; b <= N && k < M; b++, k++) {
+            g.cost[k] = 100000 + (a * 7919 + b * 104729) % 5000 + k;
+            g.a[k] = (uint8_t)a;
+            g.b[k] = (uint8_t)b;
+            g.mark[k] = k == 3 ? 1 : k == 4 ? 2 : 0;
+            uint8_t *r = bytes + 8 + 12 * k;
+            r[0] = g.a[k];
+            r[1] = g.b[k];
+            r[2] = g.mark[k];
+            for (int i = 0; i < 4; i++) r[4 + i] = (uint8_t)(g.cost[k] >> (8 * i));
+            r[8] = (uint8_t)(k + 1 == M ? 0 : k + 2);
+        }
+    }
+    g.n = bytes[0] = N;
+    g.m = bytes[4] = M;
+    bytes[2] = 1;
+    return g;
+}
+
+/* Each field of a record of an open search, by name and at its offset; the marks of the waiting nodes are the caller's to judge. */
+static void record(const planner_search *s, const planner_graph *g, const int32_t *multipliers, planner_settings settings, int64_t upper,
+                   uint64_t count) {
+    int32_t padded[PLANNER_VERTICES] = {0};
+    uint8_t zeros[PLANNER_NODES * PLANNER_EDGES] = {0};
+    size_t depth = s->depth;
+    memcpy(padded, multipliers, N * sizeof *multipliers);
+    expect("settings", stands(s, 0, &settings, sizeof settings) && s->settings.ceiling == settings.ceiling
+                           && s->settings.sweeps == settings.sweeps && s->settings.step == settings.step);
+    expect("upper", stands(s, 16, &upper, 8) && s->upper == upper);
+    expect("count", stands(s, 24, &count, 8) && s->count == count);
+    expect("depth", stands(s, 32, &depth, 8) && 0 < depth && depth <= N + 2);
+    expect("graph", stands(s, 40, g, sizeof *g));
+    expect("multipliers", stands(s, 1372, padded, sizeof padded));
+    expect("best past m", stands(s, 5632 + M, zeros, PLANNER_EDGES - M));
+    expect("open", stands(s, 5822, "\1", 1) && s->open == 1);
+    for (size_t p = 0; p < PLANNER_NODES; p++) {
+        const uint8_t *node = s->stack + PLANNER_EDGES * p;
+        size_t required = 0, used = p < depth ? M : 0;
+        for (size_t k = 0; k < used; k++) required += node[k] == 1;
+        expect("a node", stands(s, 1452 + PLANNER_EDGES * p, node, PLANNER_EDGES) && (p >= depth || required >= p));
+        expect("a node's unused places", memcmp(node + used, zeros, PLANNER_EDGES - used) == 0);
+    }
+}
+
+int main(void) {
+    static planner_search s, fresh;
+    static uint8_t bytes[FILE_LENGTH], out[FILE_LENGTH];
+    int32_t multipliers[N] = {0, 10, -20, 30, -40, 50, 60};
+    planner_settings settings = {5000000, 4, 370};
+    planner_graph g = sample(bytes), read;
+    planner_said said;
+    uint64_t nodes = 0;
+    int64_t cost = 0;
+
+    memset(&read, 0xa5, sizeof read);
+    said_so("read", planner_read(&read, bytes, FILE_LENGTH), 0, 0, 0, 0);
+    expect("the graph that was read", memcmp(&read, &g, sizeof g) == 0);
+    bytes[8 + 12 * 5] = 99;
+    said_so("a refusal's place", planner_read(&read, bytes, FILE_LENGTH), 7, 6, 0, 0);
+    expect("a refusal leaves the graph", memcmp(&read, &g, sizeof g) == 0);
+    said_so("check", planner_check(g), 0, 0, 0, 0);
+    said_so("write", planner_write(g, out, FILE_LENGTH), 0, 0, 0, 0);
+    bytes[8 + 12 * 5] = g.a[5];
+    expect("the file that was written", memcmp(out, bytes, FILE_LENGTH) == 0);
+
+    memset(&s, 0xa5, sizeof s);
+    s = planner_fresh();
+    expect("a fresh record is zero", memcmp(&s, &fresh, sizeof s) == 0);
+    said_so("open", planner_open(&s, g, multipliers, N, settings), 0, 0, 0, 0);
+    record(&s, &g, multipliers, settings, settings.ceiling, 0);
+    expect("the opening's node", s.depth == 1 && memcmp(s.stack, g.mark, sizeof g.mark) == 0);
+    while (s.depth > 0 && s.has_best == 0 && failed == 0) {
+        said = planner_run(&s, 1);
+        nodes++;
+        said_so("run", said, s.depth > 0 ? PLANNER_GOING_ON : PLANNER_FINISHED, 0, 0, nodes);
+    }
+
+    for (int k = 0; k < M; k++) cost += s.best[k] * g.cost[k];
+    record(&s, &g, multipliers, settings, cost - 1, nodes);
+    expect("an incumbent while nodes wait", s.depth > 0 && s.has_best == 1 && stands(&s, 5823, "\1", 1) && nodes > 1);
+    said_so("tell", planner_tell(&s), PLANNER_GOING_ON, 0, 0, nodes);
+    said = planner_run(&s, 1000000);
+    said_so("finished", said, PLANNER_FINISHED, 0, 0, s.count);
+    said_so("the best cost", planner_tell(&s), PLANNER_BEST, 0, s.upper + 1, s.count);
+    said_so("show", planner_show(&s, out, M), 0, 0, 0, 0);
+    expect("the tour", stands(&s, 5632, out, M) && s.depth == 0);
+    said_so("close", planner_close(&s), 0, 0, 0, 0);
+    expect("closed, a record is fresh", memcmp(&s, &fresh, sizeof s) == 0);
+
+    printf("layout: %d passed, %d failed\n", passed, failed);
+    return failed != 0;
+}

@@ -1,8 +1,6 @@
 //! Document 01's four-vertex sea: its least 1-tree, its rulings and its cheapest tour. Build and run: see README.
 
-use planner_tests::planner::{
-    rule, tree, Edge, Graph, Refusal, Ruled, Search, Told, Tree, Verdict,
-};
+use planner::{rule, tree, Edge, Graph, Refusal, Ruled, Search, Settings, Told, Tree, Verdict};
 
 fn line(numbers: impl Iterator<Item = u8>) -> String {
     numbers.map(|number| format!(" {number}")).collect()
@@ -27,8 +25,13 @@ fn main() -> Result<(), Refusal> {
         println!("rulings at 12:{}", line(rulings.iter().map(|x| *x as u8)));
     }
 
+    let settings = Settings {
+        ceiling: 12,
+        sweeps: 0,
+        step: 0,
+    };
     let mut search = Search::fresh();
-    search.open(&graph, &multipliers, 12, 0, 0)?;
+    search.open(&graph, &multipliers, settings)?;
     search.run(1_000_000)?;
     if let Told {
         verdict: Verdict::Best(cost),

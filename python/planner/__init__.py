@@ -1,0 +1,49 @@
+"""The proved route planner for Python: the cheapest closed tour of 3 to 20 vertices.
+
+    import planner
+    answer = planner.solve("examples/sea.txt")      # a file, or a planner.Graph
+    answer.cost, answer.tour, planner.order(graph, answer.tour)
+
+Every cost, ruling and refusal comes from proved calls of the library. A refusal is the exception Refused, with number, place and meaning;
+what is wrong with a text file is the exception Faults, a line a fault.
+"""
+from __future__ import annotations
+
+import os
+from collections.abc import Sequence
+
+from . import library as _library
+from . import search as _search
+from .faults import Faults
+from .formats import load, parse, save
+from .library import EXCLUDED, FREE, MARKS, REQUIRED, RULINGS, Edge, Graph, Ran, Refused, Rulings, Search, Told, Tree, check, read, write
+from .search import LONG, Answer, Progress, order
+
+Chart = Graph | str | os.PathLike[str]
+
+
+def graph_of(chart: Chart) -> Graph:
+    """A graph as it is, or the one in a file."""
+    return chart if isinstance(chart, Graph) else load(chart)
+
+
+def solve(chart: Chart, ceiling: int | None = None, nodes: int = LONG, progress: Progress | None = None) -> Answer:
+    """The cheapest tour, or that there is none (with a ceiling: none of at most so much), or that so many nodes did not decide it."""
+    return _search.solve(graph_of(chart), ceiling, nodes, progress)
+
+
+def tree(chart: Chart, multipliers: Sequence[int] | None = None) -> Tree | None:
+    """The least 1-tree, or None for 'no tree'."""
+    return _library.tree(graph_of(chart), multipliers)
+
+
+def rule(chart: Chart, ceiling: int, multipliers: Sequence[int] | None = None) -> Rulings | None:
+    """The rulings under a ceiling, or None for 'dead'."""
+    return _library.rule(graph_of(chart), ceiling, multipliers)
+
+
+__all__ = [
+    "EXCLUDED", "FREE", "MARKS", "REQUIRED", "RULINGS",
+    "Answer", "Edge", "Faults", "Graph", "Ran", "Refused", "Rulings", "Search", "Told", "Tree",
+    "check", "graph_of", "load", "order", "parse", "read", "rule", "save", "solve", "tree", "write",
+]  # fmt: skip

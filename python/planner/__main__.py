@@ -1,0 +1,6 @@
+"""python3 -m planner"""
+import sys
+
+from .commandline import main
+
+sys.exit(main())

@@ -1,0 +1,198 @@
+"""A script of calls, one answer a line: what a line says is sent to the library as it is, and the library judges it.
+
+One search record serves the whole script. Settings print nothing: the current chart ('sea', 'chart'), the dues, the length of the next list
+that is lent ('list'). Calls print one line: tree, rule, open, run, tell, show, close.
+"""
+from __future__ import annotations
+
+import re
+from collections.abc import Callable, Iterator
+from typing import IO
+
+from .faults import Faults, shown, whole_number
+from .formats import LONGEST, load
+from .library import (
+    BYTE, EXCLUDED, FREE, INT32, INT64, REQUIRED, UINT32, UINT64, Edge, Graph, Refused, Search, rule, tree,
+)  # fmt: skip
+from .output import Progress, complain, listed
+
+LEG = re.compile(r"([0-9]+)-([0-9]+):(-?[0-9]+)(?:([rs])|m([0-9]+))?")
+FORMS = {
+    "tree": "tree",
+    "rule": "rule CEILING",
+    "open": "open CEILING SWEEPS STEP",
+    "run": "run BUDGET",
+    "tell": "tell",
+    "show": "show",
+    "close": "close",
+}
+Answer = tuple[str, dict[str, object]]  # the line, and the same as fields
+
+
+class Script:
+    """The current settings and the search record; makes the calls."""
+
+    def __init__(self) -> None:
+        self.search = Search()
+        self.use(Graph(0))
+        self.settings: dict[str, Callable[[list[str]], None]] = {"sea": self.sea, "dues": self.set_dues, "list": self.set_list}
+        self.calls: dict[str, Callable[..., Answer]] = {name: getattr(self, name) for name in FORMS}
+
+    # Settings
+
+    def use(self, graph: Graph) -> None:
+        """A chart becomes the current one, and every other setting what it is at first."""
+        self.graph, self.dues = graph, [0] * graph.n
+        self.length: int | None = None
+
+    def sea(self, words: list[str]) -> None:
+        """The chart that a line says."""
+        if not words:
+            raise Faults("allowed is 'sea N LEG ..'")
+        n = whole_number(words[0], "number of buoys", BYTE)
+        graph = Graph(n, map(leg, words[1:]))
+        whole_number(str(graph.m), "number of legs", BYTE)
+        self.use(graph)
+
+    def chart(self, path: str) -> None:
+        """The chart in a file."""
+        if not path:
+            raise Faults("allowed is 'chart PATH'")
+        try:
+            self.use(load("./-" if path == "-" else path))  # standard input is the script's
+        except Refused as refused:
+            raise Faults(f"{shown(path)}: {refused}") from None
+        except Faults as faults:
+            more = len(faults.lines) - 1
+            raise Faults(faults.lines[0] + (f"; and {more} more" if more else "")) from None
+
+    def set_dues(self, words: list[str]) -> None:
+        """Dues, any number of them."""
+        self.dues = [whole_number(word, "due", INT32) for word in words]
+
+    def set_list(self, words: list[str]) -> None:
+        """The length of the next list that is lent."""
+        (word,) = taken(words, "list K")
+        self.length = whole_number(word, "length", UINT64)
+
+    def next_length(self) -> int:
+        """The length of the list for this call; a length said serves one call."""
+        length = self.graph.m if self.length is None else self.length
+        self.length = None
+        return length
+
+    # Calls
+
+    def tree(self) -> Answer:
+        """The least 1-tree."""
+        found = tree(self.graph, self.dues, self.next_length())
+        if found is None:
+            return "no tree", {"verdict": "no tree"}
+        return f"bound {found.bound} legs {listed(found.edges)}", {"bound": found.bound, "legs": found.edges}
+
+    def rule(self, ceiling: str) -> Answer:
+        """The rulings under a ceiling."""
+        number = whole_number(ceiling, "ceiling", INT64)
+        found = rule(self.graph, number, self.dues, self.next_length())
+        if found is None:
+            return "dead", {"verdict": "dead"}
+        return f"bound {found.bound} rulings {listed(found.rulings)}", {"bound": found.bound, "rulings": found.rulings}
+
+    def open(self, ceiling: str, sweeps: str, step: str) -> Answer:
+        """An opening."""
+        number = whole_number(ceiling, "ceiling", INT64)
+        self.search.open(self.graph, number, whole_number(sweeps, "sweeps", UINT32), whole_number(step, "step", UINT32), self.dues)
+        return "accepted", {"verdict": "accepted"}
+
+    def run(self, budget: str) -> Answer:
+        """A run."""
+        number, progress = whole_number(budget, "budget", UINT64), Progress()
+        try:
+            ran = self.search.run(number, progress)
+        finally:
+            progress.end()
+        verdict = "finished" if ran.finished else "going on"
+        return f"{verdict} nodes {ran.nodes}", {"verdict": verdict, "nodes": ran.nodes}
+
+    def tell(self) -> Answer:
+        """The verdict."""
+        told = self.search.tell()
+        if told.verdict == "cost":
+            return f"cost {told.cost} nodes {told.nodes}", {"verdict": "cost", "cost": told.cost, "nodes": told.nodes}
+        return f"{told.verdict} nodes {told.nodes}", {"verdict": told.verdict, "nodes": told.nodes}
+
+    def show(self) -> Answer:
+        """The best tour."""
+        tour = self.search.show(self.next_length())
+        return f"legs {listed(tour)}", {"legs": tour}
+
+    def close(self) -> Answer:
+        """Closing."""
+        self.search.close()
+        return "accepted", {"verdict": "accepted"}
+
+    # Lines
+
+    def take(self, line: str) -> Answer | None:
+        """The answer to one line, None where it says nothing; Faults where it cannot be read."""
+        words = line.split()
+        if not words or words[0].startswith("#"):
+            return None
+        name, *rest = words
+        if name == "chart":
+            self.chart(line.strip()[len(name) :].strip())
+            return None
+        if name in self.settings:
+            self.settings[name](rest)
+            return None
+        if name not in self.calls:
+            raise Faults(f"'{shown(name)}' is unknown; allowed are sea, chart, dues, list, {', '.join(FORMS)}")
+        try:
+            return self.calls[name](*taken(rest, FORMS[name]))
+        except Refused as refused:
+            fields = {"refused": refused.number, "place": refused.place, "meaning": refused.meaning}
+            return f"refused {refused.number} at {refused.place}", fields
+
+
+def taken(words: list[str], allowed: str) -> list[str]:
+    """The words behind a name, of which there must be as many as the form has."""
+    count = len(allowed.split()) - 1
+    if len(words) != count:
+        raise Faults(f"too {'many' if len(words) > count else 'few'} words; allowed is {allowed}")
+    return words
+
+
+def leg(word: str) -> Edge:
+    """A leg as the line 'sea' has it."""
+    found = LEG.fullmatch(word)
+    if not found:
+        raise Faults(f"'{shown(word)}' is no leg; allowed is A-B:COST, with r, s or mK behind it")
+    a, b, cost, kind, byte = found.groups()
+    mark = whole_number(byte, "mark", BYTE) if byte else {None: FREE, "r": REQUIRED, "s": EXCLUDED}[kind]
+    return Edge(whole_number(a, "buoy", BYTE), whole_number(b, "buoy", BYTE), whole_number(cost, "cost", INT32), mark)
+
+
+def lines_of(file: IO[bytes]) -> Iterator[bytes]:
+    """The lines of a script, each as soon as it is there; of one that is too long the beginning."""
+    while line := file.readline(LONGEST):
+        rest = line
+        while len(rest) == LONGEST and not rest.endswith(b"\n"):
+            rest = file.readline(LONGEST)
+        yield line
+
+
+def run_script(file: IO[bytes], answered: Callable[[int, str, Answer], None]) -> bool:
+    """Takes each line of a script, hands on each answer, and says whether every line could be read."""
+    script, sound = Script(), True
+    for number, line in enumerate(lines_of(file), 1):
+        text = line.decode("utf-8-sig" if number == 1 else "utf-8", "surrogateescape")
+        try:
+            if len(line) == LONGEST:
+                raise Faults(f"the line has {LONGEST} bytes or more")
+            answer = script.take(text)
+            if answer is not None:
+                answered(number, text.split()[0], answer)
+        except Faults as fault:
+            complain(f"error: line {number}: {fault}")
+            sound = False
+    return sound

@@ -1,0 +1,165 @@
+"""The command `planner`: what it takes, and how it ends: never with a traceback, and never with success where output is lost."""
+from __future__ import annotations
+
+import argparse
+import signal
+import sys
+import traceback
+from collections.abc import Callable, Sequence
+from pathlib import Path
+from typing import Any, NamedTuple, NoReturn
+
+from . import formats
+from .faults import Faults, shown, whole_number
+from .library import INT32, INT64, UINT64
+from .output import OutputLost, complain, say, silence
+from .search import LONG
+from .subcommands import LOST, WRONG, on_graph, run_calls, run_convert, run_draw, run_regrade, run_rule, run_solve, run_tree
+
+ABOUT = "The cheapest round of a sea of 3 to 20 buoys, every answer by proved calls of the library. docs/USING.md walks through all of it."
+STATUSES = "Exit status: 0 answered; 1 'none', 'no tree', 'dead' or a wrong record; 2 bad usage or refused; 3 undecided; 4 output lost."
+
+
+class Parser(argparse.ArgumentParser):
+    """A parser whose help is not lost without a word, and whose complaint is one line."""
+
+    def print_help(self, file: object = None) -> None:
+        """Help is an answer like others."""
+        say(self.format_help(), end="")
+
+    def error(self, message: str) -> NoReturn:
+        """The complaint, not long: it may hold words of the command line."""
+        text = "".join(letter if letter.isprintable() else "?" for letter in message)
+        complain(f"{self.prog}: {text if len(text) <= 160 else text[:158] + '..'}; see {self.prog} --help")
+        self.exit(WRONG)
+
+
+def number_of(what: str, allowed: range) -> Callable[[str], int]:
+    """Reads a number of the command line. Whatever fits the library's number type passes: the library refuses."""
+
+    def read(word: str) -> int:
+        """The number."""
+        try:
+            return whole_number(word, what, allowed)
+        except Faults as fault:
+            raise argparse.ArgumentTypeError(str(fault)) from None
+
+    return read
+
+
+def dues(text: str) -> list[int]:
+    """Dues of the command line: 0,0,1,-1."""
+    read = number_of("due", INT32)
+    return [read(word) for word in text.replace(",", " ").split()]
+
+
+class Command(NamedTuple):
+    """A subcommand: its name, what it does, in code and in words, its arguments, and an example."""
+
+    name: str
+    act: Callable[[argparse.Namespace], int]
+    meaning: str
+    arguments: dict[str, dict[str, Any]]
+    example: str
+
+
+FILE = {"file": {"metavar": "FILE", "help": "a table, a chart's bytes, CSV or TSPLIB, told by what stands in it; '-' is standard input"}}
+CEILING = {"metavar": "C", "type": number_of("ceiling", INT64)}
+MOST = {"metavar": "N", "type": number_of("nodes", UINT64), "default": LONG, "help": f"open at most so many nodes in one search ({LONG})"}
+DUES = {"--dues": {"metavar": "D,D,..", "type": dues, "help": "a due for each buoy, the first 0; zeros if not said"}}
+JSON = {"--json": {"action": "store_true", "help": "print one JSON object a line"}}
+
+COMMANDS = (
+    Command(
+        "solve", on_graph(run_solve), "the cheapest round, its cost and its legs",
+        {**FILE, "--ceiling": {**CEILING, "help": "only rounds that cost at most this"}, "--nodes": MOST, **JSON},
+        "solve examples/sea.txt",
+    ),
+    Command(
+        "rule", on_graph(run_rule), "what a ceiling forces and bars, leg by leg",
+        {**FILE, "--ceiling": {**CEILING, "required": True, "help": "the highest cost of interest"}, **DUES, **JSON},
+        "rule examples/four.txt --ceiling 12",
+    ),
+    Command(
+        "tree", on_graph(run_tree), "the cheapest 1-tree, its bound and its legs",
+        {**FILE, **DUES, **JSON},
+        "tree examples/four.txt --dues 0,0,1,-1",
+    ),
+    Command(
+        "regrade", run_regrade, "hold the recorded costs of a folder of charts to the library",
+        {
+            "folder": {"metavar": "FOLDER", "help": "charts, and costs.txt (lines 'NAME COST' or 'NAME none') or costs.csv (name,cost)"},
+            "--csv": {"action": "store_true", "help": "print CSV"}, "--nodes": MOST, **JSON,
+        },
+        "regrade examples/regrade",
+    ),
+    Command(
+        "convert", on_graph(run_convert), "write a sea in another form",
+        {
+            **FILE, "out": {"metavar": "OUT", "help": "the name's end says the form: .txt, .chart, .csv or .tsp; '-' is standard output"},
+            "--to": {"choices": formats.FORMS, "help": "the form, whatever the name"},
+        },
+        "convert examples/sea.txt sea.csv",
+    ),
+    Command(
+        "draw", on_graph(run_draw), "draw a sea with its cheapest round, as SVG",
+        {
+            **FILE, "out": {"metavar": "OUT", "nargs": "?", "default": "-", "help": "the file to write; standard output if not said"},
+            "--ceiling": {**CEILING, "help": "also show what this ceiling forces and bars"},
+            "--no-round": {"action": "store_true", "help": "leave the round out"}, "--nodes": MOST,
+        },
+        "draw examples/sea.txt sea.svg --ceiling 350",
+    ),
+    Command(
+        "calls", run_calls, "make the calls of a script, one answer a line",
+        {"script": {"metavar": "SCRIPT", "nargs": "?", "default": "-", "help": "the script; standard input if not said"}, **JSON},
+        "calls examples/refusals.calls",
+    ),
+)  # fmt: skip
+
+
+def parser() -> Parser:
+    """The whole command line."""
+    top = Parser(prog="planner", description=ABOUT, epilog=STATUSES)
+    added = top.add_subparsers(required=True, metavar="COMMAND")
+    for command in COMMANDS:
+        words = command.meaning[0].upper() + command.meaning[1:] + "."
+        example = f"Example: planner {command.example}"
+        one = added.add_parser(command.name, help=command.meaning, description=words, epilog=example, allow_abbrev=False)
+        one.set_defaults(act=command.act)
+        for name, how in command.arguments.items():
+            one.add_argument(name, **how)
+    return top
+
+
+def run(words: Sequence[str] | None) -> int:
+    """Does what the command line says; the status."""
+    if sys.stdout is None:
+        raise OutputLost("standard output", "closed")
+    try:
+        arguments = parser().parse_args(words)
+        status: int = arguments.act(arguments)
+        return status
+    except SystemExit as ended:
+        return ended.code if isinstance(ended.code, int) else WRONG
+    except Faults as faults:
+        complain(str(faults))
+        return WRONG
+
+
+def main(words: Sequence[str] | None = None) -> int:
+    """The command: never a traceback, and never success where output is lost."""
+    if signal.getsignal(signal.SIGINT) is signal.default_int_handler:
+        signal.signal(signal.SIGINT, signal.SIG_DFL)  # Ctrl-C ends the command by the signal, quietly
+    try:
+        status = run(words)
+    except OutputLost as lost:
+        complain(f"planner: {lost}" if str(lost) else "")
+        status = LOST
+    except Exception as error:  # a mistake in these lines, or no memory: said in one line too, with where it came up
+        place = traceback.extract_tb(error.__traceback__)[-1]
+        complain(f"planner: {type(error).__name__} at {Path(place.filename).name}:{place.lineno}: {shown(error)}")
+        status = WRONG
+    if status == LOST:
+        silence(sys.stdout)
+    return status

@@ -1,0 +1,369 @@
+"""The proved library by ctypes: its structs, its calls, and its refusals as exceptions.
+
+Names use the field's words (graph, vertex, edge, tour, multipliers); what is printed has the documents' (sea, buoy, leg, round, dues).
+Nothing here decides anything: whatever fits the library's number types is sent as it is, and the library refuses.
+"""
+from __future__ import annotations
+
+import ctypes
+import os
+from collections.abc import Callable, Iterable, Iterator, Mapping, Sequence
+from ctypes import POINTER, c_int32, c_int64, c_size_t, c_uint8, c_uint32, c_uint64
+from dataclasses import dataclass, field
+from functools import cache, cached_property
+from operator import index
+from pathlib import Path
+from typing import NamedTuple
+
+from .faults import Faults
+
+MOST_VERTICES, MOST_EDGES, MOST_NODES = 20, 190, 22  # the room that the library's structs have
+VERTICES = range(3, MOST_VERTICES + 1)
+COSTS = range(-1_000_000, 1_000_001)
+MULTIPLIERS = range(-1_000_000, 1_000_001)
+CEILINGS = range(-50_000_000, 50_000_001)
+SWEEPS, STEPS = range(16), range(10_001)
+HIGHEST_TOUR = MOST_VERTICES * COSTS[-1]
+FREE, REQUIRED, EXCLUDED = range(3)
+MARKS = ("free", "required", "struck")
+RULINGS = ("keep", "force", "bar", "required", "struck")
+
+BYTE, INT32, INT64 = range(2**8), range(-(2**31), 2**31), range(-(2**63), 2**63)
+UINT32, UINT64 = range(2**32), range(2**64)
+
+NONE, GOING_ON, FINISHED, NO_TOUR, BEST = range(1000, 1005)  # what a call answers that is no refusal
+MOST_LENT = 1 << 20  # bytes: no list as long as this has a right length, so that none is read or written
+PIECE = 1_000  # nodes: some hundredths of a second at 20 vertices
+
+MEANINGS = {
+    1: "under 8 bytes",
+    2: "n not 3 to 20",
+    3: "a header zero byte not zero",
+    4: "record count over 1,000, or length not 8 + 12 x record count",
+    5: "head or next above the record count",
+    6: "record met before",
+    7: "not 1 <= a < b <= n",
+    8: "mark above 2 or a zero byte not zero",
+    9: "cost out of range",
+    10: "pair met before",
+    11: "a list of wrong length",
+    12: "a due out of range, or the first not 0",
+    13: "ceiling out of range",
+    14: "sweeps or step out of range",
+    15: "a chart that breaks the rules of legs and marks",
+    20: "no hunt is open",
+    21: "a hunt is open already",
+    22: "show while the hunt is going on",
+    23: "show after 'none'",
+    24: "the record fails its check",
+}
+
+
+class Refused(Exception):
+    """Document 01's refusal: a number, a place, and what the number means."""
+
+    def __init__(self, number: int, place: int = 0):
+        self.number, self.place = number, place
+        self.meaning = MEANINGS.get(number, "not known here")
+        super().__init__(f"refused {number} at {place}: {self.meaning}")
+
+
+# The library's structs, as include/planner.h has them
+
+
+class CSaid(ctypes.Structure):
+    _fields_ = [("number", c_uint32), ("place", c_uint64), ("value", c_int64), ("nodes", c_uint64)]
+
+
+class CGraph(ctypes.Structure):
+    _fields_ = [
+        ("cost", c_int32 * MOST_EDGES),
+        ("a", c_uint8 * MOST_EDGES),
+        ("b", c_uint8 * MOST_EDGES),
+        ("mark", c_uint8 * MOST_EDGES),
+        ("n", c_uint8),
+        ("m", c_uint8),
+    ]
+
+
+class CSettings(ctypes.Structure):
+    _fields_ = [("ceiling", c_int64), ("sweeps", c_uint32), ("step", c_uint32)]
+
+
+class CSearch(ctypes.Structure):
+    _fields_ = [
+        ("settings", CSettings),
+        ("upper", c_int64),
+        ("count", c_uint64),
+        ("depth", c_size_t),
+        ("graph", CGraph),
+        ("multipliers", c_int32 * MOST_VERTICES),
+        ("stack", c_uint8 * (MOST_NODES * MOST_EDGES)),
+        ("best", c_uint8 * MOST_EDGES),
+        ("open", c_uint8),
+        ("has_best", c_uint8),
+    ]
+
+
+for struct, size in ((CSaid, 32), (CGraph, 1_332), (CSettings, 16), (CSearch, 5_824)):
+    assert ctypes.sizeof(struct) == size, f"{struct.__name__} is not as the library has it"
+
+_BYTES, _RECORD = POINTER(c_uint8), POINTER(CSearch)
+_DUES = (POINTER(c_int32), c_size_t)
+_CALLS = {
+    "planner_check": (CSaid, (CGraph,)),
+    "planner_read": (CSaid, (POINTER(CGraph), _BYTES, c_size_t)),
+    "planner_write": (CSaid, (CGraph, _BYTES, c_size_t)),
+    "planner_tree": (CSaid, (CGraph, *_DUES, _BYTES, c_size_t)),
+    "planner_rule": (CSaid, (CGraph, *_DUES, c_int64, _BYTES, c_size_t)),
+    "planner_fresh": (CSearch, ()),
+    "planner_open": (CSaid, (_RECORD, CGraph, *_DUES, CSettings)),
+    "planner_run": (CSaid, (_RECORD, c_uint64)),
+    "planner_tell": (CSaid, (_RECORD,)),
+    "planner_show": (CSaid, (_RECORD, _BYTES, c_size_t)),
+    "planner_close": (CSaid, (_RECORD,)),
+}
+
+
+# Where the library is
+
+FILE = "libplanner.so"
+
+
+def _places() -> Iterator[Path]:
+    """Where the library may stand: as the environment says, beside the installed package, or where `make` puts it."""
+    if named := os.environ.get("PLANNER_LIBRARY"):
+        yield Path(named)
+        return
+    package = Path(__file__).resolve().parent
+    top = package.parent.parent
+    if not (top / "crates.txt").exists():
+        # Installed: PREFIX/lib is some folders above the package, as PREFIX/lib/python3/site-packages/planner has it.
+        for folder in (package, *package.parents[:5]):
+            yield folder / FILE
+            yield folder / "lib" / FILE
+    yield top / "build" / FILE
+
+
+@cache
+def library() -> ctypes.CDLL:
+    """The library, loaded once, its calls typed."""
+    path = next((path for path in _places() if path.is_file()), None)
+    if path is None:
+        raise Faults(f"the library {os.environ.get('PLANNER_LIBRARY') or 'build/' + FILE} is missing: run make")
+    try:
+        loaded = ctypes.CDLL(str(path.resolve()))
+        for name, (result, arguments) in _CALLS.items():
+            call = getattr(loaded, name)
+            call.restype, call.argtypes = result, arguments
+    except (OSError, AttributeError) as error:
+        raise Faults(f"the library {path} cannot be used, run make: {error}") from None
+    return loaded
+
+
+def _accepted(said: CSaid) -> CSaid:
+    """What was said, where that is no refusal."""
+    if 0 < said.number < NONE:
+        raise Refused(said.number, said.place)
+    return said
+
+
+def _fits(value: int, allowed: range, what: str) -> int:
+    """A value that the library's number type holds; ctypes itself would cut it without a word."""
+    if index(value) not in allowed:
+        raise ValueError(f"{what} {value} does not fit the library's number type")
+    return index(value)
+
+
+def _list(right: int, length: int | None = None) -> tuple[ctypes.Array[c_uint8], int]:
+    """A list of bytes to lend and the length that is told: the right one if no other is asked for.
+
+    No list of another length than the right one is read or written, so huge ones need no memory.
+    """
+    told = right if length is None else _fits(length, UINT64, "length")
+    return (c_uint8 * max(1, min(told, MOST_LENT)))(), told
+
+
+def _multipliers(graph: Graph, values: Sequence[int] | None) -> tuple[ctypes.Array[c_int32], int]:
+    """Multipliers to lend, any number of them, and how many there are; zeros if none are said."""
+    numbers = [0] * graph.n if values is None else [_fits(value, INT32, "due") for value in values]
+    return (c_int32 * max(1, len(numbers)))(*numbers), len(numbers)
+
+
+# Graphs
+
+
+class Edge(NamedTuple):
+    """A leg: the buoys that it joins, its cost and its mark (FREE, REQUIRED, EXCLUDED)."""
+
+    a: int
+    b: int
+    cost: int
+    mark: int = FREE
+
+
+@dataclass(frozen=True, init=False)
+class Graph:
+    """A sea: n buoys and its legs in order. It may hold anything; the library's calls refuse what breaks the rules.
+
+    Positions (of a buoy: x, y) are for drawings, and no part of the chart.
+    """
+
+    n: int
+    edges: tuple[Edge, ...] = ()
+    positions: Mapping[int, tuple[float, float]] = field(default_factory=dict, compare=False)
+
+    def __init__(self, n: int, edges: Iterable[Sequence[int]] = (), positions: Mapping[int, tuple[float, float]] | None = None):
+        object.__setattr__(self, "n", n)
+        object.__setattr__(self, "edges", tuple(Edge(*edge) for edge in edges))
+        object.__setattr__(self, "positions", dict(positions or {}))
+
+    @property
+    def m(self) -> int:
+        """The number of edges."""
+        return len(self.edges)
+
+    def recosted(self, costs: Iterable[int]) -> Graph:
+        """The same graph with other costs."""
+        return Graph(self.n, (edge._replace(cost=cost) for edge, cost in zip(self.edges, costs)), self.positions)
+
+    @cached_property
+    def c(self) -> CGraph:
+        """The library's struct. Past 190 edges there is no room, but m says how many there are, so that the library refuses."""
+        made = CGraph(n=_fits(self.n, BYTE, "number of buoys"), m=_fits(self.m, BYTE, "number of legs"))
+        for place, edge in enumerate(self.edges):
+            values = [_fits(value, BYTE, what) for value, what in ((edge.a, "buoy"), (edge.b, "buoy"), (edge.mark, "mark"))]
+            cost = _fits(edge.cost, INT32, "cost")
+            if place < MOST_EDGES:
+                made.a[place], made.b[place], made.mark[place] = values
+                made.cost[place] = cost
+        return made
+
+
+def check(graph: Graph) -> None:
+    """Refused 15 where the graph breaks the rules."""
+    _accepted(library().planner_check(graph.c))
+
+
+def read(data: bytes) -> Graph:
+    """The graph in the bytes of a chart file, or Refused 1 to 10."""
+    found = CGraph()
+    lent = (c_uint8 * max(1, len(data))).from_buffer_copy(data or b"\0")
+    _accepted(library().planner_read(found, lent, len(data)))
+    return Graph(found.n, zip(found.a[: found.m], found.b[: found.m], found.cost[: found.m], found.mark[: found.m]))
+
+
+def write(graph: Graph) -> bytes:
+    """The chart file of a graph, in the writer's form."""
+    out, length = _list(8 + 12 * graph.m)
+    _accepted(library().planner_write(graph.c, out, length))
+    return bytes(out)
+
+
+# Trees and rulings
+
+
+class Tree(NamedTuple):
+    """The least 1-tree: its bound and the numbers of its edges, ascending."""
+
+    bound: int
+    edges: tuple[int, ...]
+
+
+class Rulings(NamedTuple):
+    """The bound and a ruling for each edge: 0 keep, 1 force, 2 bar, 3 already required, 4 already struck (RULINGS has the words)."""
+
+    bound: int
+    rulings: tuple[int, ...]
+
+
+def _chosen(out: ctypes.Array[c_uint8], m: int) -> tuple[int, ...]:
+    """The numbers of the edges that are in."""
+    return tuple(number for number, byte in enumerate(out[:m], 1) if byte)
+
+
+def tree(graph: Graph, multipliers: Sequence[int] | None = None, length: int | None = None) -> Tree | None:
+    """The least 1-tree, or None for 'no tree'. The length is that of the list lent; the right one is m."""
+    out, told = _list(graph.m, length)
+    lent, count = _multipliers(graph, multipliers)
+    said = _accepted(library().planner_tree(graph.c, lent, count, out, told))
+    return None if said.number == NONE else Tree(said.value, _chosen(out, graph.m))
+
+
+def rule(graph: Graph, ceiling: int, multipliers: Sequence[int] | None = None, length: int | None = None) -> Rulings | None:
+    """The rulings under a ceiling, or None for 'dead'. The length is that of the list lent; the right one is m."""
+    out, told = _list(graph.m, length)
+    lent, count = _multipliers(graph, multipliers)
+    ceiling = _fits(ceiling, INT64, "ceiling")
+    said = _accepted(library().planner_rule(graph.c, lent, count, ceiling, out, told))
+    return None if said.number == NONE else Rulings(said.value, tuple(out[: graph.m]))
+
+
+# Searches
+
+
+class Ran(NamedTuple):
+    """What run says: whether the search is finished, and how many nodes were opened."""
+
+    finished: bool
+    nodes: int
+
+
+class Told(NamedTuple):
+    """What tell says: 'going on', 'none' or 'cost', how many nodes were opened, and the cost."""
+
+    verdict: str
+    nodes: int
+    cost: int | None = None
+
+
+class Search:
+    """A search record with the calls on it. Each call answers, or raises Refused and leaves the record as it was."""
+
+    def __init__(self) -> None:
+        self.record: CSearch = library().planner_fresh()
+
+    def open(
+        self, graph: Graph, ceiling: int, sweeps: int = 0, step: int = 0, multipliers: Sequence[int] | None = None
+    ) -> None:
+        """Opens a search."""
+        lent, count = _multipliers(graph, multipliers)
+        settings = CSettings(_fits(ceiling, INT64, "ceiling"), _fits(sweeps, UINT32, "sweeps"), _fits(step, UINT32, "step"))
+        _accepted(library().planner_open(self.record, graph.c, lent, count, settings))
+
+    def run(self, budget: int, progress: Callable[[Search], None] | None = None) -> Ran:
+        """Opens at most so many nodes, in pieces, so that a program can be interrupted and see how far it is.
+
+        A piece that opens fewer nodes than it may is the last: the search is finished, or its count is at the end of its range.
+        """
+        left = _fits(budget, UINT64, "budget")
+        while True:
+            piece, before = min(left, PIECE), self.record.count
+            said = _accepted(library().planner_run(self.record, piece))
+            left -= piece
+            if said.number == FINISHED or left == 0 or said.nodes < before + piece:
+                return Ran(said.number == FINISHED, said.nodes)
+            if progress:
+                progress(self)
+
+    def tell(self) -> Told:
+        """The verdict, the count of nodes and, where there is one, the least cost."""
+        said = _accepted(library().planner_tell(self.record))
+        if said.number == BEST:
+            return Told("cost", said.nodes, said.value)
+        return Told("none" if said.number == NO_TOUR else "going on", said.nodes)
+
+    def show(self, length: int | None = None) -> tuple[int, ...]:
+        """The numbers of the best tour's edges. The length is that of the list lent; the right one is m."""
+        m = self.record.graph.m
+        out, told = _list(m, length)
+        _accepted(library().planner_show(self.record, out, told))
+        return _chosen(out, m)
+
+    def close(self) -> None:
+        """Makes the record fresh again."""
+        _accepted(library().planner_close(self.record))
+
+    def best_so_far(self) -> int | None:
+        """What the best tour met so far costs. It need not be the cheapest: only tell says that."""
+        return self.record.upper + 1 if self.record.has_best else None

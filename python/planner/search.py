@@ -1,0 +1,223 @@
+"""The cheapest tour without a ceiling at hand: guesswork for a first ceiling, an ascent of multipliers, a climb of ceilings.
+
+What is chosen here, ceilings, multipliers, sweeps and step, decides how long a search takes and which of several cheapest tours it finds.
+Every answer is the library's: that a cost is the least, or that there is no tour, is proved for every choice.
+"""
+from __future__ import annotations
+
+from collections.abc import Callable, Iterable
+from dataclasses import dataclass, replace
+
+from .guess import cheap_tour_weight
+from .library import (
+    EXCLUDED, HIGHEST_TOUR, MULTIPLIERS, REQUIRED, STEPS, SWEEPS, Graph, Search, rule, tree,
+)  # fmt: skip
+
+LONG = 1_000_000  # nodes that a search opens at most
+SHORT = 10_000  # nodes that it opens where another ceiling may be quicker
+TREES = 1_000  # of the ascent
+
+# Steps are shares of the costs' spread. Tried on complete graphs of 20 vertices, costs up to 1,000 and up to 1,000,000, at the cost of a tour
+# found by 2-opt: random costs, distances in a square, distances with clusters. Zero multipliers and a step of spread / 10 (about a
+# twentieth of the mean) took up to 1,700 nodes, and more than 20,000 with clusters, because 15 sweeps are too few to bring the multipliers
+# near their best values. After an ascent 420 such graphs took at most 141 nodes, most of them 1; first steps of spread / 4 to spread / 8 did
+# alike, and sweeps of spread / 15 to spread / 30 did better than spread / 60. Slow are complete graphs with few different costs, since
+# multipliers are whole numbers: random costs from 1 to 5 took up to 400,000 nodes. A first step of 64 or more helps where all costs are equal.
+FIRST_SHARE, LEAST_FIRST, SWEEP_SHARE = 4, 64, 20
+
+Progress = Callable[[Search], None]
+
+
+@dataclass(frozen=True)
+class Answer:
+    """A verdict ('cost', 'none' or 'going on'), the count of nodes, and where there is a tour its cost and the numbers of its edges.
+
+    Where the verdict is 'going on', no tour costs `above` or less.
+    """
+
+    verdict: str
+    nodes: int
+    cost: int | None = None
+    tour: tuple[int, ...] = ()
+    above: int | None = None
+
+
+def within(value: int, allowed: range) -> int:
+    """The value, held to what is allowed."""
+    return max(allowed[0], min(allowed[-1], value))
+
+
+def spread(graph: Graph) -> int:
+    """How far costs lie from their mean, on average. Where all costs rise alike it stays as it is, and so does the search."""
+    costs = [edge.cost for edge in graph.edges if edge.mark != EXCLUDED]
+    if not costs:
+        return 0
+    mean = sum(costs) // len(costs)
+    return sum(abs(cost - mean) for cost in costs) // len(costs)
+
+
+class Ascent:
+    """Held and Karp's ascent: of the multipliers on its way, those with the highest bound.
+
+    A vertex that the tree touches more than twice becomes dearer, one that it touches once cheaper. The step is halved after n trees that
+    are no better. The way does not depend on a ceiling, so that a higher one goes on where a lower one stopped.
+    """
+
+    def __init__(self, graph: Graph, step: int):
+        self.graph, self.step = graph, step
+        self.present, self.best = [0] * graph.n, [0] * graph.n
+        self.highest: int | None = None
+        self.trees = self.worse = 0
+
+    def reach(self, ceiling: int) -> list[int]:
+        """The best multipliers. At a bound above the ceiling the ascent stops: one node will do."""
+        while self.trees < TREES and self.step > 0 and (self.highest is None or self.highest <= ceiling):
+            found = tree(self.graph, self.present)
+            if found is None:
+                self.step = 0
+                break
+            self.trees += 1
+            self.compare(found.bound)
+            self.move(found.edges)
+        return self.best
+
+    def compare(self, bound: int) -> None:
+        """Keeps the multipliers where the bound is higher than before."""
+        if self.highest is None or bound > self.highest:
+            self.highest, self.best, self.worse = bound, list(self.present), 0
+        elif self.worse + 1 == self.graph.n:
+            self.step, self.worse = self.step // 2, 0
+        else:
+            self.worse += 1
+
+    def move(self, edges: Iterable[int]) -> None:
+        """The multipliers for the next tree; the first stays 0."""
+        degrees = [0] * (self.graph.n + 1)
+        for number in edges:
+            a, b, *_ = self.graph.edges[number - 1]
+            degrees[a] += 1
+            degrees[b] += 1
+        for vertex in range(2, self.graph.n + 1):
+            if degrees[vertex] != 2:
+                moved = self.present[vertex - 1] + self.step * (degrees[vertex] - 2)
+                self.present[vertex - 1] = within(moved, MULTIPLIERS)
+
+
+class Solver:
+    """Searches one graph at any ceiling, with sweeps and with multipliers that fit it."""
+
+    def __init__(self, graph: Graph, progress: Progress | None = None):
+        around = spread(graph)
+        self.graph, self.progress = graph, progress
+        self.step = within(around // SWEEP_SHARE, STEPS[1:])
+        self.ascent = Ascent(graph, within(around // FIRST_SHARE, MULTIPLIERS[MULTIPLIERS.index(LEAST_FIRST) :]))
+
+    def ask(self, ceiling: int, limit: int) -> Answer:
+        """What a search answers after at most so many nodes."""
+        search = Search()
+        search.open(self.graph, ceiling, SWEEPS[-1], self.step, self.ascent.reach(ceiling))
+        search.run(limit, self.progress)
+        told = search.tell()
+        return Answer(told.verdict, told.nodes, told.cost, search.show() if told.verdict == "cost" else ())
+
+
+NOTHING = Answer("none", 0)  # where nothing need be asked
+
+
+def guessed_cost(graph: Graph) -> int | None:
+    """The cost of an allowed tour found by guesswork, or None."""
+    heavy = 10**12  # beyond every tour
+    table = [[heavy] * graph.n for _ in range(graph.n)]
+    for a, b, cost, mark in graph.edges:
+        if mark != EXCLUDED:
+            table[a - 1][b - 1] = table[b - 1][a - 1] = cost - heavy if mark == REQUIRED else cost
+    cost = cheap_tour_weight(table) + heavy * sum(edge.mark == REQUIRED for edge in graph.edges)
+    return cost if cost <= HIGHEST_TOUR else None
+
+
+def some_tour(graph: Graph, progress: Progress | None = None) -> Answer:
+    """A tour and its cost, or 'none' where there is no tour: the same graph has one of cost 0 when all costs are 0."""
+    answer = Solver(graph.recosted([0] * graph.m), progress).ask(0, SHORT)
+    return replace(answer, cost=sum(graph.edges[number - 1].cost for number in answer.tour)) if answer.tour else answer
+
+
+class Climb:
+    """Searches at ceilings that rise until one finds a tour.
+
+    The lower the ceiling, the shorter the search; and the first that finds a tour tells the least cost as well as the highest would.
+    Searches open at most `long` nodes, and `short` ones where another ceiling may be quicker.
+    """
+
+    def __init__(self, graph: Graph, long: int = LONG, progress: Progress | None = None):
+        self.graph, self.progress = graph, progress
+        self.long, self.short = long, min(long, SHORT)
+        self.ask = Solver(graph, progress).ask
+
+    def cheapest(self, high: int, low: int | None = None) -> Answer:
+        """The cheapest tour of at most high. None costs low or less, or else less than the bound."""
+        found = rule(self.graph, high)
+        if low is None:
+            low = high if found is None else found.bound - 1
+        if low >= high:
+            return NOTHING
+        first = guessed_cost(self.graph)
+        if first is None:
+            tour = some_tour(self.graph, self.progress)
+            if tour.verdict == "none":
+                return tour
+            first = low + 1 if tour.cost is None else tour.cost
+        return self.climb(low, high, first)
+
+    def climb(self, low: int, high: int, first: int) -> Answer:
+        """Asks above low and up to high, beginning with first.
+
+        Steps double from 1. Where a short search is going on the rest is halved, and long searches go on from there.
+        """
+        top, ceiling, step, answer, stuck = high, max(low + 1, min(first, high)), 1, NOTHING, False
+        while low < high:
+            answer = self.ask(ceiling, self.short)
+            if answer.verdict == "cost":
+                return answer
+            if answer.verdict == "none":
+                low = ceiling
+            else:
+                stuck, high = True, ceiling - 1
+            step = (high - low + 1) // 2 if stuck else 2 * step
+            ceiling = low + min(step, high - low)
+        return self.climb_on(low, top, first) if stuck else answer
+
+    def climb_on(self, low: int, high: int, first: int) -> Answer:
+        """As climb, by long searches, until one is going on."""
+        step, answer = 1, NOTHING
+        while low < high:
+            ceiling = low + min(step, (first if low < first < high else high) - low)
+            answer = self.ask(ceiling, self.long)
+            if answer.verdict != "none":
+                break
+            low, step = ceiling, 2 * step
+        return replace(answer, above=low) if answer.verdict == "going on" else answer
+
+
+def solve(graph: Graph, ceiling: int | None = None, nodes: int = LONG, progress: Progress | None = None) -> Answer:
+    """The cheapest tour, or that there is none (with a ceiling: none of at most so much), or that so many nodes did not decide it."""
+    return Climb(graph, nodes, progress).cheapest(HIGHEST_TOUR if ceiling is None else ceiling)
+
+
+def order(graph: Graph, tour: Iterable[int]) -> list[int]:
+    """The vertices along a tour, from vertex 1 towards the lower of its neighbours and back to 1; ValueError where it is no tour."""
+    beside: dict[int, list[int]] = {vertex: [] for vertex in range(1, graph.n + 1)}
+    for number in tour:
+        if number not in range(1, graph.m + 1):
+            raise ValueError(f"there is no edge {number}")
+        a, b, *_ = graph.edges[number - 1]
+        beside[a].append(b)
+        beside[b].append(a)
+    if any(len(neighbours) != 2 for neighbours in beside.values()):
+        raise ValueError("these edges are no tour: it has two at each vertex")
+    way = [1, min(beside[1])]
+    while way[-1] != 1:
+        following, other = beside[way[-1]]
+        way.append(other if following == way[-2] else following)
+    if len(way) != graph.n + 1:
+        raise ValueError("these edges are several circles and no tour")
+    return way

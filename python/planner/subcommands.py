@@ -1,0 +1,205 @@
+"""What each subcommand asks of the library, prints, and ends with."""
+from __future__ import annotations
+
+import argparse
+import json
+import sys
+from collections.abc import Callable, Iterator
+from contextlib import contextmanager
+from pathlib import Path
+
+from . import formats
+from .calls import run_script
+from .drawing import Drawing
+from .faults import Faults
+from .library import RULINGS, Graph, Refused, rule, tree
+from .output import Progress, complain, listed, say, write_file
+from .regrading import COLUMNS, Grade, regrade, row, summary
+from .search import Answer, order, solve
+
+ANSWERED, NEGATIVE, WRONG, UNDECIDED, LOST = range(5)  # exit statuses
+NO_SVG = (*formats.ENDINGS, ".png", ".jpg", ".jpeg", ".gif", ".pdf")  # ends of names that no drawing has
+
+
+# What is printed
+
+
+def say_json(**fields: object) -> None:
+    """Prints an answer as one object."""
+    say(json.dumps(fields))
+
+
+def refuse(name: str, refused: Refused, as_json: bool) -> int:
+    """Prints a refusal."""
+    if as_json:
+        say_json(file=name, refused=refused.number, place=refused.place, meaning=refused.meaning)
+    else:
+        complain(f"{name}: {refused}")
+    return WRONG
+
+
+# The subcommands
+
+
+def on_graph(act: Callable[[argparse.Namespace, str, Graph], int]) -> Callable[[argparse.Namespace], int]:
+    """A subcommand on the sea in FILE: what is refused, in reading or later, is said."""
+
+    def run(arguments: argparse.Namespace) -> int:
+        """The subcommand."""
+        name = formats.shown_path(arguments.file)
+        try:
+            return act(arguments, name, formats.load(arguments.file))
+        except Refused as refused:
+            return refuse(name, refused, getattr(arguments, "json", False))
+
+    return run
+
+
+@contextmanager
+def faults_of(name: str) -> Iterator[None]:
+    """What is wrong with a sea is said with the file's name."""
+    try:
+        yield
+    except Faults as faults:
+        raise Faults(*(f"{name}: {line}" for line in faults.lines)) from None
+
+
+def solved(graph: Graph, ceiling: int | None, nodes: int) -> Answer:
+    """The cheapest round, with progress on a terminal."""
+    progress = Progress()
+    try:
+        return solve(graph, ceiling, nodes, progress)
+    finally:
+        progress.end()
+
+
+def run_solve(arguments: argparse.Namespace, name: str, graph: Graph) -> int:
+    """planner solve"""
+    answer = solved(graph, arguments.ceiling, arguments.nodes)
+    fields: dict[str, object] = {"verdict": answer.verdict}
+    if answer.verdict == "cost":
+        fields |= {"cost": answer.cost, "round": order(graph, answer.tour), "legs": answer.tour}
+    elif answer.verdict == "going on":
+        fields |= {"above": answer.above}
+    if arguments.json:
+        say_json(file=name, **fields, nodes=answer.nodes)
+    else:
+        say_answer(graph, answer)
+    return {"cost": ANSWERED, "none": NEGATIVE, "going on": UNDECIDED}[answer.verdict]
+
+
+def say_answer(graph: Graph, answer: Answer) -> None:
+    """The cheapest round in lines."""
+    lines = [answer.verdict]
+    if answer.verdict == "cost":
+        lines = [f"cost {answer.cost}", f"round {listed(order(graph, answer.tour), '-')}", f"legs {listed(answer.tour)}"]
+    elif answer.verdict == "going on":
+        lines.append(f"no round costs {answer.above} or less")
+    say("\n".join([*lines, f"nodes {answer.nodes}"]))
+
+
+def run_tree(arguments: argparse.Namespace, name: str, graph: Graph) -> int:
+    """planner tree"""
+    found = tree(graph, arguments.dues)
+    if arguments.json:
+        say_json(file=name, **({"bound": found.bound, "legs": found.edges} if found else {"verdict": "no tree"}))
+    elif found:
+        legs = ((number, graph.edges[number - 1]) for number in found.edges)
+        say("\n".join([f"bound {found.bound}", *(f"{number} {leg.a}-{leg.b} {leg.cost}" for number, leg in legs)]))
+    else:
+        say("no tree")
+    return ANSWERED if found else NEGATIVE
+
+
+def run_rule(arguments: argparse.Namespace, name: str, graph: Graph) -> int:
+    """planner rule"""
+    found = rule(graph, arguments.ceiling, arguments.dues)
+    if arguments.json:
+        rulings = [RULINGS[ruling] for ruling in found.rulings] if found else []
+        say_json(file=name, ceiling=arguments.ceiling, **({"bound": found.bound, "rulings": rulings} if found else {"verdict": "dead"}))
+    elif found:
+        legs = zip(graph.edges, found.rulings)
+        lines = (f"{number} {leg.a}-{leg.b} {RULINGS[ruling]}" for number, (leg, ruling) in enumerate(legs, 1))
+        say("\n".join([f"bound {found.bound} ceiling {arguments.ceiling}", *lines]))
+    else:
+        say("dead")
+    return ANSWERED if found else NEGATIVE
+
+
+def not_over_input(out: str, read: str) -> None:
+    """The file that is read is never written over."""
+    if out != "-" and formats.same_file(out, read):
+        raise Faults(f"{formats.shown_path(out)}: the file that is read; name another one to write")
+
+
+def run_convert(arguments: argparse.Namespace, name: str, graph: Graph) -> int:
+    """planner convert"""
+    not_over_input(arguments.out, arguments.file)
+    form = formats.form_to_write(arguments.out, arguments.to)
+    with faults_of(name):
+        data = formats.written(graph, form, Path(name).stem)
+    write_file(arguments.out, data)
+    pairs = [(edge.a, edge.b) for edge in graph.edges]
+    if form == "tsplib" and pairs != sorted(pairs):
+        complain(f"{name}: legs are numbered anew: TSPLIB has them in the order 1-2, 1-3, ..")
+    return ANSWERED
+
+
+def run_draw(arguments: argparse.Namespace, name: str, graph: Graph) -> int:
+    """planner draw"""
+    not_over_input(arguments.out, arguments.file)
+    if Path(arguments.out).suffix.lower() in NO_SVG:
+        raise Faults(f"{formats.shown_path(arguments.out)}: the name says another form; a drawing is SVG, named .svg")
+    found = rule(graph, arguments.ceiling) if arguments.ceiling is not None else None
+    if arguments.ceiling is not None and found is None:
+        complain(f"{name}: dead: no 1-tree is within ceiling {arguments.ceiling}, so no round is")
+        return NEGATIVE
+    answer = None if arguments.no_round else solved(graph, None, arguments.nodes)
+    with faults_of(name):
+        drawing = Drawing(Path(name).name, graph, answer, found, arguments.ceiling)
+    write_file(arguments.out, drawing.svg().encode("utf-8", "replace"))
+    if answer is None or answer.verdict == "cost":
+        return ANSWERED
+    complain(f"{name}: {'there is no round' if answer.verdict == 'none' else f'going on after {answer.nodes} nodes'}; drawn without one")
+    return NEGATIVE if answer.verdict == "none" else UNDECIDED
+
+
+def run_regrade(arguments: argparse.Namespace) -> int:
+    """planner regrade"""
+    if arguments.json and arguments.csv:
+        raise Faults("--json and --csv: allowed is one of them")
+    progress = Progress()
+    grades: list[Grade] = []
+    for grade in regrade(Path(arguments.folder), arguments.nodes, progress):
+        progress.end()
+        if arguments.csv and not grades:
+            say(row(COLUMNS), end="")
+        grades.append(grade)
+        if arguments.json:
+            say_json(**grade.fields())
+        elif arguments.csv:
+            say(row(grade.fields()[column] for column in COLUMNS), end="")
+        else:
+            say(grade.line())
+    if not arguments.json and not arguments.csv:
+        say(summary(grades))
+    return max((grade.status() for grade in grades), key=(ANSWERED, UNDECIDED, WRONG, NEGATIVE).index)
+
+
+def run_calls(arguments: argparse.Namespace) -> int:
+    """planner calls"""
+
+    def answered(line: int, call: str, answer: tuple[str, dict[str, object]]) -> None:
+        """Prints one answer."""
+        if arguments.json:
+            say_json(line=line, call=call, **answer[1])
+        else:
+            say(answer[0])
+
+    if arguments.script == "-":
+        return ANSWERED if sys.stdin is None or run_script(sys.stdin.buffer, answered) else WRONG
+    try:
+        with open(arguments.script, "rb") as script:
+            return ANSWERED if run_script(script, answered) else WRONG
+    except (OSError, ValueError) as error:
+        raise Faults(f"{formats.shown_path(arguments.script)}: {getattr(error, 'strerror', None) or error}") from None

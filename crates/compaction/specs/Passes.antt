@@ -26,9 +26,9 @@ use Rattle.onetree.specs.Inputs.{multiplier}
 use Rattle.onetree.specs.Enumeration.{Tree, noTree, aTree, leastTree, ruling}
 use Rattle.onetree.specs.LeastTree.{Right, tree-right, tree-found, tree-missing}
 use Rattle.onetree.specs.Rulings.{rules-excluded}
-use Rattle.machine.specs.Orders.{distinct, words}
-use Rattle.machine.specs.Tours.{isJoined, isTrip, isTour}
-use Rattle.machine.specs.Machine.{Marks, Opened, withMarks, applied, markBy, shut, found, unclosed, passBy, pass, degree, gained, branch}
+use Rattle.tours.specs.Orders.{distinct, words}
+use Rattle.tours.specs.Tours.{degree, isJoined, isTrip, isTour}
+use Rattle.machine.specs.Machine.{Marks, Opened, withMarks, applied, markBy, shut, found, unclosed, passBy, pass, gained, branch}
 use Rattle.machine.specs.Machine.{concluded, passes}
 use Rattle.machine.specs.NodeTours.{applied-length}
 use Rattle.machine.specs.Outcomes.{finds}

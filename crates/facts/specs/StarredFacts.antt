@@ -17,7 +17,7 @@ use Rattle.onetree.specs.Inputs.{multipliersFit, ceilingFits}
 use Rattle.onetree.specs.Enumeration.{edgeSets, leastTree, ruling}
 use Rattle.onetree.specs.Answers.{Reply, bounded, treeReply, treeLeaves, ruleReply, ruleLeaves}
 use Rattle.onetree.specs.Answers as tree
-use Rattle.machine.specs.Tours.{cost, isTour}
+use Rattle.tours.specs.Tours.{cost, isTour}
 use Rattle.machine.specs.Machine.{noSearch, gained}
 use Rattle.machine.specs.Calls.{Answer, opens, run, tell, accepted, runs, tells, none, best, answers}
 

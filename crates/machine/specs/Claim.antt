@@ -23,19 +23,20 @@ use Rattle.graph.specs.Places.{network-a, network-b}
 use Rattle.graph.specs.Valid as value
 use Rattle.onetree.specs.OneTree.{Edges}
 use Rattle.onetree.specs.Arrays.{edge-of}
-use Rattle.machine.specs.Tours.{Tour, Allowed, cost, Feasible}
+use Rattle.tours.specs.Tours.{Tour, Allowed, cost, Feasible}
 use Rattle.machine.specs.Outcomes.{Incumbent, noTour, aTour}
 use Rattle.machine.specs.Machine.{Marks, withMarks, marksOf, Opening, trimmed, held, Progress, State, noSearch, searching, edgesOf}
 use Rattle.machine.specs.Machine.{costOf, lowered, isEmpty, finished}
 use Rattle.machine.specs.Calls.{Call, tell, show, Verdict, goingOn, none, best, accepted, tells, Reply, verdict, verdictOf, tourBytes}
 use Rattle.machine.specs.Calls.{shownBy, step, leaves, History, since, history, freeAtStart}
-use Rattle.machine.specs.Demand3.{OneNetwork, Finished, LeavesFinished, Such}
+use Rattle.tours.specs.OneNetwork.{OneNetwork}
+use Rattle.machine.specs.Demand3.{Finished, LeavesFinished, Such}
 use Rattle.machine.specs.Demand3 as stated
 use Rattle.machine.specs.BranchAndBound.{Optimal, optimum, Reached}
 use Rattle.machine.specs.Trimmed.{network-trimmed, valid-trimmed}
 use Rattle.machine.specs.NodeTours.{Agrees, Inside, tours, allowed-agrees, agrees-allowed}
 use Rattle.machine.specs.Kept.{Sized}
-use Rattle.machine.specs.Renumbering.{Simple, one-sym, renumbered, renumbered-same}
+use Rattle.tours.specs.Renumbering.{Simple, one-sym, renumbered, renumbered-same}
 use Rattle.machine.specs.Invariant.{Good, Holds, Fine, fine, before-last}
 
 -- what the machine says after a list of calls: its answers are said as they are

@@ -16,23 +16,11 @@ use Rattle.lists.specs.Numbers.{upTo}
 use Rattle.lists.specs.Rows.{row}
 use Rattle.graph.specs.Network.{Network, network}
 use Rattle.onetree.specs.OneTree.{Edges}
-use Rattle.machine.specs.Tours.{cost, Feasible}
+use Rattle.tours.specs.Tours.{cost, Feasible}
+use Rattle.tours.specs.OneNetwork.{OneNetwork}
 use Rattle.machine.specs.Machine.{Opening, State, noSearch, searching, finished}
 use Rattle.machine.specs.Calls.{Call, tell, show, Verdict, goingOn, none, best, Answer, accepted, tells, step, leaves}
 use Rattle.machine.specs.Calls.{since, history, freeAtStart}
-
--- "Two hunts are of one sea when their charts have the same n and m, and each leg of one stands in the other under some number, with the
--- same buoys, cost and mark."
-pub record SameEdge (g h : Network) (k j : ℕ) : Type 0 where
-  pub a : h .a j ≡ g .a k
-  pub b : h .b j ≡ g .b k
-  pub cost : h .cost j ≡ g .cost k
-  pub mark : h .mark j ≡ g .mark k
-
-pub record OneNetwork (g h : Network) : Type 0 where
-  pub n : h .n ≡ g .n
-  pub m : h .m ≡ g .m
-  pub there : (k : ℕ) → k ∈ upTo (g .m) → (j : ℕ) × (j ∈ upTo (h .m)) × SameEdge g h k j
 
 abbrev pub Finished : State → Type 0
 Finished noSearch = ⊥

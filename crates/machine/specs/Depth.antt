@@ -21,7 +21,7 @@ use Rattle.onetree.specs.Inputs.{multiplier}
 use Rattle.onetree.specs.Enumeration.{Tree, noTree, aTree, leastTree}
 use Rattle.onetree.specs.LeastTree.{Right, tree-right}
 use Rattle.onetree.specs.Valid.{Valid}
-use Rattle.machine.specs.Tours.{Allowed, isTour}
+use Rattle.tours.specs.Tours.{Allowed, isTour}
 use Rattle.machine.specs.Outcomes.{closes, finds, splits}
 use Rattle.machine.specs.Machine.{Marks, withMarks, applied, Pass, shut, found, unclosed, passBy, pass, gained, Opened, firstFree}
 use Rattle.machine.specs.Machine.{branch, concluded, passes}

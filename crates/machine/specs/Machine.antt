@@ -21,7 +21,7 @@ use Rattle.onetree.specs.OneTree.{Edges}
 use Rattle.onetree.specs.Inputs.{multiplier}
 use Rattle.onetree.specs.Enumeration.{Tree, noTree, aTree, leastTree, Ruling, keeps, forces, bars, wasRequired, wasExcluded, ruling}
 use Rattle.machine.specs.declared.Settings.{Settings}
-use Rattle.machine.specs.Tours.{cost, isTour}
+use Rattle.tours.specs.Tours.{degree, cost, isTour}
 use Rattle.machine.specs.Outcomes.{Outcome, closes, finds, splits, Incumbent, noTour, nextStack, nextIncumbent, nextUpper}
 
 -- ---- a node
@@ -85,12 +85,7 @@ unfoldable pub pass : Network → (ℕ → ℤ) → ℤ → Pass
 unfolding passBy leastTree
 pass g d upper = passBy g d upper (leastTree g d)
 
--- "g being the number of the tree's legs that touch buoy i"
-unfoldable pub degree : Network → Edges → ℕ → ℕ
-unfolding select upTo
-degree g t v = length (select (λ k. t k && (eqb (g .a k) v || eqb (g .b k) v)) (upTo (g .m)))
-
--- "each d(i), i ≥ 2, gains step × (g − 2), .., and is held to its range"
+-- "each d(i), i ≥ 2, gains step × (g − 2), g being the number of the tree's legs that touch buoy i, and is held to its range"
 unfoldable pub gained : Network → ℕ → Edges → List ℤ → List ℤ
 unfolding row multiplier clamp degree
 gained g step t d =

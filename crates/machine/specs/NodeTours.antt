@@ -21,10 +21,10 @@ use Rattle.onetree.specs.Agree.{Agree}
 use Rattle.onetree.specs.Decide.{barred-test, forced-test}
 use Rattle.onetree.specs.Valid.{Valid}
 use Rattle.onetree.specs.Arrays.{edge-of, of-edge}
-use Rattle.machine.specs.Tours.{Joined, Trip, Tour, Allowed, cost}
+use Rattle.tours.specs.Tours.{Joined, Trip, Tour, Allowed, cost}
 use Rattle.machine.specs.Machine.{Marks, withMarks, frees, markBy, applied, edgesOf, costOf, lowered}
 use Rattle.machine.specs.BranchAndBound.{Problem}
-use Rattle.machine.specs.TourTree.{tour-tree, bound-is-cost}
+use Rattle.tours.specs.TourTree.{tour-tree, bound-is-cost}
 use Rattle.machine.specs.Branching.{row-marks, frees-fewer}
 use Rattle.machine.specs.Requireds.{requireds, requireds-more}
 

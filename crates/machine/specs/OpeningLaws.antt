@@ -23,13 +23,13 @@ use Rattle.onetree.specs.Enumeration.{Tree, noTree, aTree, leastTree}
 use Rattle.onetree.specs.LeastTree.{Right, tree-right}
 use Rattle.onetree.specs.Valid.{Valid}
 use Rattle.onetree.specs.Arrays.{edge-of}
-use Rattle.machine.specs.Tours.{Tour, Allowed, cost, isTour}
+use Rattle.tours.specs.Tours.{Tour, Allowed, cost, isTour}
 use Rattle.machine.specs.Outcomes.{closes, finds, splits}
 use Rattle.machine.specs.Machine.{Marks, withMarks, isFree, applied, Pass, shut, found, unclosed, passBy, pass, Opened, firstFree}
 use Rattle.machine.specs.Machine.{branch}
 use Rattle.machine.specs.Machine.{concluded, passes, gained, edgesOf, costOf, lowered}
 use Rattle.machine.specs.BranchAndBound.{Lawful, narrowed}
-use Rattle.machine.specs.TourTest.{test-tour, tour-test}
+use Rattle.tours.specs.TourTest.{test-tour, tour-test}
 use Rattle.machine.specs.Branching.{first-free, first-before, frees-set}
 use Rattle.machine.specs.NodeTours.{Agrees, Inside, tours, tour-agree, cost-agree, valid-marks, tour-marks, marks-tour, allowed-at}
 use Rattle.machine.specs.NodeTours.{at-allowed, applied-length, inside-tree, cost-bound, tree-agrees, ruled-keeps, ruled-of}

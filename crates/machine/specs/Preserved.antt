@@ -28,7 +28,7 @@ use Rattle.onetree.specs.OneTree.{Edges}
 use Rattle.onetree.specs.Inputs.{multiplier, multipliersFit, ceilingFits}
 use Rattle.onetree.specs.Enumeration.{Tree, noTree, aTree, leastTree}
 use Rattle.onetree.specs.Arrays.{edge-of, network-valid}
-use Rattle.machine.specs.Tours.{Tour, cost, isTour}
+use Rattle.tours.specs.Tours.{Tour, cost, isTour}
 use Rattle.machine.specs.Outcomes.{closes, finds, splits, Incumbent, noTour, aTour}
 use Rattle.machine.specs.Machine.{Marks, withMarks, marksOf, applied, Pass, shut, found, unclosed, passBy, pass, gained, Opened}
 use Rattle.machine.specs.Machine.{firstFree}

@@ -14,7 +14,7 @@ use Rattle.graph.specs.Network.{Network, Mark, free, required, excluded}
 use Rattle.onetree.specs.OneTree.{Edges}
 use Rattle.onetree.specs.Valid.{isRequired, required-is}
 use Rattle.onetree.specs.Arrays.{of-edge}
-use Rattle.machine.specs.Tours.{Allowed}
+use Rattle.tours.specs.Tours.{Allowed}
 use Rattle.machine.specs.Machine.{Marks, withMarks}
 use Rattle.machine.specs.Branching.{row-marks}
 

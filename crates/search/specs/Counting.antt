@@ -23,7 +23,7 @@ use Rattle.graph.specs.Places.{network-a, network-b}
 use Rattle.graph.specs.Valid.{Valid}
 use Rattle.onetree.specs.OneTree.{Edges}
 use Rattle.onetree.specs.Arrays.{bytes}
-use Rattle.machine.specs.Machine.{degree}
+use Rattle.tours.specs.Tours.{degree}
 
 -- "the number of the tree's legs that touch buoy i", of the first k edges
 unfoldable pub degreeTo : ℕ → Graph → List ℕ → ℕ → ℕ

@@ -27,7 +27,8 @@ use Rattle.graph.specs.Network.{Network}
 use Rattle.onetree.specs.OneTree.{Edges}
 use Rattle.onetree.specs.Inputs.{multiplier, multipliersFit}
 use Rattle.onetree.specs.Multipliers.{fit-ranged, ranged-fit}
-use Rattle.machine.specs.Machine.{degree, gained}
+use Rattle.tours.specs.Tours.{degree}
+use Rattle.machine.specs.Machine.{gained}
 
 -- ---- numbers
 

@@ -26,13 +26,13 @@ use Rattle.onetree.specs.Inputs.{multiplier}
 use Rattle.onetree.specs.Enumeration.{noTree, aTree, leastTree, ruling}
 use Rattle.onetree.specs.LeastTree.{Right, tree-right}
 use Rattle.onetree.specs.Answers.{rulingByte}
-use Rattle.machine.specs.Tours.{isTour}
+use Rattle.tours.specs.Tours.{degree, isTour}
 use Rattle.machine.specs.Outcomes.{aTour}
-use Rattle.machine.specs.Machine as M
-use Rattle.machine.specs.Machine.{Marks, applied, markBy, degree, shut, found, unclosed, passBy, pass}
+use Rattle.tours.specs.Tours as T
+use Rattle.machine.specs.Machine.{Marks, applied, markBy, shut, found, unclosed, passBy, pass}
 use Rattle.machine.specs.NodeTours.{applied-length}
-use Rattle.machine.specs.Degrees.{degree-agree}
-use Rattle.machine.specs.DegreeTest.{test-yes, test-no}
+use Rattle.tours.specs.Degrees.{degree-agree}
+use Rattle.tours.specs.DegreeTest.{test-yes, test-no}
 use Rattle.search.specs.declared.node.Verdict.{Verdict}
 use Rattle.search.specs.declared.node.Verdict.the-variants as verdict
 use Rattle.search.specs.Record.{byteOf, bestBytes}
@@ -61,7 +61,7 @@ pub record RuledAs (g : Graph) (d : List ℤ) (upper : ℤ) (w degrees : List �
   pub is : pass (network g) (multiplier d) upper ≡ unclosed tree marks
   pub long : length marks ≡ g .m
   pub bytes : w ≡ bytesOf marks
-  pub degree : (v : ℕ) → 1 ≤ v → v ≤ g .n → getD degrees v 0 ≡ M.degree (network g) tree v
+  pub degree : (v : ℕ) → 1 ≤ v → v ≤ g .n → getD degrees v 0 ≡ T.degree (network g) tree v
 
 abbrev pub JudgedIs : Graph → List ℤ → ℤ → Verdict → List ℕ → List ℕ → Type 0
 JudgedIs g d upper verdict.Shut w degrees = (pass (network g) (multiplier d) upper ≡ shut)

@@ -15,7 +15,7 @@ use Rattle.graph.specs.Limits.{maxEdges}
 use Rattle.graph.specs.Valid.{Valid}
 use Rattle.graph.specs.Network.{network}
 use Rattle.onetree.specs.Arrays as onetree
-use Rattle.machine.specs.Tours.{cost}
+use Rattle.tours.specs.Tours.{cost}
 use Rattle.machine.specs.Outcomes.{noTour, aTour}
 use Rattle.machine.specs.Machine.{Opening, State, noSearch, searching, held, begin, costOf, finished}
 use Rattle.machine.specs.Calls.{Call, lentBy, accepts, opens, run, tell, show, close, Verdict, goingOn, none, best, refused, accepted, tells, fault, openedBy, verdict, tourBytes, shownBy, step}

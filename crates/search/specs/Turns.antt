@@ -17,6 +17,7 @@ use Rattle.graph.specs.Valid.{Valid}
 use Rattle.onetree.specs.OneTree.{Edges}
 use Rattle.onetree.specs.Inputs.{multiplier, multipliersFit}
 use Rattle.machine.specs.Outcomes.{closes}
+use Rattle.tours.specs.Tours as T
 use Rattle.machine.specs.Machine as M
 use Rattle.machine.specs.Machine.{Marks, withMarks, Pass, shut, found, unclosed, pass, gained, branch, concluded, passes}
 use Rattle.search.specs.Record.{marksIn}
@@ -108,7 +109,7 @@ at-first h d step upper left e fits = record {
 -- the passes set the marks of the network, so they do not depend on those that it had
 passes-marks : (g : Network) (y : Marks) (step : ℕ) (upper : ℤ) (left : ℕ) (d : List ℤ) (x : Marks)
     → passes (withMarks g y) step upper left d x ≡ passes g step upper left d x
-unfolding passes withMarks gained M.degree
+unfolding passes withMarks gained T.degree
 passes-marks g y step upper zero d x = refl
 passes-marks g y step upper (suc left) d x =
     λ i. concluded (g .m) (pass (withMarks g x) (multiplier d) upper) (λ t z. passes-marks g y step upper left (gained g step t d) z i)
@@ -176,8 +177,8 @@ module _ (g : Graph) (valid : Valid g) (step : ℕ) (upper : ℤ) (out : M.Opene
         ∙ ap openedAs (sym (goes-on ∙ ap (λ (i : ℕ). later (network g) step upper i (fit (g .n) (pos 0) d) (r .tree) (r .marks)) z))
 
     module _ (next : List ℤ) (gains : GainsTo (g .n) step degrees d next) (less : ℕ) (e : left ≡ suc less) where
-      degree-now : (v : ℕ) → 1 ≤ v → v ≤ g .n → getD degrees v 0 ≡ M.degree (network g) (r .tree) v
-      unfolding M.degree network
+      degree-now : (v : ℕ) → 1 ≤ v → v ≤ g .n → getD degrees v 0 ≡ T.degree (network g) (r .tree) v
+      unfolding T.degree network
       degree-now v a b = r .degree v a b
 
       pub turn-next : AtPass g step upper out less w next

@@ -23,8 +23,8 @@ use Rattle.spanning.specs.Components.{rank-le}
 use Rattle.spanning.specs.Connected.{joined-rank}
 use Rattle.onetree.specs.OneTree.{Edges, others, OneTree, atOne, away, charge, bound}
 use Rattle.onetree.specs.Valid.{Valid, others-in, in-others, distinct-others, length-others, far-ends}
-use Rattle.machine.specs.Tours.{Ends, Joined, Trip, Tour, Allowed, cost}
-use Rattle.machine.specs.Trips.{ends-turned, distinct-end, along, along-length, along-in, closed-once, atEnds, along-sum}
+use Rattle.tours.specs.Tours.{Ends, Joined, Trip, Tour, Allowed, cost}
+use Rattle.tours.specs.Trips.{ends-turned, distinct-end, along, along-length, along-in, closed-once, atEnds, along-sum}
 
 module _ (g : Network) (vg : Valid g) (t : Edges) (tour : Tour g t) where
   at : (v : ℕ) → v ∈ tour .order → (2 ≤ v) × (v ≤ g .n)

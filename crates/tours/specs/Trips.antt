@@ -13,7 +13,7 @@ use Rattle.lists.specs.Numbers.{upTo}
 use Rattle.integers.specs.Sums.{sumZ, left-comm}
 use Rattle.graph.specs.Network.{Network}
 use Rattle.onetree.specs.OneTree.{Edges}
-use Rattle.machine.specs.Tours.{Ends, Joined, Trip}
+use Rattle.tours.specs.Tours.{Ends, Joined, Trip}
 
 pub ends-turned : (g : Network) (k u v : ℕ) → Ends g k u v → Ends g k v u
 ends-turned g k u v (inl h) = inr h

@@ -18,9 +18,9 @@ use Rattle.integers.specs.Sums.{Whole, fills, same-members, sum-map, sum-same}
 use Rattle.graph.specs.Network.{Network, required, excluded}
 use Rattle.onetree.specs.OneTree.{Edges, others}
 use Rattle.onetree.specs.Valid.{others-in, in-others}
-use Rattle.machine.specs.Orders.{elem, elem-in, in-elem}
-use Rattle.machine.specs.Tours.{Ends, Joined, Trip, Tour, Allowed, cost, Feasible}
-use Rattle.machine.specs.Demand3.{SameEdge, OneNetwork}
+use Rattle.tours.specs.Orders.{elem, elem-in, in-elem}
+use Rattle.tours.specs.Tours.{Ends, Joined, Trip, Tour, Allowed, cost, Feasible}
+use Rattle.tours.specs.OneNetwork.{SameEdge, OneNetwork}
 
 -- "no pair twice"
 abbrev pub Simple : Network → Type 0

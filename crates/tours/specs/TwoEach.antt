@@ -20,9 +20,8 @@ use Rattle.graph.specs.Network.{Network}
 use Rattle.spanning.specs.Walks.{Walk, stay, along as forth, back as backwards}
 use Rattle.onetree.specs.OneTree.{Edges, others, OneTree, atOne, away}
 use Rattle.onetree.specs.Valid.{Valid, others-in, in-others, length-others}
-use Rattle.machine.specs.Tours.{Ends, Joined, Trip, Tour}
-use Rattle.machine.specs.Machine.{degree}
-use Rattle.machine.specs.Trips.{ends-turned, among-ends, distinct-end, along, along-in, along-ends, open-once}
+use Rattle.tours.specs.Tours.{degree, Ends, Joined, Trip, Tour}
+use Rattle.tours.specs.Trips.{ends-turned, among-ends, distinct-end, along, along-in, along-ends, open-once}
 
 -- three different members are more than two
 three-members : (x y z : ℕ) (l : List ℕ) → x ≢ y → x ≢ z → y ≢ z → x ∈ l → y ∈ l → z ∈ l → 3 ≤ length l

@@ -9,11 +9,10 @@ use Rattle.lists.specs.Numbers.{upTo}
 use Rattle.graph.specs.Network.{Network}
 use Rattle.onetree.specs.OneTree.{Edges, OneTree}
 use Rattle.onetree.specs.Valid.{Valid}
-use Rattle.machine.specs.Tours.{isTour}
-use Rattle.machine.specs.Machine.{degree}
-use Rattle.machine.specs.TourTest.{test-tour, tour-test}
-use Rattle.machine.specs.Degrees.{tour-degree}
-use Rattle.machine.specs.TwoEach.{degree-tour}
+use Rattle.tours.specs.Tours.{degree, isTour}
+use Rattle.tours.specs.TourTest.{test-tour, tour-test}
+use Rattle.tours.specs.Degrees.{tour-degree}
+use Rattle.tours.specs.TwoEach.{degree-tour}
 
 module _ (g : Network) (vg : Valid g) (t : Edges) where
   pub test-yes : OneTree g t → ((v : ℕ) → v ∈ upTo (g .n) → degree g t v ≡ 2) → isTour g t ≡ true

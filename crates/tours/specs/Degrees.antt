@@ -17,10 +17,9 @@ use Rattle.graph.specs.Network.{Network}
 use Rattle.onetree.specs.OneTree.{Edges}
 use Rattle.onetree.specs.Agree.{Agree}
 use Rattle.onetree.specs.Valid.{Valid}
-use Rattle.machine.specs.Tours.{Tour}
-use Rattle.machine.specs.Machine.{degree}
-use Rattle.machine.specs.Trips.{atEnds}
-use Rattle.machine.specs.TourTree.{twice-each}
+use Rattle.tours.specs.Tours.{degree, Tour}
+use Rattle.tours.specs.Trips.{atEnds}
+use Rattle.tours.specs.TourTree.{twice-each}
 
 -- a set counts only as far as the edges go
 pub degree-agree : (g : Network) (s t : Edges) → Agree (g .m) s t → (v : ℕ) → degree g s v ≡ degree g t v

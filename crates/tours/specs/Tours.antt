@@ -17,7 +17,7 @@ use Rattle.lists.specs.Numbers.{upTo}
 use Rattle.integers.specs.Sums.{sumZ}
 use Rattle.graph.specs.Network.{Network, required, excluded}
 use Rattle.onetree.specs.OneTree.{Edges, others}
-use Rattle.machine.specs.Orders.{distinct, words}
+use Rattle.tours.specs.Orders.{distinct, words}
 
 -- ---- as statements
 
@@ -55,6 +55,11 @@ pub record Allowed (g : Network) (t : Edges) : Type 0 where
 unfoldable pub cost : Network → Edges → ℤ
 unfolding sumZ select upTo
 cost g t = sumZ (g .cost) (select t (upTo (g .m)))
+
+-- "the number of the tree's legs that touch buoy i"
+unfoldable pub degree : Network → Edges → ℕ → ℕ
+unfolding select upTo
+degree g t v = length (select (λ k. t k && (eqb (g .a k) v || eqb (g .b k) v)) (upTo (g .m)))
 
 -- an allowed tour with a cost "at or below the ceiling"
 pub record Feasible (g : Network) (ceiling : ℤ) (t : Edges) : Type 0 where

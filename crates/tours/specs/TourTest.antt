@@ -19,8 +19,8 @@ use Rattle.integers.specs.Sums.{Whole, fills}
 use Rattle.graph.specs.Network.{Network}
 use Rattle.onetree.specs.OneTree.{Edges, others}
 use Rattle.onetree.specs.Valid.{length-others, distinct-others}
-use Rattle.machine.specs.Orders.{distinct, distinct-is, is-distinct, words, words-in, in-words}
-use Rattle.machine.specs.Tours.{Ends, Joined, Trip, Tour, isJoined, isTrip, isTour}
+use Rattle.tours.specs.Orders.{distinct, distinct-is, is-distinct, words, words-in, in-words}
+use Rattle.tours.specs.Tours.{Ends, Joined, Trip, Tour, isJoined, isTrip, isTour}
 
 no-others : (n : ℕ) → n ≡ 0 → length (select (λ v. not (eqb v 1)) (upTo n)) ≡ n - 1
 unfolding select upTo

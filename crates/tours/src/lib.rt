@@ -1,0 +1,1 @@
+// Tours of a network, as definitions and laws (specs/). No code.

@@ -57,12 +57,15 @@ shared-slice-read-zeros-3 c = search needs
 zeros-requires : tie.Need-zeros-requires
 zeros-requires c κs = search needs
 
+abbrev at-if2 : tie.After-zeros → tie.Else2
+at-if2 c = let at-read7 = c .before in at-read7 .before .before .before
+
 returns-3 : tie.Need-returns-3
 unfolding bodyFault
 returns-3 c =
-    let at = c .before .before .before .before .before .before .before in
-    let ends = sym (at .before .ends-ok .ensures) ∙ not-false _ (at .if1 .left) in
-    let mark = le-leb _ _ (c .before .before .before .before .before .if2 .left) in
+    let at-if2 = at-if2 (c .before) in
+    let ends = sym (at-if2 .before .before .before .ends-ok .ensures) ∙ not-false _ (at-if2 .before .before .if1 .left) in
+    let mark = le-leb _ _ (at-if2 .if2 .left) in
     simp (ends, mark, sym (c .before .zeros .ensures) ∙ not-true _ (c .if3 .taken))
 
 cost-at-requires : tie.Need-cost-at-requires
@@ -74,10 +77,11 @@ cost-ok-requires c κs = search needs
 returns-4 : tie.Need-returns-4
 unfolding bodyFault
 returns-4 c =
-    let at = c .before .before .before .before .before .before .before .before .before .before in
-    let ends = sym (at .before .ends-ok .ensures) ∙ not-false _ (at .if1 .left) in
-    let mark = le-leb _ _ (c .before .before .before .before .before .before .before .before .if2 .left) in
-    let zeros = sym (c .before .before .before .before .zeros .ensures) ∙ not-false _ (c .before .before .before .if3 .left) in
+    let at-if3 = c .before .before .before in
+    let at-if2 = at-if2 (at-if3 .before) in
+    let ends = sym (at-if2 .before .before .before .ends-ok .ensures) ∙ not-false _ (at-if2 .before .before .if1 .left) in
+    let mark = le-leb _ _ (at-if2 .if2 .left) in
+    let zeros = sym (at-if3 .before .zeros .ensures) ∙ not-false _ (at-if3 .if3 .left) in
     let cost = c .before .before .cost-at in
     let said = rw (back32 (cost .result) (cost .ok)) at (c .before .cost-ok .ensures) in
     simp (ends, mark, zeros, sym (cost .ensures), sym said ∙ not-true _ (c .if4 .taken))
@@ -85,10 +89,11 @@ returns-4 c =
 returns-5 : tie.Need-returns-5
 unfolding bodyFault
 returns-5 c =
-    let at = c .before .before .before .before .before .before .before .before .before .before in
-    let ends = sym (at .before .ends-ok .ensures) ∙ not-false _ (at .if1 .left) in
-    let mark = le-leb _ _ (c .before .before .before .before .before .before .before .before .if2 .left) in
-    let zeros = sym (c .before .before .before .before .zeros .ensures) ∙ not-false _ (c .before .before .before .if3 .left) in
+    let at-if3 = c .before .before .before in
+    let at-if2 = at-if2 (at-if3 .before) in
+    let ends = sym (at-if2 .before .before .before .ends-ok .ensures) ∙ not-false _ (at-if2 .before .before .if1 .left) in
+    let mark = le-leb _ _ (at-if2 .if2 .left) in
+    let zeros = sym (at-if3 .before .zeros .ensures) ∙ not-false _ (at-if3 .if3 .left) in
     let cost = c .before .before .cost-at in
     let said = rw (back32 (cost .result) (cost .ok)) at (c .before .cost-ok .ensures) in
     simp (ends, mark, zeros, sym (cost .ensures), sym said ∙ not-false _ (c .if4 .left))

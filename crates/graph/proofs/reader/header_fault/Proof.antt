@@ -45,14 +45,18 @@ shared-slice-read-zeros-3 c = search needs
 zeros-requires : tie.Need-zeros-requires
 zeros-requires c κs = search needs
 
+abbrev at-if3 : tie.After-zeros → tie.Else3
+at-if3 c = let at-read5 = c .before in at-read5 .before .before .before
+
 returns-4 : tie.Need-returns-4
 unfolding headerFault
 returns-4 c =
-    let at = c .before .before .before .before .before .before .before in
-    let long = le-ltb _ _ (at .before .before .if1 .left) in
-    let n = sym (at .wide .ensures .0) in
-    let low = le-leb _ _ (c .before .before .before .before .before .before .if2 .left) in
-    let high = le-leb _ _ (c .before .before .before .before .before .if3 .left) in
+    let at-if3 = at-if3 (c .before) in
+    let at-wide = at-if3 .before .before in
+    let long = le-ltb _ _ (at-wide .before .before .if1 .left) in
+    let n = sym (at-wide .wide .ensures .0) in
+    let low = le-leb _ _ (at-if3 .before .if2 .left) in
+    let high = le-leb _ _ (at-if3 .if3 .left) in
     simp (long, n, low, high, sym (c .before .zeros .ensures) ∙ not-true _ (c .if4 .taken))
 
 u16-at-requires : tie.Need-u16-at-requires
@@ -61,11 +65,12 @@ u16-at-requires c κs = search needs
 returns-5 : tie.Need-returns-5
 unfolding headerFault
 returns-5 c =
-    let at = c .before .before .before .before .before .before .before .before .before in
-    let long = le-ltb _ _ (at .before .before .if1 .left) in
-    let n = sym (at .wide .ensures .0) in
-    let low = le-leb _ _ (c .before .before .before .before .before .before .before .before .if2 .left) in
-    let high = le-leb _ _ (c .before .before .before .before .before .before .before .if3 .left) in
+    let at-if3 = at-if3 (c .before .before .before) in
+    let at-wide = at-if3 .before .before in
+    let long = le-ltb _ _ (at-wide .before .before .if1 .left) in
+    let n = sym (at-wide .wide .ensures .0) in
+    let low = le-leb _ _ (at-if3 .before .if2 .left) in
+    let high = le-leb _ _ (at-if3 .if3 .left) in
     let zeros = sym (c .before .before .before .zeros .ensures) ∙ not-false _ (c .before .before .if4 .left) in
     let r = sym (c .before .u16-at .ensures .0) in
     simp (long, n, low, high, zeros, r, lt-leb _ _ (c .if5 .taken))
@@ -79,12 +84,14 @@ add-if6 c = search needs
 returns-6 : tie.Need-returns-6
 unfolding headerFault
 returns-6 c =
-    let at = c .before .before .before .before .before .before .before .before .before .before in
-    let long = le-ltb _ _ (at .before .before .if1 .left) in
-    let n = sym (at .wide .ensures .0) in
-    let low = le-leb _ _ (c .before .before .before .before .before .before .before .before .before .if2 .left) in
-    let high = le-leb _ _ (c .before .before .before .before .before .before .before .before .if3 .left) in
-    let zeros = sym (c .before .before .before .before .zeros .ensures) ∙ not-false _ (c .before .before .before .if4 .left) in
+    let at-if4 = c .before .before .before in
+    let at-if3 = at-if3 (at-if4 .before) in
+    let at-wide = at-if3 .before .before in
+    let long = le-ltb _ _ (at-wide .before .before .if1 .left) in
+    let n = sym (at-wide .wide .ensures .0) in
+    let low = le-leb _ _ (at-if3 .before .if2 .left) in
+    let high = le-leb _ _ (at-if3 .if3 .left) in
+    let zeros = sym (at-if4 .before .zeros .ensures) ∙ not-false _ (at-if4 .if4 .left) in
     let r = sym (c .before .before .u16-at .ensures .0) in
     let few = le-leb _ _ (c .before .if5 .left) in
     simp (long, n, low, high, zeros, r, few, ne-eqb _ _ (c .if6 .taken))
@@ -92,12 +99,14 @@ returns-6 c =
 returns-7 : tie.Need-returns-7
 unfolding headerFault
 returns-7 c =
-    let at = c .before .before .before .before .before .before .before .before .before .before in
-    let long = le-ltb _ _ (at .before .before .if1 .left) in
-    let n = sym (at .wide .ensures .0) in
-    let low = le-leb _ _ (c .before .before .before .before .before .before .before .before .before .if2 .left) in
-    let high = le-leb _ _ (c .before .before .before .before .before .before .before .before .if3 .left) in
-    let zeros = sym (c .before .before .before .before .zeros .ensures) ∙ not-false _ (c .before .before .before .if4 .left) in
+    let at-if4 = c .before .before .before in
+    let at-if3 = at-if3 (at-if4 .before) in
+    let at-wide = at-if3 .before .before in
+    let long = le-ltb _ _ (at-wide .before .before .if1 .left) in
+    let n = sym (at-wide .wide .ensures .0) in
+    let low = le-leb _ _ (at-if3 .before .if2 .left) in
+    let high = le-leb _ _ (at-if3 .if3 .left) in
+    let zeros = sym (at-if4 .before .zeros .ensures) ∙ not-false _ (at-if4 .if4 .left) in
     let r = sym (c .before .before .u16-at .ensures .0) in
     let few = le-leb _ _ (c .before .if5 .left) in
     simp (long, n, low, high, zeros, r, few, eq-eqb _ _ (c .if6 .left))

@@ -32,11 +32,15 @@ element-copy-out-same-pair-2 c = search needs
 same-pair-requires : tie.Need-same-pair-requires Inv-loop μ-loop
 same-pair-requires c κs = search needs
 
+abbrev at-loop : tie.After-same-pair Inv-loop μ-loop → tie.At-loop Inv-loop μ-loop
+at-loop c = let at-loop-test = c .before .before .before in at-loop-test .before
+
 returns : tie.Need-returns Inv-loop μ-loop
 returns c =
-    let args = c .before .before .before .before .before .before .args in
+    let at-loop = at-loop (c .before) in
+    let args = at-loop .before .args in
     let g = args .t1 in
-    let i = c .before .before .before .before .before .loop .i in
+    let i = at-loop .loop .i in
     let x = args .x in
     let y = args .y in
     let said = sym (c .before .same-pair .ensures) ∙ c .if1 .taken in
@@ -54,7 +58,8 @@ loop-less c = search needs
 
 loop-again : tie.Need-loop-again Inv-loop μ-loop
 loop-again c =
-    let turn = c .before .before .before .before .before .loop in
+    let at-loop = at-loop (c .before) in
+    let turn = at-loop .loop in
     (omega arith, rw (pair-step, turn .inv .1) (sym (c .before .same-pair .ensures) ∙ c .if1 .left))
 
 returns-2 : tie.Need-returns-2 Inv-loop μ-loop

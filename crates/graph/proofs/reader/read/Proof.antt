@@ -15,9 +15,11 @@ refused-requires c κs = search needs
 returns : tie.Need-returns
 unfolding reading
 returns c =
-    let s = c .before .before .before .before .args .bytes .now in
-    let said = c .before .before .header-fault .ensures in
-    rw (ne-eqb (headerFault s) 0 (λ e. c .before .if1 .taken (said ∙ e)), ← said) (c .refused .ensures)
+    let at-if1 = c .before in
+    let start = at-if1 .before .before .before in
+    let s = start .args .bytes .now in
+    let said = at-if1 .before .header-fault .ensures in
+    rw (ne-eqb (headerFault s) 0 (λ e. at-if1 .if1 .taken (said ∙ e)), ← said) (c .refused .ensures)
 
 follow-requires : tie.Need-follow-requires
 follow-requires c κs = search needs
@@ -25,9 +27,11 @@ follow-requires c κs = search needs
 returns-2 : tie.Need-returns-2
 unfolding reading
 returns-2 c =
-    let s = c .before .before .before .before .args .bytes .now in
-    let said = c .before .before .header-fault .ensures in
-    rw (eq-eqb (headerFault s) 0 (sym said ∙ c .before .if1 .left)) (c .follow .ensures)
+    let at-if1 = c .before in
+    let start = at-if1 .before .before .before in
+    let s = start .args .bytes .now in
+    let said = at-if1 .before .header-fault .ensures in
+    rw (eq-eqb (headerFault s) 0 (sym said ∙ at-if1 .if1 .left)) (c .follow .ensures)
 
 pub read-spec : {M : Type 1} → statement M
 read-spec =

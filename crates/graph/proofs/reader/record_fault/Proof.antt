@@ -49,13 +49,17 @@ wide-requires c κs = search needs
 
 body-fault-requires : tie.Need-body-fault-requires
 body-fault-requires c κs =
-    let at = c .before .before .before .before in
-    let start = at .before .before in
-    omega (arith, at .u16-at .ensures .0, header-ok (start .args .s .now) (start .pre .0))
+    let at-if1 = c .before .before .before in
+    let start = at-if1 .before .before .before in
+    omega (arith, at-if1 .before .u16-at .ensures .0, header-ok (start .args .s .now) (start .pre .0))
+
+abbrev at-if1 : tie.After-body-fault → tie.Else1
+at-if1 c = let at-if2 = c .before .before in at-if2 .before .before
 
 -- what `body_fault` says of the graph's own n
 body : (c : tie.After-body-fault)
-    → let args = c .before .before .before .before .before .before .before .args in
+    → let start = at-if1 c .before .before .before in
+    let args = start .args in
     bodyFault (args .s .now) (args .g .n) (startOf (args .k)) ≡ c .body-fault .result
 unfolding startOf
 body c = sym (rw (c .before .wide .ensures .0) at (c .body-fault .ensures))
@@ -63,9 +67,9 @@ body c = sym (rw (c .before .wide .ensures .0) at (c .body-fault .ensures))
 returns-3 : tie.Need-returns-3
 unfolding recordFault startOf
 returns-3 c =
-    let at = c .before .before .before .before .before .before in
-    let count = sym (at .u16-at .ensures .0) in
-    let under = le-ltb _ _ (c .before .before .before .before .before .if1 .left) in
+    let at-if1 = at-if1 (c .before) in
+    let count = sym (at-if1 .before .u16-at .ensures .0) in
+    let under = le-ltb _ _ (at-if1 .if1 .left) in
     let unmet = c .before .before .before .if2 .left in
     let body = body (c .before) in
     simp (count, under, unmet, body, ne-eqb _ _ (c .if3 .taken))
@@ -75,46 +79,52 @@ wide-requires-2 c κs = search needs
 
 shared-slice-read-pair-met : tie.Need-shared-slice-read-pair-met
 shared-slice-read-pair-met c =
-    let at = c .before .before .before .before .before .before .before .before in
-    let start = at .before .before in
-    omega (arith, at .u16-at .ensures .0, header-ok (start .args .s .now) (start .pre .0))
+    let at-if1 = at-if1 (c .before .before .before) in
+    let start = at-if1 .before .before .before in
+    omega (arith, at-if1 .before .u16-at .ensures .0, header-ok (start .args .s .now) (start .pre .0))
 
 add-pair-met : tie.Need-add-pair-met
 add-pair-met c = search needs
 
 shared-slice-read-pair-met-2 : tie.Need-shared-slice-read-pair-met-2
 shared-slice-read-pair-met-2 c =
-    let at = c .before .before .before .before .before .before .before .before .before in
-    let start = at .before .before in
-    omega (arith, at .u16-at .ensures .0, header-ok (start .args .s .now) (start .pre .0))
+    let at-if3 = c .before .before .before in
+    let at-if1 = at-if1 (at-if3 .before) in
+    let start = at-if1 .before .before .before in
+    omega (arith, at-if1 .before .u16-at .ensures .0, header-ok (start .args .s .now) (start .pre .0))
 
 pair-met-requires : tie.Need-pair-met-requires
 pair-met-requires c κs = search needs
 
+abbrev at-wide2 : tie.After-pair-met → tie.After-wide2
+at-wide2 c = c .before .before .before
+
 returns-4 : tie.Need-returns-4
 unfolding recordFault startOf
 returns-4 c =
-    let tested = c .before .before .before .before .before in
-    let at = tested .before .before .before .before .before .before in
-    let count = sym (at .u16-at .ensures .0) in
-    let under = le-ltb _ _ (tested .before .before .before .before .before .if1 .left) in
+    let at-wide2 = at-wide2 (c .before) in
+    let tested = at-wide2 .before in
+    let at-if1 = at-if1 (tested .before) in
+    let count = sym (at-if1 .before .u16-at .ensures .0) in
+    let under = le-ltb _ _ (at-if1 .if1 .left) in
     let unmet = tested .before .before .before .if2 .left in
     let body = body (tested .before) in
     let fine = eq-eqb _ _ (tested .if3 .left) in
-    let pair = rw (c .before .before .before .before .wide2 .ensures .0) at (c .before .pair-met .ensures) in
+    let pair = rw (at-wide2 .wide2 .ensures .0) at (c .before .pair-met .ensures) in
     simp (count, under, unmet, body, fine, sym pair ∙ c .if4 .taken)
 
 returns-5 : tie.Need-returns-5
 unfolding recordFault startOf
 returns-5 c =
-    let tested = c .before .before .before .before .before in
-    let at = tested .before .before .before .before .before .before in
-    let count = sym (at .u16-at .ensures .0) in
-    let under = le-ltb _ _ (tested .before .before .before .before .before .if1 .left) in
+    let at-wide2 = at-wide2 (c .before) in
+    let tested = at-wide2 .before in
+    let at-if1 = at-if1 (tested .before) in
+    let count = sym (at-if1 .before .u16-at .ensures .0) in
+    let under = le-ltb _ _ (at-if1 .if1 .left) in
     let unmet = tested .before .before .before .if2 .left in
     let body = body (tested .before) in
     let fine = eq-eqb _ _ (tested .if3 .left) in
-    let pair = rw (c .before .before .before .before .wide2 .ensures .0) at (c .before .pair-met .ensures) in
+    let pair = rw (at-wide2 .wide2 .ensures .0) at (c .before .pair-met .ensures) in
     simp (count, under, unmet, body, fine, sym pair ∙ c .if4 .left)
 
 pub record-fault-spec : {M : Type 1} → statement M

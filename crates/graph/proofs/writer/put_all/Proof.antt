@@ -26,18 +26,23 @@ wide-requires-2 c κs = search needs
 
 put-header-requires : tie.Need-put-header-requires Inv-loop μ-loop
 put-header-requires c κs =
-    let start = c .before .before .before .before in
-    (omega (arith, c .before .before .wide .ensures), omega (arith, start .pre))
+    let at-wide = c .before .before in
+    let start = at-wide .before .before in
+    (omega (arith, at-wide .wide .ensures), omega (arith, start .pre))
+
+abbrev start : tie.After-put-header Inv-loop μ-loop → tie.Start Inv-loop μ-loop
+start c = let at-wide2 = c .before .before in at-wide2 .before .before .before
 
 loop-holds : tie.Need-loop-holds Inv-loop μ-loop
 loop-holds c =
-    let start = c .before .before .before .before .before .before .before in
+    let at-put-header = c .before .before in
+    let start = start at-put-header in
     let g = start .args .g in
-    let put = c .before .before .put-header in (
+    let put = at-put-header .put-header in (
       omega arith,
       start .pre .1,
       put .kept .0 ∙ start .pre .2,
-      (rw (put .ensures, c .before .before .before .before .before .wide .ensures .0, c .before .before .before .before .wide2 .ensures .0) (write-start (g .n) (g .m) g (start .args .out .now) (omega (arith, start .pre)))),
+      (rw (put .ensures, at-put-header .before .before .before .wide .ensures .0, at-put-header .before .before .wide2 .ensures .0) (write-start (g .n) (g .m) g (start .args .out .now) (omega (arith, start .pre)))),
     )
 
 put-record-requires : tie.Need-put-record-requires Inv-loop μ-loop
@@ -51,10 +56,12 @@ loop-less c = search needs
 
 loop-again : tie.Need-loop-again Inv-loop μ-loop
 loop-again c =
-    let at = c .before .before .before .before .before in
-    let turn = at .loop in
-    let g = at .before .before .before .before .before .before .before .before .args .g in
-    let put = c .before .before .put-record in (
+    let at-put-record = c .before .before in
+    let at-loop = at-put-record .before .before .before in
+    let start = start (at-loop .before .before .before) in
+    let turn = at-loop .loop in
+    let g = start .args .g in
+    let put = at-put-record .put-record in (
       omega arith,
       turn .inv .1,
       put .kept .0 ∙ turn .inv .2,
@@ -62,13 +69,18 @@ loop-again c =
     )
 
 same-length : tie.Need-same-length Inv-loop μ-loop
-same-length c = c .before .loop .inv .2 ∙ sym (c .before .before .before .before .before .before .before .before .before .pre .2)
+same-length c =
+    let at-loop = c .before in
+    let start = start (at-loop .before .before .before) in
+    at-loop .loop .inv .2 ∙ sym (start .pre .2)
 
 returns : tie.Need-returns Inv-loop μ-loop
 unfolding fileBytes
 returns c =
-    let g = c .before .before .before .before .before .before .before .before .before .args .g in
-    let turn = c .before .loop in
+    let at-loop = c .before in
+    let start = start (at-loop .before .before .before) in
+    let g = start .args .g in
+    let turn = at-loop .loop in
     let e : turn .k ≡ g .m = omega arith in
     write-end (turn .out) _ (sizeOf (g .m)) (turn .inv .2) (rw e at (turn .inv .3))
 

@@ -37,19 +37,24 @@ same-length c = search needs
 returns : tie.Need-returns
 unfolding headerBytes
 returns c =
-    let first = c .before .before .before .before .before .before .before .before in
-    let start = first .before .before .before .before .before .before .before in
+    let at-put42 = c .before .before in
+    let at-low4 = at-put42 .before .before in
+    let at-out = at-low4 .before .before .before in
+    let first = at-out .before in
+    let at-low2 = first .before .before in
+    let at-after = at-low2 .before .before .before in
+    let start = at-after .before .before in
     let byte : start .args .n % 256 ≡ start .args .n = omega (arith, start .pre) in
     simp (
-      c .before .before .put42 .ensures,
+      at-put42 .put42 .ensures,
       first .put4 .ensures,
-      c .before .before .before .low5 .ensures,
-      c .before .before .before .before .low4 .ensures,
+      at-put42 .before .low5 .ensures,
+      at-low4 .low4 .ensures,
       first .before .low3 .ensures,
-      first .before .before .low2 .ensures,
-      first .before .before .before .low .ensures,
+      at-low2 .low2 .ensures,
+      at-low2 .before .low .ensures,
       byte,
-      first .before .before .before .before .before .after .ensures,
+      at-after .after .ensures,
     )
 
 pub put-header-spec : {M : Type 1} → statement M

@@ -79,21 +79,27 @@ returns : tie.Need-returns
 unfolding recordBytes
 returns c =
     let third = c .before .before in
-    let second = third .before .before .before .before .before .before in
-    let first = second .before .before .before .before .before .before .before .before in
-    let size = first .before .before .before .before .before .before in
+    let at-low5 = third .before .before in
+    let at-out2 = at-low5 .before .before .before in
+    let second = at-out2 .before in
+    let at-low3 = second .before .before in
+    let at-low = at-low3 .before .before in
+    let at-out = at-low .before .before .before in
+    let first = at-out .before in
+    let at-put4-arg2 = first .before .before .before in
+    let size = at-put4-arg2 .before .before .before in
     let cost = size .before in
     simp (
       third .put43 .ensures,
       second .put42 .ensures,
       first .put4 .ensures,
       third .before .low6 .ensures,
-      third .before .before .low5 .ensures,
+      at-low5 .low5 .ensures,
       second .before .low4 .ensures,
-      second .before .before .low3 .ensures,
-      second .before .before .before .low2 .ensures,
-      second .before .before .before .before .low .ensures,
-      first .before .before .before .before .before .after .ensures,
+      at-low3 .low3 .ensures,
+      at-low3 .before .low2 .ensures,
+      at-low .low .ensures,
+      at-put4-arg2 .before .before .after .ensures,
       size .wide .ensures .0,
       (rw (back32 _ (cost .before .bits-arg .given)) at (cost .bits .ensures .0)),
       add-four,

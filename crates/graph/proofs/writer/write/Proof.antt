@@ -24,9 +24,11 @@ returns c =
 
 put-all-requires : tie.Need-put-all-requires
 put-all-requires c κs =
-    let args = c .before .before .before .before .args in
-    let said = c .before .before .write-fault .ensures in
-    let fine = write-ok (args .g) (length (args .out .now)) (sym said ∙ c .before .if1 .left) in
+    let at-if1 = c .before in
+    let start = at-if1 .before .before .before in
+    let args = start .args in
+    let said = at-if1 .before .write-fault .ensures in
+    let fine = write-ok (args .g) (length (args .out .now)) (sym said ∙ at-if1 .if1 .left) in
     (omega (arith, fine .0 .high), fine .0 .few, fine .1)
 
 same-length : tie.Need-same-length
@@ -35,10 +37,13 @@ same-length c = search needs
 returns-2 : tie.Need-returns-2
 unfolding writeMeaning writeOutcome writeLeaves
 returns-2 c =
-    let args = c .before .before .before .before .before .before .before .args in
-    let said = c .before .before .before .before .before .write-fault .ensures in
-    let none = eq-eqb (writeFault (args .g) (length (args .out .now))) 0 (sym said ∙ c .before .before .before .before .if1 .left) in
-    (rw none, (rw none (c .before .before .put-all .ensures)))
+    let at-put-all = c .before .before in
+    let at-if1 = at-put-all .before .before in
+    let start = at-if1 .before .before .before in
+    let args = start .args in
+    let said = at-if1 .before .write-fault .ensures in
+    let none = eq-eqb (writeFault (args .g) (length (args .out .now))) 0 (sym said ∙ at-if1 .if1 .left) in
+    (rw none, (rw none (at-put-all .put-all .ensures)))
 
 pub write-spec : {M : Type 1} → statement M
 write-spec =

@@ -25,6 +25,11 @@ pub const MAX_RECORDS: usize = 1000;
 
 pub const MAX_COST: i32 = 1_000_000;
 
+// A file of bytes: a header, then the records.
+pub(crate) const HEADER_SIZE: usize = 8;
+
+pub(crate) const RECORD_SIZE: usize = 12;
+
 // Marks.
 pub const FREE: u8 = 0;
 
@@ -36,10 +41,10 @@ pub const EXCLUDED: u8 = 2;
 // what stands past m counts for nothing. The fields stand widest first, so that no byte lies between them.
 #[repr(C)]
 pub struct Graph {
-    pub cost: [i32; 190],
-    pub a: [u8; 190],
-    pub b: [u8; 190],
-    pub mark: [u8; 190],
+    pub cost: [i32; MAX_EDGES],
+    pub a: [u8; MAX_EDGES],
+    pub b: [u8; MAX_EDGES],
+    pub mark: [u8; MAX_EDGES],
     pub n: u8,
     pub m: u8,
 }
@@ -68,10 +73,10 @@ impl Graph {
         ensures { λ r. ⌜ r ≡ edgeless n ⌝ }
     {
         Graph {
-            cost: [0; 190],
-            a: [0; 190],
-            b: [0; 190],
-            mark: [0; 190],
+            cost: [0; MAX_EDGES],
+            a: [0; MAX_EDGES],
+            b: [0; MAX_EDGES],
+            mark: [0; MAX_EDGES],
             n: n,
             m: 0,
         }

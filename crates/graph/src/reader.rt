@@ -22,9 +22,11 @@ ghost use Rattle.graph.specs.Chart.{
 };
 use crate::EXCLUDED;
 use crate::Graph;
+use crate::HEADER_SIZE;
 use crate::MAX_RECORDS;
 use crate::MAX_VERTICES;
 use crate::MIN_VERTICES;
+use crate::RECORD_SIZE;
 use crate::ReadAnswer;
 use crate::Reading;
 use crate::bytes::signed;
@@ -50,7 +52,7 @@ fn zeros(x: u8, y: u8, z: u8) -> bool
 fn header_fault(s: &[u8]) -> u32
     ensures { λ r. ⌜ r ≡ headerFault (now (s .entry)) ⌝ }
 {
-    if s.len() < 8 {
+    if s.len() < HEADER_SIZE {
         return 1;
     }
     let n = wide(s[0]);
@@ -67,7 +69,7 @@ fn header_fault(s: &[u8]) -> u32
     if r > MAX_RECORDS {
         return 4;
     }
-    if s.len() != 8 + 12 * r {
+    if s.len() != HEADER_SIZE + RECORD_SIZE * r {
         return 4;
     }
     0
@@ -123,7 +125,7 @@ fn pair_met(g: Graph, k: usize, x: u8, y: u8) -> bool
 }
 
 // Refusals 5 to 10 of record k.
-fn record_fault(s: &[u8], met: &[bool; 1000], g: Graph, k: usize) -> u32
+fn record_fault(s: &[u8], met: &[bool; MAX_RECORDS], g: Graph, k: usize) -> u32
     requires { ⌜ (headerFault (now s) ≡ 0) × (0 < k) × (g .m ≤ maxEdges) ⌝ }
     ensures { λ r. ⌜ r ≡ recordFault (now (s .entry)) (now (met .entry)) g k ⌝ }
 {
@@ -133,7 +135,7 @@ fn record_fault(s: &[u8], met: &[bool; 1000], g: Graph, k: usize) -> u32
     if met[k - 1] {
         return 6;
     }
-    let p = 8 + 12 * (k - 1);
+    let p = HEADER_SIZE + RECORD_SIZE * (k - 1);
     let f = body_fault(s, wide(g.n), p);
     if f != 0 {
         return f;
@@ -191,7 +193,7 @@ fn follow(s: &[u8]) -> Reading
     requires { ⌜ headerFault (now s) ≡ 0 ⌝ }
     ensures { λ r. ⌜ Gives r (chain (now (s .entry))) ⌝ }
 {
-    let mut met = [false; 1000];
+    let mut met = [false; MAX_RECORDS];
     let mut g = Graph::edgeless(s[0]);
     let mut k = u16_at(s, 2);
     while k != 0 {
@@ -200,7 +202,7 @@ fn follow(s: &[u8]) -> Reading
             return refused(f, k as u64);
         }
         met[k - 1] = true;
-        let p = 8 + 12 * (k - 1);
+        let p = HEADER_SIZE + RECORD_SIZE * (k - 1);
         g = with_record(s, g, p);
         k = u16_at(s, p + 8);
     }

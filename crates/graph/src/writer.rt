@@ -16,6 +16,8 @@ ghost use Rattle.graph.specs.Chart.{
   writeLeaves,
 };
 use crate::Graph;
+use crate::HEADER_SIZE;
+use crate::RECORD_SIZE;
 use crate::WriteAnswer;
 use crate::bytes::bits;
 use crate::bytes::low;
@@ -55,7 +57,7 @@ fn put_record(out: &mut [u8], g: Graph, k: usize)
     requires { ⌜ (k < maxEdges) × (19 + 12 * k < length (now out)) ⌝ }
     ensures { λ _. ⌜ now (out .exit) ≡ sets (now (out .entry)) (8 + 12 * k) (recordBytes g k) ⌝ }
 {
-    let p = 8 + 12 * k;
+    let p = HEADER_SIZE + RECORD_SIZE * k;
     let c = bits(g.cost[k]);
     let t = after(k + 1, wide(g.m));
     put4(out, p, g.a[k], g.b[k], g.mark[k], 0);
@@ -90,7 +92,7 @@ fn write_fault(g: Graph, len: usize) -> u32
         return 15;
     }
     let m = wide(g.m);
-    if len != 8 + 12 * m {
+    if len != HEADER_SIZE + RECORD_SIZE * m {
         return 11;
     }
     0

@@ -14,14 +14,16 @@ use crate::MAX_COST;
 use crate::MAX_EDGES;
 use crate::MAX_VERTICES;
 use crate::MIN_VERTICES;
-use crate::bytes::wide;
+use crate::wide;
 
 // The table of pairs has a row for each first end, and in it a place for each second end, 0 among them.
 const ROW: usize = MAX_VERTICES + 1;
 
 const PLACES: usize = ROW * ROW;
 
-pub(crate) fn ends_ok(n: usize, x: u8, y: u8) -> bool
+// Are x and y, in this order, the ends of an edge among n vertices?
+// Ruled out: yes where they are swapped or one vertex; no for vertex n.
+pub fn ends_ok(n: usize, x: u8, y: u8) -> bool
     ensures { λ r. ⌜ r ≡ endsOk n x y ⌝ }
 {
     if x < 1 {
@@ -33,7 +35,9 @@ pub(crate) fn ends_ok(n: usize, x: u8, y: u8) -> bool
     wide(y) <= n
 }
 
-pub(crate) fn cost_ok(z: i32) -> bool
+// Is the cost within its range?
+// Ruled out: yes for one beyond the limit on either side; no for the limit itself.
+pub fn cost_ok(z: i32) -> bool
     ensures { λ r. ⌜ r ≡ within maxCost z ⌝ }
 {
     if z < -MAX_COST {

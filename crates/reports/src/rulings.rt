@@ -12,8 +12,8 @@ use crate::lines::put_bound;
 use crate::lines::put_dead;
 use crate::lines::put_edge;
 use crate::lines::put_refused;
+use charts::ReadAnswer;
 use graph::Graph;
-use graph::ReadAnswer;
 use graph::wide;
 use onetree::RuleAnswer;
 
@@ -102,7 +102,7 @@ pub fn rulings_text(input: &[u8], out: &mut [u8; 4096]) -> usize
     if input.len() < 4 {
         return put_refused(out, 1, 0);
     }
-    let chart = graph::read(&input[4..]);
+    let chart = charts::read(&input[4..]);
     let answer = chart.answer;
     let g = chart.graph;
     match answer {

@@ -15,8 +15,8 @@ use crate::lines::put_cost;
 use crate::lines::put_nodes;
 use crate::lines::put_refused;
 use crate::text::put_word;
+use charts::ReadAnswer;
 use graph::Graph;
-use graph::ReadAnswer;
 use graph::wide;
 use machine::Settings;
 use search::Answer;
@@ -106,7 +106,7 @@ pub fn search_text(input: &[u8], out: &mut [u8; 4096]) -> usize
     if input.len() < 4 {
         return put_refused(out, 1, 0);
     }
-    let chart = graph::read(&input[4..]);
+    let chart = charts::read(&input[4..]);
     let answer = chart.answer;
     let g = chart.graph;
     match answer {

@@ -1,8 +1,8 @@
 -- By what `write` says; the arm of the match says which answer it was.
 use mathlib.Core.Path.{_≡_, sym, ap, _∙_}
 use lib.ListN.{length}
-use Rattle.graph.specs.Answers.{writeMeaning, accepted, refused}
-use Rattle.graph.specs.Chart.{writeOutcome}
+use Rattle.charts.specs.Answers.{writeMeaning, accepted, refused}
+use Rattle.charts.specs.Chart.{writeOutcome}
 use Rattle.ffi.specs.Answers.{saidOutcome}
 use borrow.Author.Needs.{needs}
 use Rattle.ffi.proofs.planner_write.Statement.{statement}

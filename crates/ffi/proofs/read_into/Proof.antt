@@ -1,7 +1,7 @@
 -- By what `read` says; the arm of the match says which answer it was.
 use mathlib.Core.Path.{_≡_, sym, ap, _∙_}
-use Rattle.graph.specs.Answers.{readMeaning, accepted, refused}
-use Rattle.graph.specs.Chart.{reading}
+use Rattle.charts.specs.Answers.{readMeaning, accepted, refused}
+use Rattle.charts.specs.Chart.{reading}
 use Rattle.ffi.specs.Answers.{filled}
 use borrow.Author.Needs.{needs}
 use Rattle.ffi.proofs.read_into.Statement.{statement}

@@ -2,9 +2,9 @@
 use native.Mathlib.Omega.{arith}
 use mathlib.Core.Path.{_≡_, sym, _∙_, ap}
 use Rattle.integers.specs.Words.{back64}
-use Rattle.graph.specs.Answers.{accepted, readMeaning}
-use Rattle.graph.specs.Chart.{Gives, reading}
-use Rattle.graph_theorems.specs.WhatIsRead.{read-valid}
+use Rattle.charts.specs.Answers.{accepted, readMeaning}
+use Rattle.charts.specs.Chart.{Gives, reading}
+use Rattle.charts_theorems.specs.WhatIsRead.{read-valid}
 use Rattle.reports.specs.Input.{chartOf}
 use Rattle.reports.specs.Puts.{at-start}
 use Rattle.reports.specs.Room.{refused-room}

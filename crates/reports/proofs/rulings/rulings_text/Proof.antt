@@ -5,6 +5,7 @@ use Rattle.integers.specs.Words.{back64}
 use Rattle.charts.specs.Answers.{accepted, readMeaning}
 use Rattle.charts.specs.Chart.{Gives, reading}
 use Rattle.charts_theorems.specs.WhatIsRead.{read-valid}
+use Rattle.reports.specs.Text.{bufferSize}
 use Rattle.reports.specs.Input.{chartOf}
 use Rattle.reports.specs.Puts.{at-start}
 use Rattle.reports.specs.Room.{refused-room}
@@ -36,7 +37,7 @@ unfolding rulingsText
 returns c =
     let i = c .before .before in
     rw (short-input rulesText (i .before .before .args .input .now) (i .if1 .taken))
-    (at-start 4096 (c .put-refused .ensures .0) (omega arith))
+    (at-start bufferSize (c .put-refused .ensures .0) (omega arith))
 
 sub-read : tie.Need-sub-read
 sub-read c = search needs
@@ -79,7 +80,7 @@ returns-2 c =
     let e = sym (chart at-read .0) ∙ ap readMeaning (at-answer .answer .given .1) in
     rw (refused-chart rulesText (start at-read .args .input .now) (at-read .before .before .if1 .left) (at-answer .answer .given .0 .0)
     (at-answer .answer .given .0 .1 .0) e)
-    (at-start 4096 (c .put-refused2 .ensures .0) (omega arith))
+    (at-start bufferSize (c .put-refused2 .ensures .0) (omega arith))
 
 returns-3 : tie.Need-returns-3
 unfolding rulingsText
@@ -90,7 +91,7 @@ returns-3 c =
     let z = at-ceiling-of .ceiling-of in
     let put = rw (back64 (z .result) (z .ok), z .ensures, chart at-read .1) at (c .put-rules .ensures) in
     rw (read-chart rulesText (start at-read .args .input .now) (at-read .before .before .if1 .left)
-    (accepted-chart (at-ceiling-of .before .before))) (at-start 4096 (put .0) (put .1))
+    (accepted-chart (at-ceiling-of .before .before))) (at-start bufferSize (put .0) (put .1))
 
 pub rulings-text-spec : {M : Type 1} → statement M
 rulings-text-spec =

@@ -9,6 +9,7 @@ pub use bytes::i32_of;
 pub use reader::read;
 pub use writer::write;
 
+// A limit, as specs/Limits.antt of crate graph has it.
 pub const MAX_RECORDS: usize = 1000;
 
 // A file of bytes: a header, then the records.

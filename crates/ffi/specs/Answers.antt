@@ -6,8 +6,8 @@ use Prim.Native.Nat.{ℕ}
 use lib.IntN.{ℤ, pos}
 use Rattle.graph.specs.declared.Graph.{Graph}
 use Rattle.graph.specs.Valid.{valid}
-use Rattle.graph.specs.Answers.{Outcome, accepted, refused}
-use Rattle.graph.specs.Chart.{ReadResult}
+use Rattle.charts.specs.Answers.{Outcome, accepted, refused}
+use Rattle.charts.specs.Chart.{ReadResult}
 use Rattle.onetree.specs.Answers as one
 use Rattle.search.specs.declared.Answer.{Answer}
 use Rattle.search.specs.declared.Answer.the-variants.{Refused, Accepted, GoingOn, Finished, Searching, NoTour, Best}

@@ -3,15 +3,15 @@
 // has none.
 ghost use mathlib.Core.Path.{_≡_};
 ghost use lib.ListN.{length};
-ghost use Rattle.graph.specs.Chart.{reading, writeOutcome, writeLeaves};
+ghost use Rattle.charts.specs.Chart.{reading, writeOutcome, writeLeaves};
 ghost use Rattle.ffi.specs.Answers.{plain, saidOutcome, checkOutcome, filledBy, Fills};
 
 mod searches;
 mod trees;
 
+use charts::ReadAnswer;
+use charts::WriteAnswer;
 use graph::Graph;
-use graph::ReadAnswer;
-use graph::WriteAnswer;
 
 // What a call answers beside document 01's numbers; no refusal has one of these. First 'no tree' and 'dead'.
 pub(crate) const NONE: u32 = 1000;
@@ -67,7 +67,7 @@ pub extern "C" fn planner_check(g: Graph) -> Said
 fn read_into(g: Graph, bytes: &[u8]) -> Filled
     ensures { λ r. ⌜ r ≡ filledBy g (reading (now (bytes .entry))) ⌝ }
 {
-    let r = graph::read(bytes);
+    let r = charts::read(bytes);
     let answer = r.answer;
     match answer {
         ReadAnswer::Read => {
@@ -107,7 +107,7 @@ pub extern "C" fn planner_write(g: Graph, out: &mut [u8]) -> Said
         × (now (out .exit) ≡ writeLeaves g (now (out .entry)))
         ⌝ }
 {
-    let answer = graph::write(g, out);
+    let answer = charts::write(g, out);
     match answer {
         WriteAnswer::Written => plain(0, 0),
         WriteAnswer::Refused(number, at) => plain(number, at),

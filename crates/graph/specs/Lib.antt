@@ -3,16 +3,9 @@ pub mod Network
 pub mod Places
 pub mod Valid
 pub mod Parts
+pub mod Edgeless
 pub mod Same
-pub mod Answers
-pub mod Chart
 pub mod Meaning
 pub mod PairTable
 pub mod Pigeonhole
-pub mod TwosComplement
-pub mod NoFault
-pub mod Appending
-pub mod ChainSteps
-pub mod WriterLoop
 pub mod CheckLoop
-pub mod ReadLoop

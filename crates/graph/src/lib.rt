@@ -1,18 +1,14 @@
-// Document 01's 'Legs and marks' and 'The chart as bytes'. Our words: graph for chart or sea, vertex for buoy, edge for leg.
+// Document 01's 'Legs and marks'. Our words: graph for chart or sea, vertex for buoy, edge for leg.
 ghost use mathlib.Core.Path.{_≡_};
-ghost use Rattle.graph.specs.Chart.{edgeless};
+ghost use Prim.Native.Nat.{_<_};
+ghost use Rattle.graph.specs.Edgeless.{edgeless};
 
-mod bytes;
-mod reader;
 mod valid;
-mod writer;
 
-pub use bytes::i32_of;
-pub use bytes::wide;
-pub use reader::read;
 pub use valid::check;
 pub use valid::check_parts;
-pub use writer::write;
+pub use valid::cost_ok;
+pub use valid::ends_ok;
 
 // Limits. The definitions in specs/Limits.antt state them; every size fact is a law over those.
 pub const MIN_VERTICES: usize = 3;
@@ -20,8 +16,6 @@ pub const MIN_VERTICES: usize = 3;
 pub const MAX_VERTICES: usize = 20;
 
 pub const MAX_EDGES: usize = 190;
-
-pub const MAX_RECORDS: usize = 1000;
 
 pub const MAX_COST: i32 = 1_000_000;
 
@@ -36,42 +30,33 @@ pub const EXCLUDED: u8 = 2;
 // what stands past m counts for nothing. The fields stand widest first, so that no byte lies between them.
 #[repr(C)]
 pub struct Graph {
-    pub cost: [i32; 190],
-    pub a: [u8; 190],
-    pub b: [u8; 190],
-    pub mark: [u8; 190],
+    pub cost: [i32; MAX_EDGES],
+    pub a: [u8; MAX_EDGES],
+    pub b: [u8; MAX_EDGES],
+    pub mark: [u8; MAX_EDGES],
     pub n: u8,
     pub m: u8,
 }
 
-// What a reading answers: specs/Answers.antt has the number and the place of each case. An enum may hold no array, so the graph
-// stands beside it.
-pub enum ReadAnswer {
-    Read,
-    Refused(u32, u64),
-}
-
-pub struct Reading {
-    pub graph: Graph,
-    pub answer: ReadAnswer,
-}
-
-// What a writing answers.
-pub enum WriteAnswer {
-    Written,
-    Refused(u32, u64),
+// A byte as the number that it is: a graph's n or m, an end.
+// Ruled out: another number; a byte taken as signed.
+pub fn wide(x: u8) -> usize
+    ensures { λ r. ⌜ (r ≡ x) × (x < 256) ⌝ }
+{
+    x as usize
 }
 
 impl Graph {
     // n vertices and no edges, zero at every place.
-    pub(crate) fn edgeless(n: u8) -> Graph
+    // Ruled out: one with a vertex more or less; one with an edge or a mark left past m.
+    pub fn edgeless(n: u8) -> Graph
         ensures { λ r. ⌜ r ≡ edgeless n ⌝ }
     {
         Graph {
-            cost: [0; 190],
-            a: [0; 190],
-            b: [0; 190],
-            mark: [0; 190],
+            cost: [0; MAX_EDGES],
+            a: [0; MAX_EDGES],
+            b: [0; MAX_EDGES],
+            mark: [0; MAX_EDGES],
             n: n,
             m: 0,
         }

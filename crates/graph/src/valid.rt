@@ -14,9 +14,16 @@ use crate::MAX_COST;
 use crate::MAX_EDGES;
 use crate::MAX_VERTICES;
 use crate::MIN_VERTICES;
-use crate::bytes::wide;
+use crate::wide;
 
-pub(crate) fn ends_ok(n: usize, x: u8, y: u8) -> bool
+// The table of pairs has a row for each first end, and in it a place for each second end, 0 among them.
+const ROW: usize = MAX_VERTICES + 1;
+
+const PLACES: usize = ROW * ROW;
+
+// Are x and y, in this order, the ends of an edge among n vertices?
+// Ruled out: yes where they are swapped or one vertex; no for vertex n.
+pub fn ends_ok(n: usize, x: u8, y: u8) -> bool
     ensures { λ r. ⌜ r ≡ endsOk n x y ⌝ }
 {
     if x < 1 {
@@ -28,7 +35,9 @@ pub(crate) fn ends_ok(n: usize, x: u8, y: u8) -> bool
     wide(y) <= n
 }
 
-pub(crate) fn cost_ok(z: i32) -> bool
+// Is the cost within its range?
+// Ruled out: yes for one beyond the limit on either side; no for the limit itself.
+pub fn cost_ok(z: i32) -> bool
     ensures { λ r. ⌜ r ≡ within maxCost z ⌝ }
 {
     if z < -MAX_COST {
@@ -69,7 +78,13 @@ fn cost_unfit(z: i32) -> u32
 // Each loop counts what is wrong and looks at the count once, at the end: a loop with no way out in the middle takes many edges at a time.
 
 // Are the ends and the marks of all edges as they must be?
-fn ends_fit<'a>(n: u8, m: usize, a: &'a [u8; 190], b: &'a [u8; 190], mark: &'a [u8; 190]) -> bool
+fn ends_fit<'a>(
+    n: u8,
+    m: usize,
+    a: &'a [u8; MAX_EDGES],
+    b: &'a [u8; MAX_EDGES],
+    mark: &'a [u8; MAX_EDGES],
+) -> bool
     requires { ⌜ m ≤ maxEdges ⌝ }
     ensures { λ r. ⌜ Says r (Nowhere (unfitAt n (now (a .entry)) (now (b .entry)) (now (mark .entry))) m) ⌝ }
 {
@@ -83,7 +98,7 @@ fn ends_fit<'a>(n: u8, m: usize, a: &'a [u8; 190], b: &'a [u8; 190], mark: &'a [
 }
 
 // Are all costs within their range?
-fn costs_fit(m: usize, cost: &[i32; 190]) -> bool
+fn costs_fit(m: usize, cost: &[i32; MAX_EDGES]) -> bool
     requires { ⌜ m ≤ maxEdges ⌝ }
     ensures { λ r. ⌜ Says r (Nowhere (costUnfitAt (now (cost .entry))) m) ⌝ }
 {
@@ -100,15 +115,15 @@ fn costs_fit(m: usize, cost: &[i32; 190]) -> bool
 fn place_of(x: u8, y: u8) -> usize
     ensures { λ r. ⌜ r ≡ placeOf x y ⌝ }
 {
-    wide(x) * 21 + wide(y)
+    wide(x) * ROW + wide(y)
 }
 
 // Is each pair of ends there once?
-fn pairs_fit<'a>(m: usize, a: &'a [u8; 190], b: &'a [u8; 190]) -> bool
+fn pairs_fit<'a>(m: usize, a: &'a [u8; MAX_EDGES], b: &'a [u8; MAX_EDGES]) -> bool
     requires { ⌜ (m ≤ maxEdges) × InPairs (now a) (now b) m ⌝ }
     ensures { λ r. ⌜ Says r (Nowhere (pairAgain (now (a .entry)) (now (b .entry))) m) ⌝ }
 {
-    let mut met = [0u8; 441];
+    let mut met = [0u8; PLACES];
     let mut again: u8 = 0;
     let mut k = 0;
     while k < m {
@@ -125,10 +140,10 @@ fn pairs_fit<'a>(m: usize, a: &'a [u8; 190], b: &'a [u8; 190]) -> bool
 pub fn check_parts<'a>(
     n: usize,
     m: usize,
-    a: &'a [u8; 190],
-    b: &'a [u8; 190],
-    cost: &'a [i32; 190],
-    mark: &'a [u8; 190],
+    a: &'a [u8; MAX_EDGES],
+    b: &'a [u8; MAX_EDGES],
+    cost: &'a [i32; MAX_EDGES],
+    mark: &'a [u8; MAX_EDGES],
 ) -> bool
     ensures { λ r. ⌜ r ≡ valid (graphOf n m (now (a .entry)) (now (b .entry)) (now (cost .entry)) (now (mark .entry))) ⌝ }
 {

@@ -7,8 +7,8 @@ use lib.Dec.{ltb}
 use lib.IntN.{ℤ}
 use lib.ListN.{length, drop}
 use Rattle.graph.specs.declared.Graph.{Graph}
-use Rattle.graph.specs.Answers.{Outcome, accepted, refused}
-use Rattle.graph.specs.Chart.{u32At, signedOf, reading}
+use Rattle.charts.specs.Answers.{Outcome, accepted, refused}
+use Rattle.charts.specs.Chart.{u32At, signedOf, reading}
 use Rattle.reports.specs.Text.{refusedLine}
 
 -- the bytes of the ceiling

@@ -13,7 +13,7 @@ use borrow.Author.Tests.{le-ltb, ltb-true, ltb-false, leb-true, ne-eqb}
 use Rattle.lists.specs.Bools.{by-cases}
 use Rattle.graph.specs.declared.Graph.{Graph}
 use Rattle.graph.specs.Limits.{minVertices, maxVertices, maxRecords}
-use Rattle.graph.specs.Chart.{u32At, vertices, recordCount, sizeOf, headerFault, reading}
+use Rattle.charts.specs.Chart.{u32At, vertices, recordCount, sizeOf, headerFault, reading}
 use Rattle.reports.specs.Input.{ceilingSize, ceilingOf, chartOf, printed}
 
 -- the longest file: "record count r (u16, at most 1,000)"

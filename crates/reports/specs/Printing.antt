@@ -8,8 +8,8 @@ use lib.ListN.{length, take, drop, length-drop}
 use lib.Seq.{take-all}
 use borrow.Author.Tests.{lt-ltb, le-ltb}
 use Rattle.graph.specs.declared.Graph.{Graph}
-use Rattle.graph.specs.Answers.{accepted, refused}
-use Rattle.graph.specs.Chart.{reading}
+use Rattle.charts.specs.Answers.{accepted, refused}
+use Rattle.charts.specs.Chart.{reading}
 use Rattle.reports.specs.Text.{refusedLine}
 use Rattle.reports.specs.Input.{ceilingSize, ceilingOf, chartOf, printed}
 

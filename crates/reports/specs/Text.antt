@@ -7,6 +7,10 @@ use lib.IntN.{ℤ}
 use Rattle.machine.specs.Calls.{Verdict, goingOn, none, best}
 use Rattle.reports.specs.Decimal.{decimal, signedDecimal}
 
+-- the buffer that a text is put into
+abbrev pub bufferSize : ℕ
+bufferSize = 4096
+
 -- a text's bytes: each character here is ASCII, and its code is the byte
 abbrev pub ascii : String → List ℕ
 ascii []ˢ = []

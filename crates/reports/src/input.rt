@@ -8,5 +8,5 @@ pub(crate) fn ceiling_of(input: &[u8]) -> i64
     requires { ⌜ ceilingSize ≤ length (now input) ⌝ }
     ensures { λ r. ⌜ r ≡ ceilingOf (now (input .entry)) ⌝ }
 {
-    graph::i32_of(input[0], input[1], input[2], input[3]) as i64
+    charts::i32_of(input[0], input[1], input[2], input[3]) as i64
 }

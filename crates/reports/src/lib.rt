@@ -7,3 +7,6 @@ mod text;
 
 pub use rulings::rulings_text;
 pub use searching::search_text;
+
+// The buffer that a program lends for its text.
+pub const BUFFER_SIZE: usize = 4096;

@@ -4,8 +4,9 @@ ghost use lib.ListN.{length};
 ghost use Rattle.machine.specs.Calls.{best};
 ghost use Rattle.reports.specs.Decimal.{decimal, signedDecimal};
 ghost use Rattle.reports.specs.Room.{edgeSize};
-ghost use Rattle.reports.specs.Text.{refusedLine, deadLine, boundLine, rulingWord, edgeLine, verdictLine, nodesLine};
+ghost use Rattle.reports.specs.Text.{bufferSize, refusedLine, deadLine, boundLine, rulingWord, edgeLine, verdictLine, nodesLine};
 ghost use Rattle.reports.specs.Puts.{Put};
+use crate::BUFFER_SIZE;
 use crate::text::put_byte;
 use crate::text::put_decimal;
 use crate::text::put_signed;
@@ -16,7 +17,7 @@ use onetree::KEEP;
 use onetree::WAS_REQUIRED;
 
 // 'refused N at P'
-pub(crate) fn put_refused(out: &mut [u8; 4096], number: u32, place: u64) -> usize
+pub(crate) fn put_refused(out: &mut [u8; BUFFER_SIZE], number: u32, place: u64) -> usize
     requires { ⌜ length (decimal number) + length (decimal place) ≤ 40 ⌝ }
     ensures { λ r. ⌜ Put (refusedLine number place) (now (out .entry)) 0 (now (out .exit)) r × (r ≤ 56) ⌝ }
 {
@@ -28,14 +29,14 @@ pub(crate) fn put_refused(out: &mut [u8; 4096], number: u32, place: u64) -> usiz
 }
 
 // 'dead'
-pub(crate) fn put_dead(out: &mut [u8; 4096]) -> usize
+pub(crate) fn put_dead(out: &mut [u8; BUFFER_SIZE]) -> usize
     ensures { λ r. ⌜ Put deadLine (now (out .entry)) 0 (now (out .exit)) r × (r ≤ 56) ⌝ }
 {
     put_word(out, 0, b"dead\n")
 }
 
 // The first line: the bound and the ceiling.
-pub(crate) fn put_bound(out: &mut [u8; 4096], bound: i64, ceiling: i64) -> usize
+pub(crate) fn put_bound(out: &mut [u8; BUFFER_SIZE], bound: i64, ceiling: i64) -> usize
     requires { ⌜ length (signedDecimal bound) + length (signedDecimal ceiling) ≤ 40 ⌝ }
     ensures { λ r. ⌜ Put (boundLine bound ceiling) (now (out .entry)) 0 (now (out .exit)) r × (r ≤ 56) ⌝ }
 {
@@ -46,8 +47,8 @@ pub(crate) fn put_bound(out: &mut [u8; 4096], bound: i64, ceiling: i64) -> usize
     put_byte(out, p, b'\n')
 }
 
-fn put_ruling(out: &mut [u8; 4096], at: usize, ruling: u8) -> usize
-    requires { ⌜ at + 8 ≤ 4096 ⌝ }
+fn put_ruling(out: &mut [u8; BUFFER_SIZE], at: usize, ruling: u8) -> usize
+    requires { ⌜ at + 8 ≤ bufferSize ⌝ }
     ensures { λ r. ⌜ Put (rulingWord ruling) (now (out .entry)) at (now (out .exit)) r ⌝ }
 {
     if ruling == KEEP {
@@ -66,8 +67,15 @@ fn put_ruling(out: &mut [u8; 4096], at: usize, ruling: u8) -> usize
 }
 
 // The line of edge k, which joins a and b.
-pub(crate) fn put_edge(out: &mut [u8; 4096], at: usize, k: u64, a: u8, b: u8, ruling: u8) -> usize
-    requires { ⌜ at + edgeSize k a b ≤ 4096 ⌝ }
+pub(crate) fn put_edge(
+    out: &mut [u8; BUFFER_SIZE],
+    at: usize,
+    k: u64,
+    a: u8,
+    b: u8,
+    ruling: u8,
+) -> usize
+    requires { ⌜ at + edgeSize k a b ≤ bufferSize ⌝ }
     ensures { λ r. ⌜ Put (edgeLine k a b ruling) (now (out .entry)) at (now (out .exit)) r ⌝ }
 {
     let mut p = put_decimal(out, at, k);
@@ -81,7 +89,7 @@ pub(crate) fn put_edge(out: &mut [u8; 4096], at: usize, k: u64, a: u8, b: u8, ru
 }
 
 // 'cost C'
-pub(crate) fn put_cost(out: &mut [u8; 4096], cost: i64) -> usize
+pub(crate) fn put_cost(out: &mut [u8; BUFFER_SIZE], cost: i64) -> usize
     ensures { λ r. ⌜ Put (verdictLine (best cost)) (now (out .entry)) 0 (now (out .exit)) r × (r ≤ 26) ⌝ }
 {
     let mut p = put_word(out, 0, b"cost ");
@@ -90,7 +98,7 @@ pub(crate) fn put_cost(out: &mut [u8; 4096], cost: i64) -> usize
 }
 
 // 'nodes K'
-pub(crate) fn put_nodes(out: &mut [u8; 4096], at: usize, count: u64) -> usize
+pub(crate) fn put_nodes(out: &mut [u8; BUFFER_SIZE], at: usize, count: u64) -> usize
     requires { ⌜ at ≤ 26 ⌝ }
     ensures { λ r. ⌜ Put (nodesLine count) (now (out .entry)) at (now (out .exit)) r × (r ≤ 56) ⌝ }
 {

@@ -7,20 +7,24 @@ ghost use Rattle.graph.specs.Valid.{Valid};
 ghost use Rattle.onetree.specs.Answers.{ruleMeaning, ruleReply, ruleLeaves};
 ghost use Rattle.reports.specs.Puts.{Put};
 ghost use Rattle.reports.specs.Rulings.{edgeLines, replyText, rulesText, rulingsText};
+ghost use Rattle.reports.specs.Text.{bufferSize};
+use crate::BUFFER_SIZE;
 use crate::input::ceiling_of;
 use crate::lines::put_bound;
 use crate::lines::put_dead;
 use crate::lines::put_edge;
 use crate::lines::put_refused;
+use charts::ReadAnswer;
 use graph::Graph;
-use graph::ReadAnswer;
+use graph::MAX_EDGES;
+use graph::MAX_VERTICES;
 use graph::wide;
 use onetree::RuleAnswer;
 
 // One line an edge, after what ends at `at`.
-fn put_edges(out: &mut [u8; 4096], at: usize, g: Graph, rulings: &[u8]) -> usize
+fn put_edges(out: &mut [u8; BUFFER_SIZE], at: usize, g: Graph, rulings: &[u8]) -> usize
     requires { ⌜ (at ≤ 56) × Valid g × (length (now rulings) ≡ g .m) ⌝ }
-    ensures { λ r. ⌜ Put (edgeLines g (now (rulings .entry)) (g .m)) (now (out .entry)) at (now (out .exit)) r × (r ≤ 4096) ⌝ }
+    ensures { λ r. ⌜ Put (edgeLines g (now (rulings .entry)) (g .m)) (now (out .entry)) at (now (out .exit)) r × (r ≤ bufferSize) ⌝ }
 {
     let m = wide(g.m);
     let mut p = at;
@@ -32,7 +36,7 @@ fn put_edges(out: &mut [u8; 4096], at: usize, g: Graph, rulings: &[u8]) -> usize
 
 // A rule call's answer, with the rulings that it left.
 fn put_answer(
-    out: &mut [u8; 4096],
+    out: &mut [u8; BUFFER_SIZE],
     ceiling: i64,
     g: Graph,
     answer: RuleAnswer,
@@ -42,7 +46,7 @@ fn put_answer(
     ensures { λ r.
         ⌜
         Put (replyText g ceiling (ruleMeaning answer) (now (rulings .entry))) (now (out .entry)) 0 (now (out .exit)) r
-        × (r ≤ 4096)
+        × (r ≤ bufferSize)
         ⌝ }
 {
     match answer {
@@ -57,7 +61,7 @@ fn put_answer(
 
 // The rule call, with a list lent for its rulings.
 fn put_reply(
-    out: &mut [u8; 4096],
+    out: &mut [u8; BUFFER_SIZE],
     ceiling: i64,
     g: Graph,
     multipliers: &[i32],
@@ -70,7 +74,7 @@ fn put_reply(
         (replyText g ceiling (ruleReply g (now (multipliers .entry)) ceiling (length (now (rulings .entry))))
         (ruleLeaves g (now (multipliers .entry)) ceiling (now (rulings .entry))))
         (now (out .entry)) 0 (now (out .exit)) r
-        × (r ≤ 4096)
+        × (r ≤ bufferSize)
         ⌝ }
 {
     let answer = onetree::rule(g, multipliers, ceiling, rulings);
@@ -78,31 +82,31 @@ fn put_reply(
 }
 
 // With zero multipliers.
-fn put_rules(out: &mut [u8; 4096], ceiling: i64, g: Graph) -> usize
+fn put_rules(out: &mut [u8; BUFFER_SIZE], ceiling: i64, g: Graph) -> usize
     requires { ⌜ Valid g ⌝ }
-    ensures { λ r. ⌜ Put (rulesText ceiling g) (now (out .entry)) 0 (now (out .exit)) r × (r ≤ 4096) ⌝ }
+    ensures { λ r. ⌜ Put (rulesText ceiling g) (now (out .entry)) 0 (now (out .exit)) r × (r ≤ bufferSize) ⌝ }
 {
     let n = wide(g.n);
     let m = wide(g.m);
-    let multipliers = [0i32; 20];
-    let mut rulings = [0u8; 190];
+    let multipliers = [0i32; MAX_VERTICES];
+    let mut rulings = [0u8; MAX_EDGES];
     put_reply(out, ceiling, g, &multipliers[..n], &mut rulings[..m])
 }
 
 // All that program 'rulings' prints of an input.
 // Ruled out: a refusal of the ceiling beside a fault of the chart; a byte past the text changed.
-pub fn rulings_text(input: &[u8], out: &mut [u8; 4096]) -> usize
+pub fn rulings_text(input: &[u8], out: &mut [u8; BUFFER_SIZE]) -> usize
     ensures { λ r.
         ⌜
         (r ≡ length (rulingsText (now (input .entry))))
-        × (r ≤ 4096)
+        × (r ≤ bufferSize)
         × (now (out .exit) ≡ sets (now (out .entry)) 0 (rulingsText (now (input .entry))))
         ⌝ }
 {
     if input.len() < 4 {
         return put_refused(out, 1, 0);
     }
-    let chart = graph::read(&input[4..]);
+    let chart = charts::read(&input[4..]);
     let answer = chart.answer;
     let g = chart.graph;
     match answer {

@@ -10,17 +10,23 @@ ghost use Rattle.search.specs.Record.{openingOf};
 ghost use Rattle.search.specs.Replies.{means};
 ghost use Rattle.reports.specs.Puts.{Put};
 ghost use Rattle.reports.specs.Searching.{plainSettings, lastAnswer, answerText, searchText, searchProgramText};
+ghost use Rattle.reports.specs.Text.{bufferSize};
+use crate::BUFFER_SIZE;
 use crate::input::ceiling_of;
 use crate::lines::put_cost;
 use crate::lines::put_nodes;
 use crate::lines::put_refused;
 use crate::text::put_word;
+use charts::ReadAnswer;
 use graph::Graph;
-use graph::ReadAnswer;
+use graph::MAX_VERTICES;
 use graph::wide;
 use machine::Settings;
 use search::Answer;
 use search::Search;
+
+// The budget of the one run.
+const BUDGET: u64 = 1_000_000;
 
 fn is_refused(answer: Answer) -> bool
     ensures { λ r. ⌜ r ≡ not (isAccepted (means answer)) ⌝ }
@@ -52,15 +58,15 @@ fn last_answer(g: Graph, multipliers: &[i32], ceiling: i64) -> Answer
         return answer;
     }
     let begun = opened.search;
-    let run = search::run_core(begun, 1_000_000);
+    let run = search::run_core(begun, BUDGET);
     let left = run.search;
     let told = search::tell_core(left);
     told.answer
 }
 
 // The line or lines of an answer.
-fn put_answer(out: &mut [u8; 4096], answer: Answer) -> usize
-    ensures { λ r. ⌜ Put (answerText (means answer)) (now (out .entry)) 0 (now (out .exit)) r × (r ≤ 4096) ⌝ }
+fn put_answer(out: &mut [u8; BUFFER_SIZE], answer: Answer) -> usize
+    ensures { λ r. ⌜ Put (answerText (means answer)) (now (out .entry)) 0 (now (out .exit)) r × (r ≤ bufferSize) ⌝ }
 {
     match answer {
         Answer::Refused(number, place) => put_refused(out, number, place),
@@ -83,30 +89,30 @@ fn put_answer(out: &mut [u8; 4096], answer: Answer) -> usize
 }
 
 // With zero multipliers.
-fn put_search(out: &mut [u8; 4096], ceiling: i64, g: Graph) -> usize
+fn put_search(out: &mut [u8; BUFFER_SIZE], ceiling: i64, g: Graph) -> usize
     requires { ⌜ Valid g ⌝ }
-    ensures { λ r. ⌜ Put (searchText ceiling g) (now (out .entry)) 0 (now (out .exit)) r × (r ≤ 4096) ⌝ }
+    ensures { λ r. ⌜ Put (searchText ceiling g) (now (out .entry)) 0 (now (out .exit)) r × (r ≤ bufferSize) ⌝ }
 {
     let n = wide(g.n);
-    let multipliers = [0i32; 20];
+    let multipliers = [0i32; MAX_VERTICES];
     let answer = last_answer(g, &multipliers[..n], ceiling);
     put_answer(out, answer)
 }
 
 // All that program 'hunt' prints of an input.
 // Ruled out: a verdict beside a refusal; the count of another run; a byte past the text changed.
-pub fn search_text(input: &[u8], out: &mut [u8; 4096]) -> usize
+pub fn search_text(input: &[u8], out: &mut [u8; BUFFER_SIZE]) -> usize
     ensures { λ r.
         ⌜
         (r ≡ length (searchProgramText (now (input .entry))))
-        × (r ≤ 4096)
+        × (r ≤ bufferSize)
         × (now (out .exit) ≡ sets (now (out .entry)) 0 (searchProgramText (now (input .entry))))
         ⌝ }
 {
     if input.len() < 4 {
         return put_refused(out, 1, 0);
     }
-    let chart = graph::read(&input[4..]);
+    let chart = charts::read(&input[4..]);
     let answer = chart.answer;
     let g = chart.graph;
     match answer {

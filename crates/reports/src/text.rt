@@ -6,10 +6,12 @@ ghost use lib.ListN.{length};
 ghost use lib.IntN.{natAbs};
 ghost use Rattle.reports.specs.Decimal.{decimal, signedDecimal};
 ghost use Rattle.reports.specs.Puts.{Put};
+ghost use Rattle.reports.specs.Text.{bufferSize};
+use crate::BUFFER_SIZE;
 
 // The bytes of a word.
-pub(crate) fn put_word(out: &mut [u8; 4096], at: usize, word: &[u8]) -> usize
-    requires { ⌜ at + length (now word) ≤ 4096 ⌝ }
+pub(crate) fn put_word(out: &mut [u8; BUFFER_SIZE], at: usize, word: &[u8]) -> usize
+    requires { ⌜ at + length (now word) ≤ bufferSize ⌝ }
     ensures { λ r. ⌜ Put (now (word .entry)) (now (out .entry)) at (now (out .exit)) r ⌝ }
 {
     let mut p = at;
@@ -20,8 +22,8 @@ pub(crate) fn put_word(out: &mut [u8; 4096], at: usize, word: &[u8]) -> usize
     p
 }
 
-pub(crate) fn put_byte(out: &mut [u8; 4096], at: usize, x: u8) -> usize
-    requires { ⌜ at < 4096 ⌝ }
+pub(crate) fn put_byte(out: &mut [u8; BUFFER_SIZE], at: usize, x: u8) -> usize
+    requires { ⌜ at < bufferSize ⌝ }
     ensures { λ r. ⌜ Put (x ∷ []) (now (out .entry)) at (now (out .exit)) r ⌝ }
 {
     out[at] = x;
@@ -36,8 +38,8 @@ fn digit(d: u64) -> u8
 }
 
 // A number, with no zero in front.
-pub(crate) fn put_decimal(out: &mut [u8; 4096], at: usize, n: u64) -> usize
-    requires { ⌜ at + length (decimal n) ≤ 4096 ⌝ }
+pub(crate) fn put_decimal(out: &mut [u8; BUFFER_SIZE], at: usize, n: u64) -> usize
+    requires { ⌜ at + length (decimal n) ≤ bufferSize ⌝ }
     ensures { λ r. ⌜ Put (decimal n) (now (out .entry)) at (now (out .exit)) r ⌝ }
 {
     if n < 10 {
@@ -57,8 +59,8 @@ fn magnitude(z: i64) -> u64
 }
 
 // A number with its sign: '-' or nothing.
-pub(crate) fn put_signed(out: &mut [u8; 4096], at: usize, z: i64) -> usize
-    requires { ⌜ at + length (signedDecimal z) ≤ 4096 ⌝ }
+pub(crate) fn put_signed(out: &mut [u8; BUFFER_SIZE], at: usize, z: i64) -> usize
+    requires { ⌜ at + length (signedDecimal z) ≤ bufferSize ⌝ }
     ensures { λ r. ⌜ Put (signedDecimal z) (now (out .entry)) at (now (out .exit)) r ⌝ }
 {
     if z < 0 {

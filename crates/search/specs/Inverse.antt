@@ -13,7 +13,7 @@ use Rattle.lists.specs.Bools.{bit}
 use Rattle.lists.specs.Fill.{fit, fit-at, fit-fill, fit-cut, replicate-at, replicate-is}
 use Rattle.graph.specs.Limits.{maxVertices, maxEdges}
 use Rattle.graph.specs.Network.{free}
-use Rattle.graph.specs.Chart.{edgeless}
+use Rattle.graph.specs.Edgeless.{edgeless}
 use Rattle.machine.specs.Machine.{Marks, Progress, State, noSearch, searching}
 use Rattle.machine.specs.Requireds.{requireds}
 use Rattle.machine.specs.Calls.{fault}

@@ -11,7 +11,7 @@ use Rattle.lists.specs.Fill.{fill, fit}
 use Rattle.graph.specs.declared.Graph.{Graph}
 use Rattle.graph.specs.Limits.{maxVertices, maxEdges}
 use Rattle.graph.specs.Network.{Mark, free, required, excluded, markOf}
-use Rattle.graph.specs.Chart.{edgeless}
+use Rattle.graph.specs.Edgeless.{edgeless}
 use Rattle.machine.specs.declared.Settings.{Settings}
 use Rattle.machine.specs.Outcomes.{Incumbent, noTour, aTour}
 use Rattle.machine.specs.Machine.{Marks, Opening, Progress, State, noSearch, searching}

@@ -16,6 +16,8 @@ mod stack;
 
 use cost::tour_cost;
 use graph::Graph;
+use graph::MAX_EDGES;
+use graph::MAX_VERTICES;
 use graph::wide;
 use machine::Settings;
 use record::sound;
@@ -30,8 +32,13 @@ pub const MAX_STEP: u32 = 10_000;
 
 pub const MAX_COUNT: u64 = 9_223_372_036_854_775_807;
 
+// Room for the nodes that wait, a byte for each edge: a search never has more than n + 2 of them.
+pub const MAX_NODES: usize = MAX_VERTICES + 2;
+
+pub const STACK_SIZE: usize = MAX_EDGES * MAX_NODES;
+
 // The search record. Where a search is open: the arguments of its opening, the upper bound, the stack (node p from the bottom has
-// a mark for each edge from place 190 * p on), the incumbent (1 in, 0 out) and the count of nodes opened. The flags `open` and `has_best`
+// a mark for each edge from place MAX_EDGES * p on), the incumbent (1 in, 0 out) and the count of nodes opened. The flags `open` and `has_best`
 // are bytes, 1 yes and 0 no. The fields stand by width, so that no byte lies between them. docs/RECORD.md states the check that every
 // call makes of it.
 #[repr(C)]
@@ -41,9 +48,9 @@ pub struct Search {
     pub count: u64,
     pub depth: usize,
     pub graph: Graph,
-    pub multipliers: [i32; 20],
-    pub stack: [u8; 4180],
-    pub best: [u8; 190],
+    pub multipliers: [i32; MAX_VERTICES],
+    pub stack: [u8; STACK_SIZE],
+    pub best: [u8; MAX_EDGES],
     pub open: u8,
     pub has_best: u8,
 }
@@ -86,9 +93,9 @@ impl Search {
             count: 0,
             depth: 0,
             graph: g,
-            multipliers: [0; 20],
-            stack: [0; 4180],
-            best: [0; 190],
+            multipliers: [0; MAX_VERTICES],
+            stack: [0; STACK_SIZE],
+            best: [0; MAX_EDGES],
             open: 0,
             has_best: 0,
         }

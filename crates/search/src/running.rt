@@ -5,6 +5,7 @@ ghost use Rattle.machine.specs.Machine.{Progress, openTop, ran};
 ghost use Rattle.search.specs.Opening.{opened};
 ghost use Rattle.search.specs.Frames.{Holds, Opens};
 ghost use Rattle.search.specs.Running.{Runs};
+use crate::STACK_SIZE;
 use crate::compact::open_compact;
 use crate::cost::tour_cost;
 use crate::node::Fate;
@@ -12,6 +13,8 @@ use crate::node::Subproblem;
 use crate::stack::node;
 use crate::stack::put;
 use graph::Graph;
+use graph::MAX_EDGES;
+use graph::MAX_VERTICES;
 use graph::wide;
 use machine::Settings;
 
@@ -26,13 +29,13 @@ pub(crate) struct Frame {
 // What the opening of the top node makes of a search.
 fn settle<'a>(
     m: usize,
-    cost: &'a [i32; 190],
+    cost: &'a [i32; MAX_EDGES],
     f: Frame,
     fate: Fate,
-    row: &'a [u8; 190],
-    top: &'a [u8; 190],
-    stack: &mut [u8; 4180],
-    best: &mut [u8; 190],
+    row: &'a [u8; MAX_EDGES],
+    top: &'a [u8; MAX_EDGES],
+    stack: &mut [u8; STACK_SIZE],
+    best: &mut [u8; MAX_EDGES],
 ) -> Frame
     requires { ⌜ Opens m (now cost) f (now stack) (now best) (opened fate (now row) (now top)) ⌝ }
     ensures { λ r. ⌜ ((t : Opens m (now (cost .entry)) f (now (stack .entry)) (now (best .entry))
@@ -78,11 +81,11 @@ fn settle<'a>(
 // The run: the top node is opened, again and again. The graph's own marks count for nothing here: a node has its own.
 pub(crate) fn run_frame(
     g: Graph,
-    multipliers: [i32; 20],
+    multipliers: [i32; MAX_VERTICES],
     settings: Settings,
     f: Frame,
-    stack: &mut [u8; 4180],
-    best: &mut [u8; 190],
+    stack: &mut [u8; STACK_SIZE],
+    best: &mut [u8; MAX_EDGES],
     budget: u64,
 ) -> Frame
     requires { ⌜ ((s : Progress) × Runs g multipliers settings f (now stack) (now best) s) ⌝ }
@@ -93,7 +96,7 @@ pub(crate) fn run_frame(
     let m = wide(g.m);
     let mut t = f;
     let mut left = budget;
-    let mut top = [0u8; 190];
+    let mut top = [0u8; MAX_EDGES];
     while left > 0 {
         if t.depth == 0 {
             return t;

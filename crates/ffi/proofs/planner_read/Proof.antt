@@ -1,5 +1,5 @@
 -- The thin function over `read_into`: crate thin's Bytes at its theorem.
-use Rattle.graph.specs.Chart.{reading}
+use Rattle.charts.specs.Chart.{reading}
 use Rattle.thin.specs.Bytes.{spec-eq}
 use Rattle.ffi.specs.Answers.{filledBy}
 use Rattle.ffi.proofs.ThinTypes.{said, graph, filled}

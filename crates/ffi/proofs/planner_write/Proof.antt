@@ -1,8 +1,8 @@
 -- By what `write` says; the arm of the match says which answer it was.
 use mathlib.Core.Path.{_≡_, sym, ap, _∙_}
 use lib.ListN.{length}
-use Rattle.graph.specs.Answers.{writeMeaning, accepted, refused}
-use Rattle.graph.specs.Chart.{writeOutcome}
+use Rattle.charts.specs.Answers.{writeMeaning, accepted, refused}
+use Rattle.charts.specs.Chart.{writeOutcome}
 use Rattle.ffi.specs.Answers.{saidOutcome}
 use borrow.Author.Needs.{needs}
 use Rattle.ffi.proofs.planner_write.Statement.{statement}
@@ -29,8 +29,11 @@ same-length c = search needs
 returns : tie.Need-returns
 unfolding writeMeaning saidOutcome
 returns c =
-    let a = c .before .before .before .before .before .before .before .before .args in
-    let said = c .before .before .before .before .before .write .ensures in
+    let at-match = c .before .before in
+    let at-write = at-match .before .before .before in
+    let start = at-write .before .before .before in
+    let a = start .args in
+    let said = at-write .write .ensures in
     let out : writeOutcome (a .g) (length (a .out .now)) ≡ accepted = sym (said .0) ∙ ap writeMeaning (c .before .enum-told .given .1) in
     (rw out (c .plain .ensures), said .1)
 
@@ -40,8 +43,11 @@ same-length-2 c = search needs
 returns-2 : tie.Need-returns-2
 unfolding writeMeaning saidOutcome
 returns-2 c =
-    let a = c .before .before .before .before .before .before .before .before .before .args in
-    let said = c .before .before .before .before .before .before .write .ensures in
+    let at-match = c .before .before .before in
+    let at-write = at-match .before .before .before in
+    let start = at-write .before .before .before in
+    let a = start .args in
+    let said = at-write .write .ensures in
     let arm = c .before .before .answer .given in
     let out : writeOutcome (a .g) (length (a .out .now)) ≡ refused (arm .0 .0) (arm .0 .1 .0) = sym (said .0) ∙ ap writeMeaning (arm .1) in
     (rw out (c .plain2 .ensures), said .1)

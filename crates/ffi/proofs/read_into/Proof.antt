@@ -1,7 +1,7 @@
 -- By what `read` says; the arm of the match says which answer it was.
 use mathlib.Core.Path.{_≡_, sym, ap, _∙_}
-use Rattle.graph.specs.Answers.{readMeaning, accepted, refused}
-use Rattle.graph.specs.Chart.{reading}
+use Rattle.charts.specs.Answers.{readMeaning, accepted, refused}
+use Rattle.charts.specs.Chart.{reading}
 use Rattle.ffi.specs.Answers.{filled}
 use borrow.Author.Needs.{needs}
 use Rattle.ffi.proofs.read_into.Statement.{statement}
@@ -25,21 +25,23 @@ plain-requires-2 c κs = search needs
 returns : tie.Need-returns
 unfolding readMeaning
 returns c =
-    let k = c .before .before .before .before in
-    let r = reading (k .before .before .args .bytes .now) in
-    let out : r .outcome ≡ accepted = sym (k .read .ensures .0) ∙ ap readMeaning (c .before .before .enum-told .given .1) in
-    let g = k .before .before .args .g in
-    (λ i. record { graph = k .read .ensures .1 i; said = c .plain .ensures i })
+    let at-match = c .before .before .before in
+    let start = at-match .before .before .before in
+    let r = reading (start .args .bytes .now) in
+    let out : r .outcome ≡ accepted = sym (at-match .before .read .ensures .0) ∙ ap readMeaning (c .before .before .enum-told .given .1) in
+    let g = start .args .g in
+    (λ i. record { graph = at-match .before .read .ensures .1 i; said = c .plain .ensures i })
     ∙ ap (filled g (r .graph)) (sym out)
 
 returns-2 : tie.Need-returns-2
 unfolding readMeaning
 returns-2 c =
-    let k = c .before .before .before .before in
+    let at-match = c .before .before .before in
+    let start = at-match .before .before .before in
     let arm = c .before .before .answer .given in
-    let r = reading (k .before .before .args .bytes .now) in
-    let out : r .outcome ≡ refused (arm .0 .0) (arm .0 .1 .0) = sym (k .read .ensures .0) ∙ ap readMeaning (arm .1) in
-    let g = k .before .before .args .g in
+    let r = reading (start .args .bytes .now) in
+    let out : r .outcome ≡ refused (arm .0 .0) (arm .0 .1 .0) = sym (at-match .before .read .ensures .0) ∙ ap readMeaning (arm .1) in
+    let g = start .args .g in
     (λ i. record { graph = g; said = c .plain2 .ensures i })
     ∙ ap (filled g (r .graph)) (sym out)
 

@@ -58,7 +58,10 @@ returns-2 c =
 
 -- where each test was passed, from where the run begins
 abbrev at-open : tie.After-best2 → tie.Else2
-at-open c = c .before .before .before .before .before .before .before
+at-open c =
+    let at-best = c .before .before in
+    let at-g = at-best .before .before .before in
+    at-g .before .before
 
 abbrev at-check : tie.After-best2 → tie.Else1
 at-check c = at-open c .before .before

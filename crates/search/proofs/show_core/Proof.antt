@@ -104,25 +104,26 @@ returns-5 c =
 
 show-tour-requires : tie.Need-show-tour-requires
 show-tour-requires c κs =
-    let c5 = c .before .before in
-    let w = c5 .before in
+    let at-if5 = c .before .before in
+    let w = at-if5 .before in
     let start = entry (at-check w .before) in
     let valid = graph-valid (start .args .s) (typed start) (passed (at-check w)) (eq-eqb _ 1 (at-open w .if2 .left)) in
-    omega (arith, c5 .if5 .left, edges w, valid .few)
+    omega (arith, at-if5 .if5 .left, edges w, valid .few)
 
 same-length : tie.Need-same-length
 same-length c = search needs
 
 returns-6 : tie.Need-returns-6
 returns-6 c =
-    let c5 = c .before .before .before .before .before in
-    let w = c5 .before in
-    let start = entry (at-check w .before) in
-    let long = c5 .if5 .left ∙ edges w in
+    let at-show-tour = c .before .before in
+    let at-if5 = at-show-tour .before .before .before in
+    let at-wide = at-if5 .before in
+    let start = entry (at-check at-wide .before) in
+    let long = at-if5 .if5 .left ∙ edges at-wide in
     let h =
-    show-done (start .args .s) (typed start) (passed (at-check w)) (eq-eqb _ 1 (at-open w .if2 .left)) (start .args .out .now)
-    (at-depth w .if3 .left) (eq-eqb _ 1 (w .before .if4 .left)) long in
-    let written = c .before .before .show-tour .ensures in
+    show-done (start .args .s) (typed start) (passed (at-check at-wide)) (eq-eqb _ 1 (at-open at-wide .if2 .left)) (start .args .out .now)
+    (at-depth at-wide .if3 .left) (eq-eqb _ 1 (at-wide .before .if4 .left)) long in
+    let written = at-show-tour .show-tour .ensures in
     (sym (h .0), written ∙ ap (λ (n : ℕ). fit n 0 (start .args .s .best)) long ∙ sym (h .1))
 
 pub show-core-spec : {M : Type 1} → statement M

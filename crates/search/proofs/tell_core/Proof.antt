@@ -93,12 +93,14 @@ tour-cost-requires c κs = let w = c .before .before .before in (given w .graph,
 
 returns-5 : tie.Need-returns-5
 returns-5 c =
-    let w = c .before .before .before .before in
-    let s = given w in
-    let paid = back64 (c .tour-cost .result) (c .tour-cost .ok) ∙ c .tour-cost .ensures .0 (s .graph) (valid w) (edges w) refl in
+    let at-best2 = c .before in
+    let at-wide = at-best2 .before .before .before in
+    let s = given at-wide in
+    let paid = back64 (c .tour-cost .result) (c .tour-cost .ok) ∙ c .tour-cost .ensures .0 (s .graph) (valid at-wide)
+    (edges at-wide) refl in
     (λ i. record { search = s; answer = Best (paid i) (s .count) })
-    ∙ sym (tell-best s (typed (entry (at-check w .before))) (passed (at-check w)) (eq-eqb _ 1 (at-open w .if2 .left))
-    (at-depth w .if3 .left) (eq-eqb _ 1 (at-best w .if4 .left)))
+    ∙ sym (tell-best s (typed (entry (at-check at-wide .before))) (passed (at-check at-wide)) (eq-eqb _ 1 (at-open at-wide .if2 .left))
+    (at-depth at-wide .if3 .left) (eq-eqb _ 1 (at-best at-wide .if4 .left)))
 
 pub tell-core-spec : {M : Type 1} → statement M
 tell-core-spec =

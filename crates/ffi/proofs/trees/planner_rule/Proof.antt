@@ -36,9 +36,11 @@ same-length c = search needs
 returns : tie.Need-returns
 unfolding ruleMeaning saidReply
 returns c =
-    let start = c .before .before .before .before .before .before .before .before .before in
+    let at-match = c .before .before .before in
+    let at-rule = at-match .before .before .before in
+    let start = at-rule .before .before .before in
     let a = start .args in
-    let said = rw (toZ-ofZ (start .fits .ceiling)) at (c .before .before .before .before .before .before .rule .ensures) in
+    let said = rw (toZ-ofZ (start .fits .ceiling)) at (at-rule .rule .ensures) in
     let arm = c .before .before .answer .given in
     let reply : ruleReply (a .g) (a .multipliers .now) (a .ceiling) (length (a .out .now)) ≡ bounded (arm .0 .0) =
     sym (said .0) ∙ ap ruleMeaning (arm .1) in
@@ -50,9 +52,11 @@ same-length-2 c = search needs
 returns-2 : tie.Need-returns-2
 unfolding ruleMeaning saidReply
 returns-2 c =
-    let start = c .before .before .before .before .before .before .before .before in
+    let at-match = c .before .before in
+    let at-rule = at-match .before .before .before in
+    let start = at-rule .before .before .before in
     let a = start .args in
-    let said = rw (toZ-ofZ (start .fits .ceiling)) at (c .before .before .before .before .before .rule .ensures) in
+    let said = rw (toZ-ofZ (start .fits .ceiling)) at (at-rule .rule .ensures) in
     let arm = c .before .enum-told .given in
     let reply : ruleReply (a .g) (a .multipliers .now) (a .ceiling) (length (a .out .now)) ≡ none =
     sym (said .0) ∙ ap ruleMeaning (arm .1) in
@@ -64,9 +68,11 @@ same-length-3 c = search needs
 returns-3 : tie.Need-returns-3
 unfolding ruleMeaning saidReply
 returns-3 c =
-    let start = c .before .before .before .before .before .before .before .before .before in
+    let at-match = c .before .before .before in
+    let at-rule = at-match .before .before .before in
+    let start = at-rule .before .before .before in
     let a = start .args in
-    let said = rw (toZ-ofZ (start .fits .ceiling)) at (c .before .before .before .before .before .before .rule .ensures) in
+    let said = rw (toZ-ofZ (start .fits .ceiling)) at (at-rule .rule .ensures) in
     let arm = c .before .before .answer2 .given in
     let reply : ruleReply (a .g) (a .multipliers .now) (a .ceiling) (length (a .out .now)) ≡ refused (arm .0 .0) (arm .0 .1 .0) =
     sym (said .0) ∙ ap ruleMeaning (arm .1) in

@@ -35,9 +35,11 @@ same-length c = search needs
 returns : tie.Need-returns
 unfolding treeMeaning saidReply
 returns c =
-    let start = c .before .before .before .before .before .before .before .before .before in
+    let at-match = c .before .before .before in
+    let at-tree = at-match .before .before .before in
+    let start = at-tree .before .before .before in
     let a = start .args in
-    let said = c .before .before .before .before .before .before .tree .ensures in
+    let said = at-tree .tree .ensures in
     let arm = c .before .before .answer .given in
     let reply : treeReply (a .g) (a .multipliers .now) (length (a .out .now)) ≡ bounded (arm .0 .0) =
     sym (said .0) ∙ ap treeMeaning (arm .1) in
@@ -49,9 +51,11 @@ same-length-2 c = search needs
 returns-2 : tie.Need-returns-2
 unfolding treeMeaning saidReply
 returns-2 c =
-    let start = c .before .before .before .before .before .before .before .before in
+    let at-match = c .before .before in
+    let at-tree = at-match .before .before .before in
+    let start = at-tree .before .before .before in
     let a = start .args in
-    let said = c .before .before .before .before .before .tree .ensures in
+    let said = at-tree .tree .ensures in
     let arm = c .before .enum-told .given in
     let reply : treeReply (a .g) (a .multipliers .now) (length (a .out .now)) ≡ none =
     sym (said .0) ∙ ap treeMeaning (arm .1) in
@@ -63,9 +67,11 @@ same-length-3 c = search needs
 returns-3 : tie.Need-returns-3
 unfolding treeMeaning saidReply
 returns-3 c =
-    let start = c .before .before .before .before .before .before .before .before .before in
+    let at-match = c .before .before .before in
+    let at-tree = at-match .before .before .before in
+    let start = at-tree .before .before .before in
     let a = start .args in
-    let said = c .before .before .before .before .before .before .tree .ensures in
+    let said = at-tree .tree .ensures in
     let arm = c .before .before .answer2 .given in
     let reply : treeReply (a .g) (a .multipliers .now) (length (a .out .now)) ≡ refused (arm .0 .0) (arm .0 .1 .0) =
     sym (said .0) ∙ ap treeMeaning (arm .1) in

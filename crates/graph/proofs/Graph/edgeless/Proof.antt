@@ -1,6 +1,6 @@
 -- By the definition of `edgeless`.
 use borrow.Author.Needs.{needs}
-use Rattle.graph.specs.Chart.{edgeless}
+use Rattle.graph.specs.Edgeless.{edgeless}
 use Rattle.graph.proofs.Graph.edgeless.Statement.{statement}
 use Rattle.graph.proofs.Graph.edgeless.Tie as tie
 

@@ -14,7 +14,8 @@ check-parts-requires c κs = search needs
 
 returns : tie.Need-returns
 returns c =
-    let second = c .before .before .before .before .before .before in
+    let at-check-parts-arg2 = c .before .before .before in
+    let second = at-check-parts-arg2 .before .before .before in
     rw (second .before .wide .ensures .0, second .wide2 .ensures .0) at (c .check-parts .ensures)
 
 pub check-spec : {M : Type 1} → statement M

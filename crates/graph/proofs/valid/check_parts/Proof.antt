@@ -31,10 +31,14 @@ cast-ends-fit c = search needs
 ends-fit-requires : tie.Need-ends-fit-requires
 ends-fit-requires c κs = search needs
 
+abbrev start : tie.After-ends-fit → tie.Start
+start c = let at-if3 = c .before in at-if3 .before .before .before
+
 returns-4 : tie.Need-returns-4
 returns-4 c =
+    let start = start (c .before) in
     let e = c .before .ends-fit in
-    sym (ends-bad (lent (c .before .before .before .before .before))
+    sym (ends-bad (lent start)
     (says-no (e .result) (e .ensures) (not-true (e .result) (c .if4 .taken))))
 
 costs-fit-requires : tie.Need-costs-fit-requires
@@ -42,23 +46,27 @@ costs-fit-requires c κs = search needs
 
 returns-5 : tie.Need-returns-5
 returns-5 c =
+    let start = start (c .before .before .before) in
     let e = c .before .costs-fit in
-    sym (costs-bad (lent (c .before .before .before .before .before .before .before))
+    sym (costs-bad (lent start)
     (says-no (e .result) (e .ensures) (not-true (e .result) (c .if5 .taken))))
 
 pairs-fit-requires : tie.Need-pairs-fit-requires
 pairs-fit-requires c κs =
+    let start = start (c .before .before .before) in
     let e = c .before .before .before .ends-fit in
-    let g = lent (c .before .before .before .before .before .before .before) in
+    let g = lent start in
     let ends = says-yes (e .result) (e .ensures) (not-false (e .result) (c .before .before .if4 .left)) in
     (omega arith, ends-in-pairs g (omega arith) (omega arith) (omega arith) ends)
 
 returns-6 : tie.Need-returns-6
 returns-6 c =
-    let e = c .before .before .before .before .ends-fit in
+    let at-if4 = c .before .before .before in
+    let start = start (at-if4 .before) in
+    let e = at-if4 .before .ends-fit in
     let f = c .before .before .costs-fit in
-    let g = lent (c .before .before .before .before .before .before .before .before) in
-    let ends = says-yes (e .result) (e .ensures) (not-false (e .result) (c .before .before .before .if4 .left)) in
+    let g = lent start in
+    let ends = says-yes (e .result) (e .ensures) (not-false (e .result) (at-if4 .if4 .left)) in
     let costs = says-yes (f .result) (f .ensures) (not-false (f .result) (c .before .if5 .left)) in
     pairs-say g (omega arith) (omega arith) (omega arith) ends costs (c .pairs-fit .result) (c .pairs-fit .ensures)
 

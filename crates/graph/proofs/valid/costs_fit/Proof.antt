@@ -32,9 +32,11 @@ cost-unfit-requires c κs = search needs
 
 -- what the call says of the cost itself
 said : (c : tie.After-cost-unfit Inv-loop μ-loop)
-    → c .cost-unfit .result ≡ bit (costUnfitAt (c .before .before .before .before .args .cost .now) (c .before .before .before .loop .k))
+    → let at-loop = c .before .before .before in
+    c .cost-unfit .result ≡ bit (costUnfitAt (at-loop .before .args .cost .now) (at-loop .loop .k))
 said c =
-    let z = getD (c .before .before .before .before .args .cost .now) (c .before .before .before .loop .k) (pos 0) in
+    let at-loop = c .before .before .before in
+    let z = getD (at-loop .before .args .cost .now) (at-loop .loop .k) (pos 0) in
     rw (back32 z (c .before .cost-unfit-arg .given)) at (c .cost-unfit .ensures)
 
 add-bad : tie.Need-add-bad Inv-loop μ-loop

@@ -29,9 +29,12 @@ element-copy-out-unfit-3 c = search needs
 unfit-requires : tie.Need-unfit-requires Inv-loop μ-loop
 unfit-requires c κs = search needs
 
+abbrev at-loop : tie.After-unfit Inv-loop μ-loop → tie.At-loop Inv-loop μ-loop
+at-loop c = let at-unfit-arg2 = c .before .before in at-unfit-arg2 .before .before .before
+
 add-bad : tie.Need-add-bad Inv-loop μ-loop
 add-bad c =
-    let l = c .before .before .before .before .before .loop in
+    let l = at-loop c .loop in
     omega (arith, next-most _ (l .k) (l .bad) (c .unfit .result) (l .inv .2) (c .unfit .ensures))
 
 add-k : tie.Need-add-k Inv-loop μ-loop
@@ -42,7 +45,7 @@ loop-less c = search needs
 
 loop-again : tie.Need-loop-again Inv-loop μ-loop
 loop-again c =
-    let l = c .before .before .before .before .before .loop in
+    let l = at-loop c .loop in
     (omega arith, l .inv .1, hits-next _ (l .k) (l .bad) (c .unfit .result) (l .inv .2) (c .unfit .ensures))
 
 returns : tie.Need-returns Inv-loop μ-loop

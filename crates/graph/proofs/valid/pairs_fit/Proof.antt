@@ -25,11 +25,15 @@ element-copy-out-place-of-2 c = search needs
 place-of-requires : tie.Need-place-of-requires Inv-loop μ-loop
 place-of-requires c κs = search needs
 
+abbrev at-loop : tie.After-place-of Inv-loop μ-loop → tie.At-loop Inv-loop μ-loop
+at-loop c = let at-loop-test = c .before .before .before in at-loop-test .before
+
 -- the place of the pair at k is in the table
 in-table : (c : tie.After-place-of Inv-loop μ-loop) → c .place-of .result < 441
 in-table c =
-    let l = c .before .before .before .before .loop in
-    let a = c .before .before .before .before .before .args in
+    let at-loop = at-loop c in
+    let l = at-loop .loop in
+    let a = at-loop .before .args in
     place-in (a .a .now) (a .b .now) (a .m) (l .met) (l .again) (l .k) (c .place-of .result) (l .inv) (omega arith)
     (c .place-of .ensures)
 
@@ -38,8 +42,9 @@ array-read-again c = in-table c
 
 add-again : tie.Need-add-again Inv-loop μ-loop
 add-again c =
-    let l = c .before .before .before .before .loop in
-    let a = c .before .before .before .before .before .args in
+    let at-loop = at-loop c in
+    let l = at-loop .loop in
+    let a = at-loop .before .args in
     omega (
       arith,
       counted-most (a .a .now) (a .b .now) (a .m) (l .met) (l .again) (l .k) (c .place-of .result) (l .inv) (omega arith)
@@ -57,8 +62,9 @@ loop-less c = omega arith
 
 loop-again : tie.Need-loop-again Inv-loop μ-loop
 loop-again c =
-    let l = c .before .before .before .before .loop in
-    let a = c .before .before .before .before .before .args in
+    let at-loop = at-loop c in
+    let l = at-loop .loop in
+    let a = at-loop .before .args in
     passed-more (a .a .now) (a .b .now) (a .m) (l .met) (l .again) (l .k) (c .place-of .result) (l .inv) (omega arith)
     (c .place-of .ensures)
 

@@ -43,19 +43,23 @@ element-copy-out-multiplier-at-2 c = search needs
 
 multiplier-at-requires-2 : tie.Need-multiplier-at-requires-2 Inv-loop μ-loop
 multiplier-at-requires-2 c κs =
-    let l = c .before .before .before .before .before .loop in
+    let at-multiplier-at-arg = c .before .before in
+    let at-loop = at-multiplier-at-arg .before .before .before in
+    let l = at-loop .loop in
     let e = l .inv .3 (l .k) (omega arith) in
     (e .2, e .3)
 
 charge-requires : tie.Need-charge-requires Inv-loop μ-loop
 charge-requires c κs =
-    let before = c .before .before .before .before in
-    let l = before .before .before .loop in
-    let start = before .before .before .before in
+    let at-multiplier-at = c .before .before in
+    let before = at-multiplier-at .before .before in
+    let at-loop = before .before .before in
+    let start = at-loop .before in
+    let l = at-loop .loop in
     let s = start .args in
     let d = s .d .now in
     let e = l .inv .3 (l .k) (omega arith) in
-    let x = c .before .before .multiplier-at in
+    let x = at-multiplier-at .multiplier-at in
     let y = c .multiplier-at2 in (
       rw (back32 (getD (s .cost .now) (l .k) (pos 0)) (before .charge-arg .given)) (e .4),
       rw (back32 (x .result) (x .ok), x .ensures)
@@ -78,11 +82,13 @@ loop-less c = search needs
 
 loop-again : tie.Need-loop-again Inv-loop μ-loop
 loop-again c =
-    let before = c .before .before .before .before .before in
-    let l = before .before .before .loop in
-    let start = before .before .before .before in
+    let at-multiplier-at = c .before .before .before in
+    let before = at-multiplier-at .before .before in
+    let at-loop = before .before .before in
+    let start = at-loop .before in
+    let l = at-loop .loop in
     let s = start .args in
-    let x = c .before .before .before .multiplier-at in
+    let x = at-multiplier-at .multiplier-at in
     let y = c .before .multiplier-at2 in (
       omega arith,
       l .inv .1,

@@ -36,7 +36,10 @@ long-requires : tie.Need-long-requires Inv-loop μ-loop
 long-requires c κs = search needs
 
 add-sum : tie.Need-add-sum Inv-loop μ-loop
-add-sum c = let l = c .before .before .before .before .loop in omega (arith, l .inv .3 .1)
+add-sum c =
+    let at-loop-test = c .before .before .before in
+    let l = at-loop-test .before .loop in
+    omega (arith, l .inv .3 .1)
 
 add-i : tie.Need-add-i Inv-loop μ-loop
 add-i c = search needs
@@ -46,11 +49,13 @@ loop-less c = search needs
 
 loop-again : tie.Need-loop-again Inv-loop μ-loop
 loop-again c =
-    let l = c .before .before .before .before .loop in
-    let d = c .before .before .before .before .before .args .d .now in
-    let x = c .before .raised in
+    let at-raised = c .before in
+    let at-loop = at-raised .before .before .before in
+    let l = at-loop .loop in
+    let d = at-loop .before .args .d .now in
+    let x = at-raised .raised in
     let e : c .long .result ≡ x .result = c .long .ensures in
-    let up = rw (back32 (getD d (l .i) (pos 0)) (c .before .before .raised-arg .given)) at (x .ensures .0) in
+    let up = rw (back32 (getD d (l .i) (pos 0)) (at-raised .before .raised-arg .given)) at (x .ensures .0) in
     (omega arith, l .inv .1, l .inv .2, rw e (raised-more d (l .i) (x .result) (l .sum) up (x .ensures .1) (l .inv .3)))
 
 returns : tie.Need-returns Inv-loop μ-loop

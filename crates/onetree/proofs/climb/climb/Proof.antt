@@ -38,14 +38,19 @@ climbing : (c : tie.At-loop Inv-loop μ-loop Inv-walk μ-walk) → let a = c .be
     (c .loop .x) (c .before .walk .y) (c .loop .top) (c .loop .cheapest)
 climbing c = c .loop .inv .5 (c .before .before .args .cheapest .now) (c .before .walk .inv .1)
 
+abbrev at-loop : tie.After-greater Inv-loop μ-loop Inv-walk μ-walk → tie.At-loop Inv-loop μ-loop Inv-walk μ-walk
+at-loop c = let at-if13 = c .before .before .before in at-if13 .before .before .before
+
 -- the parent is less deep
 deeper : (c : tie.After-wide Inv-loop μ-loop Inv-walk μ-walk)
-    → let at-loop = c .before .before .before .before .before .before .before .before .before .before in
+    → let at-offer = c .before .before in
+    let at-loop = at-loop (at-offer .before .before) in
     let start = at-loop .before .before in
     let a = start .args in let x = at-loop .loop .x in
     getD (a .depth .now) x 0 ≡ suc (getD (a .depth .now) (getD (a .parent .now) x 0) 0)
 deeper c =
-    let at-if1 = c .before .before .before .before .before .before in
+    let at-offer-arg = c .before .before .before in
+    let at-if1 = at-offer-arg .before .before .before in
     let at-loop-test = at-if1 .before .before .before in
     let at-loop = at-loop-test .before in
     let turn = at-loop .loop in
@@ -56,7 +61,7 @@ deeper c =
 step : (c : tie.After-wide Inv-loop μ-loop Inv-walk μ-walk)
     → let at-offer = c .before .before in
     let at-greater = at-offer .before .before in
-    let at-loop = at-greater .before .before .before .before .before .before in
+    let at-loop = at-loop at-greater in
     let at-walk = at-loop .before in
     let start = at-walk .before in
     let a = start .args in let turn = at-loop .loop in (old : List ℕ)
@@ -105,7 +110,7 @@ greater-requires c κs = search needs
 
 offer-requires : tie.Need-offer-requires Inv-loop μ-loop Inv-walk μ-walk
 offer-requires c κs =
-    let at-loop = c .before .before .before .before .before .before .before in
+    let at-loop = at-loop (c .before) in
     (omega arith, at-loop .loop .inv .3)
 
 element-copy-out-wide : tie.Need-element-copy-out-wide Inv-loop μ-loop Inv-walk μ-walk
@@ -116,7 +121,8 @@ wide-requires c κs = search needs
 
 loop-less : tie.Need-loop-less Inv-loop μ-loop Inv-walk μ-walk
 loop-less c =
-    let at-loop = c .before .before .before .before .before .before .before .before .before .before in
+    let at-offer = c .before .before in
+    let at-loop = at-loop (at-offer .before .before) in
     let start = at-loop .before .before in
     let up : c .wide .result ≡ getD (start .args .parent .now) (at-loop .loop .x) 0 = c .wide .ensures .0 in
     rw up (omega (arith, deeper c))
@@ -124,7 +130,7 @@ loop-less c =
 loop-again : tie.Need-loop-again Inv-loop μ-loop Inv-walk μ-walk
 loop-again c =
     let at-offer = c .before .before in
-    let at-loop = at-offer .before .before .before .before .before .before .before .before in
+    let at-loop = at-loop (at-offer .before .before) in
     let start = at-loop .before .before in
     let turn = at-loop .loop in
     let a = start .args in
@@ -142,7 +148,8 @@ loop-again c =
 
 walk-less : tie.Need-walk-less Inv-loop μ-loop Inv-walk μ-walk
 walk-less c =
-    let at-loop = c .before .before .before .before in
+    let at-loop-test = c .before .before .before in
+    let at-loop = at-loop-test .before in
     let at-walk = at-loop .before in
     let start = at-walk .before in
     let turn = at-loop .loop in
@@ -157,7 +164,8 @@ walk-less c =
 
 walk-again : tie.Need-walk-again Inv-loop μ-loop Inv-walk μ-walk
 walk-again c =
-    let at-loop = c .before .before .before .before in
+    let at-loop-test = c .before .before .before in
+    let at-loop = at-loop-test .before in
     let hangs = at-loop .loop .inv .0 in
     (hangs, climb-swap _ hangs _ _ _ _ _ _ _ _ _ (climbing at-loop))
 

@@ -25,18 +25,23 @@ plain c = let s = c .before .args in c .loop .inv .3 (joining (s .a .now) (s .b 
 
 -- the place looked at is an edge's
 edge : (c : tie.After-place Inv-loop μ-loop)
-    → let s = c .before .before .before .before .args in Joins (s .a .now) (s .b .now) (s .c .now) (c .place .result)
+    → let at-loop = c .before .before .before in
+    let s = at-loop .before .args in
+    Joins (s .a .now) (s .b .now) (s .c .now) (c .place .result)
 edge c = let l = c .before .before .before .loop in rw (c .place .ensures) (l .inv .2 (l .i) (omega arith))
+
+abbrev at-loop : tie.After-place Inv-loop μ-loop → tie.At-loop Inv-loop μ-loop
+at-loop c = c .before .before .before
 
 -- back to where the place is known
 abbrev from-ends : tie.After-wide2 Inv-loop μ-loop → tie.After-place Inv-loop μ-loop
-from-ends c = c .before .before .before .before
+from-ends c = let at-wide = c .before .before in at-wide .before .before
 
 abbrev from-long : tie.After-long Inv-loop μ-loop → tie.After-wide2 Inv-loop μ-loop
-from-long c = c .before .before .before .before
+from-long c = let at-if1 = c .before .before .before in at-if1 .before
 
 abbrev from-join : tie.After-join Inv-loop μ-loop → tie.After-wide2 Inv-loop μ-loop
-from-join c = c .before .before .before .before .before .before
+from-join c = let at-y = c .before .before .before in at-y .before .before .before
 
 -- its ends
 low : (c : tie.After-wide2 Inv-loop μ-loop) → (c .before .before .wide .result < 21) × (c .wide2 .result < 21)
@@ -46,15 +51,15 @@ low c =
 
 ends : (c : tie.After-wide2 Inv-loop μ-loop) (G : Network)
     → let at = from-ends c in
-    let s = at .before .before .before .before .args in
+    let s = at-loop at .before .args in
     let k = at .place .result in
     Reads G (s .a .now) (s .b .now) (s .keys .now) (s .to)
     → (G .a (suc k) ≡ c .before .before .wide .result) × (G .b (suc k) ≡ c .wide2 .result)
 ends c G reads =
     let at = from-ends c in
-    let s = at .before .before .before .before .args in
+    let s = at-loop at .before .args in
     let e = at .place .ensures in
-    let r = reads (at .before .before .before .loop .i) (at .before .before .loop-test .taken) in (
+    let r = reads (at-loop at .loop .i) (at .before .before .loop-test .taken) in (
       ap (λ (z : ℕ). G .a (suc z)) e ∙ r .0 ∙ sym (ap (λ (z : ℕ). getD (s .a .now) z 0) e) ∙ sym (c .before .before .wide .ensures .0),
       ap (λ (z : ℕ). G .b (suc z)) e ∙ r .1 ∙ sym (ap (λ (z : ℕ). getD (s .b .now) z 0) e) ∙ sym (c .wide2 .ensures .0),
     )
@@ -98,11 +103,11 @@ long-requires c κs = search needs
 -- the sum so far, with one charge more
 room : (c : tie.After-wide2 Inv-loop μ-loop)
     → let at = from-ends c in
-    let s = at .before .before .before .before .args in
-    at .before .before .before .loop .sum + getD (s .c .now) (at .place .result) 0 ≤ 4000000000
+    let s = at-loop at .before .args in
+    at-loop at .loop .sum + getD (s .c .now) (at .place .result) 0 ≤ 4000000000
 room c =
     let at = from-ends c in
-    let l = at .before .before .before in
+    let l = at-loop at in
     omega (arith, plain l .light, edge at .3, l .loop .inv .0, l .loop .inv .1)
 
 add-sum : tie.Need-add-sum Inv-loop μ-loop
@@ -110,7 +115,7 @@ add-sum c = omega (arith, room (from-long c), c .long .ensures)
 
 add-near : tie.Need-add-near Inv-loop μ-loop
 add-near c =
-    let l = from-ends (c .before .before) .before .before .before in
+    let l = at-loop (from-ends (c .before .before)) in
     omega (arith, plain l .met, l .loop .inv .0, l .loop .inv .1)
 
 element-copy-out-x : tie.Need-element-copy-out-x Inv-loop μ-loop
@@ -120,7 +125,10 @@ element-copy-out-y : tie.Need-element-copy-out-y Inv-loop μ-loop
 element-copy-out-y c = low (c .before .before) .1
 
 join-requires : tie.Need-join-requires Inv-loop μ-loop
-join-requires c κs = plain (from-ends (c .before .before .before .before .before) .before .before .before) .long
+join-requires c κs =
+    let at-x = c .before .before .before in
+    let at-wide2 = at-x .before .before in
+    plain (at-loop (from-ends at-wide2)) .long
 
 element-write-w-2 : tie.Need-element-write-w-2 Inv-loop μ-loop
 element-write-w-2 c = edge (from-ends (from-join c)) .0
@@ -139,7 +147,7 @@ add-sum-2 c = omega (arith, room (from-join (c .before .before)), c .long2 .ensu
 
 add-far : tie.Need-add-far Inv-loop μ-loop
 add-far c =
-    let l = from-ends (from-join (c .before .before)) .before .before .before in
+    let l = at-loop (from-ends (from-join (c .before .before))) in
     omega (arith, plain l .less, l .loop .inv .0, l .loop .inv .1)
 
 add-i : tie.Need-add-i Inv-loop μ-loop
@@ -151,18 +159,18 @@ loop-less c = search needs
 -- what holds after a turn
 After : tie.Joined1 Inv-loop μ-loop → Network → Type 0
 After c G =
-    let l = from-ends (c .before) .before .before .before in
+    let l = at-loop (from-ends (c .before)) in
     let s = l .before .args in
     Turn G (s .c .now) (s .keys .now) (l .loop .i + 1) (c .if1 .l) (c .if1 .w) (c .if1 .near) (c .if1 .far) (c .if1 .sum)
 
 turn : (c : tie.Joined1 Inv-loop μ-loop) (G : Network)
-    → let s = from-ends (c .before) .before .before .before .before .args in
+    → let s = at-loop (from-ends (c .before)) .before .args in
     Reads G (s .a .now) (s .b .now) (s .keys .now) (s .to) → After c G
 unfolding After
 turn c G reads =
     let at = from-ends (c .before) in
-    let l = at .before .before .before .loop in
-    let s = at .before .before .before .before .args in
+    let l = at-loop at .loop in
+    let s = at-loop at .before .args in
     let cs = s .c .now in
     let ks = s .keys .now in
     let k = at .place .result in
@@ -206,7 +214,7 @@ turn c G reads =
 loop-again : tie.Need-loop-again Inv-loop μ-loop
 unfolding After
 loop-again c =
-    let l = from-ends (c .before) .before .before .before .loop in
+    let l = at-loop (from-ends (c .before)) .loop in
     (omega arith, l .inv .1, l .inv .2, λ G r. turn c G r)
 
 returns : tie.Need-returns Inv-loop μ-loop

@@ -68,14 +68,18 @@ shared-slice-copy-out-if3 c = search needs
 returns-3 : tie.Need-returns-3 Inv-loop μ-loop
 unfolding multiplier
 returns-3 c =
-    let d = c .before .before .before .before .before .args .d .now in
+    let at-loop-test = c .before .before .before in
+    let start = at-loop-test .before .before in
+    let d = start .args .d .now in
     sym (first-wrong d (λ e. c .if3 .taken (rw e refl)))
 
 returns-4 : tie.Need-returns-4 Inv-loop μ-loop
 unfolding multiplier
 returns-4 c =
-    let l = c .before .before .before .before .loop in
-    let d = c .before .before .before .before .before .args .d .now in
+    let at-loop-test = c .before .before .before in
+    let at-loop = at-loop-test .before in
+    let l = at-loop .loop in
+    let d = at-loop .before .args .d .now in
     let first = sym (back32 (getD d 0 (pos 0)) (c .before .if32 .given)) ∙ ap (toZ w32) (c .if3 .left) in
     sym (ranged-fit d (λ k h. l .inv .1 k (omega arith)) first)
 

@@ -58,7 +58,8 @@ wide-requires c κs = search needs
 visit-requires : tie.Need-visit-requires Inv-loop μ-loop
 unfolding cell
 visit-requires c κs =
-    let at-wide = c .before .before .before .before in
+    let at-visit-arg3 = c .before in
+    let at-wide = at-visit-arg3 .before .before .before in
     let at-loop = at-wide .before .before .before in
     let p = at-loop .before .pre .0 in
     let v = vertex at-wide in
@@ -74,15 +75,22 @@ visit-requires c κs =
       stops = p .3 .stops x low;
     }
 
+abbrev at-wide : tie.After-visit Inv-loop μ-loop → tie.After-wide Inv-loop μ-loop
+at-wide c = let at-visit-arg3 = c .before .before in at-visit-arg3 .before .before .before
+
 add-i : tie.Need-add-i Inv-loop μ-loop
-add-i c = omega (arith, c .before .before .before .before .before .before .before .before .loop .inv .1 .room)
+add-i c =
+    let at-loop = at-wide c .before .before .before in
+    omega (arith, at-loop .loop .inv .1 .room)
 
 loop-less : tie.Need-loop-less Inv-loop μ-loop
-loop-less c = omega (arith, c .before .before .before .before .before .before .before .before .loop .inv .1 .room)
+loop-less c =
+    let at-loop = at-wide c .before .before .before in
+    omega (arith, at-loop .loop .inv .1 .room)
 
 loop-again : tie.Need-loop-again Inv-loop μ-loop
 loop-again c =
-    let at-wide = c .before .before .before .before .before in
+    let at-wide = at-wide c in
     let at-loop = at-wide .before .before .before in
     let turn = at-loop .loop in
     let s = at-loop .before .args in

@@ -32,10 +32,13 @@ abbrev of : tie.Start Inv-loop μ-loop → Graph
 of c = let p = c .pre .0 in graphOf (p .0) (c .args .m) (c .args .a .now) (p .1) (p .2) (c .args .mark .now)
 
 abbrev at-then : tie.After-wide2 Inv-loop μ-loop → tie.Then1 Inv-loop μ-loop
-at-then c = c .before .before .before .before
+at-then c = let at-wide = c .before .before in at-wide .before .before
+
+abbrev at-loop-test : tie.After-swappable Inv-loop μ-loop → tie.In-loop Inv-loop μ-loop
+at-loop-test c = let at-swappable-arg2 = c .before .before in at-swappable-arg2 .before .before
 
 abbrev at-test : tie.Then1 Inv-loop μ-loop → tie.In-loop Inv-loop μ-loop
-at-test c = c .before .before .before .before .before
+at-test c = at-loop-test (c .before)
 
 -- the edge at k is to be listed
 inner : (c : tie.Then1 Inv-loop μ-loop)
@@ -93,15 +96,16 @@ room-2 c =
 
 -- one turn
 next : (c : tie.Joined1 Inv-loop μ-loop)
-    → let at-loop = c .before .before .before .before .before .before in
+    → let at-loop = at-loop-test (c .before) .before in
     let s = at-loop .before .args in (n : ℕ) (b : List ℕ) (cost : List ℤ)
     → let g = graphOf n (s .m) (s .a .now) b cost (s .mark .now) in Spans g (s .w .now) → Ends g (s .w .now) (s .from .now) (s .to .now)
     → Table g (s .w .now) (s .from .now) (s .to .now) (c .if1 .t) (c .if1 .count) (at-loop .loop .k + 1)
 unfolding put
 next c n b cost spans two =
-    let test = c .before .before .before .before .before in
-    let turn = test .before .loop in
-    let s = test .before .before .args in
+    let test = at-loop-test (c .before) in
+    let at-loop = test .before in
+    let turn = at-loop .loop in
+    let s = at-loop .before .args in
     let g = graphOf n (s .m) (s .a .now) b cost (s .mark .now) in
     let w = s .w .now in
     let from = s .from .now in
@@ -137,7 +141,8 @@ element-copy-out-swappable-3 c = search needs
 
 swappable-requires : tie.Need-swappable-requires Inv-loop μ-loop
 swappable-requires c κs =
-    let at-loop = c .before .before .before .before in
+    let at-loop-test = c .before .before .before in
+    let at-loop = at-loop-test .before in
     at-loop .before .pre .0 .3 .bits (at-loop .loop .k)
 
 element-copy-out-wide : tie.Need-element-copy-out-wide Inv-loop μ-loop
@@ -219,7 +224,7 @@ loop-less : tie.Need-loop-less Inv-loop μ-loop
 loop-less c = search needs
 
 loop-again : tie.Need-loop-again Inv-loop μ-loop
-loop-again c = (omega arith, c .before .before .before .before .before .before .loop .inv .1, next c)
+loop-again c = (omega arith, at-loop-test (c .before) .before .loop .inv .1, next c)
 
 returns : tie.Need-returns Inv-loop μ-loop
 returns c =

@@ -49,7 +49,7 @@ leads : (c : tie.Then1 Inv-loop μ-loop)
 leads c = let turn = c .before .before .loop in turn .inv .0 .leading (turn .i) (c .if1 .taken)
 
 abbrev at-wide : tie.After-wide3 Inv-loop μ-loop → tie.After-wide Inv-loop μ-loop
-at-wide c = c .before .before .before .before
+at-wide c = let at-wide2 = c .before .before in at-wide2 .before .before
 
 abbrev at-test : tie.After-wide3 Inv-loop μ-loop → tie.Then1 Inv-loop μ-loop
 at-test c = at-wide c .before .before
@@ -151,7 +151,9 @@ wide-requires-2 : tie.Need-wide-requires-2 Inv-loop μ-loop
 wide-requires-2 c κs = search needs
 
 element-copy-out-wide-2 : tie.Need-element-copy-out-wide-2 Inv-loop μ-loop
-element-copy-out-wide-2 c = omega (arith, c .before .before .wide .ensures .0, leads (c .before .before .before .before) .room)
+element-copy-out-wide-2 c =
+    let at-wide = c .before .before in
+    omega (arith, at-wide .wide .ensures .0, leads (at-wide .before .before) .room)
 
 wide-requires-3 : tie.Need-wide-requires-3 Inv-loop μ-loop
 wide-requires-3 c κs = search needs

@@ -39,7 +39,8 @@ loop-less c = search needs
 
 loop-again : tie.Need-loop-again Inv-loop μ-loop
 loop-again c =
-    let turn = c .before .before .before .before .loop in
+    let at-loop-test = c .before .before .before in
+    let turn = at-loop-test .before .loop in
     let old = turn .inv .3 .rest (turn .k) (omega arith) in (
       omega arith,
       turn .inv .1,

@@ -98,7 +98,8 @@ next c =
 
 loop-again : tie.Need-loop-again Inv-loop μ-loop
 loop-again c =
-    let test = at-test (c .before .before .before .before .before) in
+    let at-wide2 = c .before .before .before in
+    let test = at-test (at-wide2 .before .before) in
     let r = next c in
     (omega arith, omega (arith, test .loop-test .taken), r .long ∙ test .before .before .pre .3, r)
 

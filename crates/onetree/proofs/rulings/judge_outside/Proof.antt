@@ -106,8 +106,10 @@ climb-requires : tie.Need-climb-requires Inv-loop μ-loop
 climb-requires c κs =
     let at-wide2 = c .before in
     let at-wide = at-wide2 .before .before in
-    let at-if2 = at-wide .before .before .before .before .before in
-    let at-test = at-if2 .before .before .before .before in
+    let at-if3 = at-wide .before .before .before in
+    let at-if2 = at-if3 .before .before in
+    let at-if1 = at-if2 .before .before in
+    let at-test = at-if1 .before .before in
     let start = at-test .before .before in
     let turn = at-test .before .loop in
     let s = start .args in

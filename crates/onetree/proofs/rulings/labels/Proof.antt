@@ -31,7 +31,10 @@ element-copy-out-r c =
     omega (arith, at-test .before .before .pre .1 (at-test .before .loop .k) (at-test .loop-test .taken), c .wide .ensures .0)
 
 element-write-r : tie.Need-element-write-r Inv-loop μ-loop
-element-write-r c = let turn = c .before .before .before .before .loop in omega (arith, turn .inv .1, turn .inv .2, turn .inv .3 .long)
+element-write-r c =
+    let at-loop-test = c .before .before .before in
+    let turn = at-loop-test .before .loop in
+    omega (arith, turn .inv .1, turn .inv .2, turn .inv .3 .long)
 
 add-k : tie.Need-add-k Inv-loop μ-loop
 add-k c = search needs
@@ -41,13 +44,14 @@ loop-less c = search needs
 
 loop-again : tie.Need-loop-again Inv-loop μ-loop
 loop-again c =
-    let at-loop = c .before .before .before .before in
+    let at-wide = c .before in
+    let at-loop = at-wide .before .before .before in
     let turn = at-loop .loop in (
       omega arith,
       turn .inv .1,
       turn .inv .2,
       updated-more _ _ (turn .r) (turn .k) _ (omega (arith, turn .inv .1, turn .inv .2)) (turn .inv .3)
-          (ap (labelOf (at-loop .before .args .rep .now)) (c .before .wide .ensures .0)),
+          (ap (labelOf (at-loop .before .args .rep .now)) (at-wide .wide .ensures .0)),
     )
 
 returns : tie.Need-returns Inv-loop μ-loop

@@ -17,14 +17,17 @@ Inv-loop a mark w c m dearest₀ cheapest₀ k₀ dearest cheapest k = (k ≤ m)
 abbrev μ-loop : tie.MeasureT-loop
 μ-loop a mark w c m dearest₀ cheapest₀ k₀ dearest cheapest k = m - k
 
+abbrev at-loop : tie.After-free-at-one Inv-loop μ-loop → tie.At-loop Inv-loop μ-loop
+at-loop c = let at-loop-test = c .before .before .before in at-loop-test .before
+
 -- one turn
 next : (c : tie.Joined1 Inv-loop μ-loop)
-    → let at-loop = c .before .before .before .before .before in
+    → let at-loop = at-loop (c .before) in
     let start = at-loop .before in
     let a = start .args in
     NearIs (a .a .now) (a .mark .now) (a .w .now) (a .c .now) (c .if1 .dearest) (c .if1 .cheapest) (at-loop .loop .k + 1)
 next c =
-    let at-loop = c .before .before .before .before .before in
+    let at-loop = at-loop (c .before) in
     let start = at-loop .before in
     let turn = at-loop .loop in
     let a = start .args in
@@ -89,8 +92,9 @@ loop-less c = search needs
 
 loop-again : tie.Need-loop-again Inv-loop μ-loop
 loop-again c =
-    let at-loop = c .before .before .before .before .before in
-    let turn = at-loop .loop in (omega arith, turn .inv .1, next c)
+    let at-loop = at-loop (c .before) in
+    let turn = at-loop .loop in
+    (omega arith, turn .inv .1, next c)
 
 returns : tie.Need-returns Inv-loop μ-loop
 returns c =

@@ -22,22 +22,28 @@ use Rattle.onetree.proofs.rulings.rulings.Statement.{statement}
 use Rattle.onetree.proofs.rulings.rulings.Tie as tie
 
 abbrev at-start : tie.After-labels2 → tie.Start
-at-start c = c .before .before .before .before
+at-start c = let at-from = c .before .before .before in at-from .before
 
 abbrev at-labels : tie.After-table → tie.After-labels2
-at-labels c = c .before .before .before .before
+at-labels c = let at-from2 = c .before .before .before in at-from2 .before
 
 abbrev at-table : tie.After-hang → tie.After-table
-at-table c = c .before .before .before .before .before .before .before .before
+at-table c =
+    let at-depth = c .before .before .before in
+    let at-to3 = at-depth .before .before .before in
+    at-to3 .before .before
 
 abbrev at-hang : tie.After-weights → tie.After-hang
 at-hang c = c .before .before .before
 
 abbrev at-near : tie.After-judge-outside → tie.After-near-one
-at-near c = c .before .before .before .before .before .before .before .before
+at-near c =
+    let at-weight = c .before .before .before in
+    let at-to4 = at-weight .before .before .before in
+    at-to4 .before .before
 
 abbrev at-outside : tie.After-inside → tie.After-judge-outside
-at-outside c = c .before .before .before .before .before
+at-outside c = let at-cheapest2 = c .before .before .before in at-cheapest2 .before .before
 
 -- the start, from after the hanging
 abbrev first : tie.After-hang → tie.Start
@@ -198,7 +204,9 @@ table-requires c κs =
 
 hang-requires : tie.Need-hang-requires
 hang-requires c κs =
-    let table = c .before .before .before .before .before .before .before in
+    let at-depth = c .before .before in
+    let at-to3 = at-depth .before .before .before in
+    let table = at-to3 .before .before in
     let start = at-start (at-labels table) in
     let p = start .pre .0 in
     ((start .args .n, omega (arith, p .1 .valid .low), p .1 .valid .high, rows table (p .0) (p .1, p .2)), refl, refl, refl, refl)
@@ -215,14 +223,17 @@ near-one-requires c κs = first (at-hang c) .pre .0 .1 .valid .few
 
 judge-outside-requires : tie.Need-judge-outside-requires
 judge-outside-requires c κs =
-    let near-one = c .before .before .before .before .before .before .before in
+    let at-weight = c .before .before in
+    let at-to4 = at-weight .before .before .before in
+    let near-one = at-to4 .before .before in
     let start = first (at-hang (near-one .before)) in
     let p = start .pre .0 in
     (prepared near-one (p .0) (p .1, p .2), start .pre .1, refl)
 
 inside-requires : tie.Need-inside-requires
 inside-requires c κs =
-    let outside = c .before .before .before .before in
+    let at-queue3 = c .before in
+    let outside = at-queue3 .before .before .before in
     let hang = at-hang (at-near outside .before) in
     let p = first hang .pre .0 in
     let fit : Fit (first hang) (p .0) = (p .1, p .2) in

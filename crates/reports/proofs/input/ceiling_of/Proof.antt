@@ -1,7 +1,7 @@
 -- A signed local is held as its bits; 32 of them fit 64.
 use native.Mathlib.Omega.{arith}
 use Rattle.integers.specs.Words.{back32, back64}
-use Rattle.graph.specs.Chart.{u32At}
+use Rattle.charts.specs.Chart.{u32At}
 use Rattle.reports.specs.Input.{ceilingOf}
 use borrow.Author.Needs.{needs}
 use Rattle.reports.proofs.input.ceiling_of.Statement.{statement}

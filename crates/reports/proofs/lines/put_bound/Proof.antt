@@ -15,11 +15,16 @@ put-word-requires : tie.Need-put-word-requires
 put-word-requires c κs = search needs
 
 put-signed-requires : tie.Need-put-signed-requires
-put-signed-requires c κs = rw (toZ-ofZ (c .before .before .before .before .fits .bound)) (omega arith)
+put-signed-requires c κs =
+    let at-put-word = c .before in
+    let start = at-put-word .before .before .before in
+    rw (toZ-ofZ (start .fits .bound)) (omega arith)
 
 -- where the function starts, and what is put for the bound
 abbrev entry : tie.After-put-signed → tie.Start
-entry c = c .before .before .before .before .before
+entry c =
+    let at-put-word = c .before .before in
+    at-put-word .before .before .before
 
 bound-put : (c : tie.After-put-signed)
     → Put (signedDecimal (entry c .args .bound)) (c .before .before .put-word .last .0) (c .before .before .put-word .result)
@@ -32,14 +37,17 @@ slice-aggregate-put-word-2 c = search needs
 put-word-requires-2 : tie.Need-put-word-requires-2
 put-word-requires-2 c κs = omega (arith, bound-put (c .before .before))
 
+abbrev at-put-signed : tie.After-put-word2 → tie.After-put-signed
+at-put-signed c = c .before .before .before
+
 put-signed-requires-2 : tie.Need-put-signed-requires-2
 put-signed-requires-2 c κs =
-    let b = c .before .before .before .before in
-    rw (toZ-ofZ (b .before .before .before .before .before .fits .ceiling)) (omega (arith, bound-put b))
+    let at-put-signed = at-put-signed (c .before) in
+    rw (toZ-ofZ (entry at-put-signed .fits .ceiling)) (omega (arith, bound-put at-put-signed))
 
 -- and for the ceiling
 abbrev entry-2 : tie.After-put-signed2 → tie.Start
-entry-2 c = entry (c .before .before .before .before .before)
+entry-2 c = entry (at-put-signed (c .before .before))
 
 ceiling-put : (c : tie.After-put-signed2)
     → Put (signedDecimal (entry-2 c .args .ceiling)) (c .before .before .put-word2 .last .0) (c .before .before .put-word2 .result)
@@ -47,16 +55,17 @@ ceiling-put : (c : tie.After-put-signed2)
 ceiling-put c = rw (toZ-ofZ (entry-2 c .fits .ceiling)) at (c .put-signed2 .ensures)
 
 put-byte-requires : tie.Need-put-byte-requires
-put-byte-requires c κs = omega (arith, bound-put (c .before .before .before .before .before .before), ceiling-put (c .before))
+put-byte-requires c κs = omega (arith, bound-put (at-put-signed (c .before .before .before)), ceiling-put (c .before))
 
 returns : tie.Need-returns
 unfolding boundLine
 returns c =
-    let z = c .before .before in
-    let b = z .before .before .before .before .before in (
-      append (append (append (append (b .before .before .put-word .ensures) (bound-put b)) (z .before .before .put-word2 .ensures))
-          (ceiling-put z)) (c .put-byte .ensures),
-      omega (arith, bound-put b, ceiling-put z),
+    let at-put-signed2 = c .before .before in
+    let at-put-signed = at-put-signed (at-put-signed2 .before .before) in (
+      append (append (append (append (at-put-signed .before .before .put-word .ensures) (bound-put at-put-signed))
+          (at-put-signed2 .before .before .put-word2 .ensures))
+          (ceiling-put at-put-signed2)) (c .put-byte .ensures),
+      omega (arith, bound-put at-put-signed, ceiling-put at-put-signed2),
     )
 
 pub put-bound-spec : {M : Type 1} → statement M

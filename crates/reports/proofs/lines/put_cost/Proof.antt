@@ -17,12 +17,15 @@ put-word-requires c κs = search needs
 
 put-signed-requires : tie.Need-put-signed-requires
 put-signed-requires c κs =
-    let s = c .before .before .before .before in
-    rw (toZ-ofZ (s .fits .cost)) (omega (arith, signed-length (s .args .cost) (s .fits .cost .sfits)))
+    let at-put-word = c .before in
+    let start = at-put-word .before .before .before in
+    rw (toZ-ofZ (start .fits .cost)) (omega (arith, signed-length (start .args .cost) (start .fits .cost .sfits)))
 
 -- where the function starts, and what is put for the cost
 abbrev entry : tie.After-put-signed → tie.Start
-entry c = c .before .before .before .before .before
+entry c =
+    let at-put-word = c .before .before in
+    at-put-word .before .before .before
 
 cost-put : (c : tie.After-put-signed)
     → Put (signedDecimal (entry c .args .cost)) (c .before .before .put-word .last .0) (c .before .before .put-word .result)

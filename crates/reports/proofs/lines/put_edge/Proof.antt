@@ -30,20 +30,28 @@ put-ruling-requires c κs = search needs
 
 put-byte-requires-4 : tie.Need-put-byte-requires-4
 put-byte-requires-4 c κs =
-    let r = c .before .before .before in
-    let b = r .before .before .before .before in
-    let a = b .before .before .before .before in
-    omega (arith, word-length (a .before .before .before .before .args .ruling))
+    let at-put-byte3 = c .before .before .before in
+    let at-put-decimal3 = at-put-byte3 .before .before in
+    let at-put-byte2 = at-put-decimal3 .before .before in
+    let at-put-decimal2 = at-put-byte2 .before .before in
+    let at-put-byte = at-put-decimal2 .before .before in
+    let at-put-decimal = at-put-byte .before .before in
+    let start = at-put-decimal .before .before in
+    omega (arith, word-length (start .args .ruling))
 
 returns : tie.Need-returns
 unfolding edgeLine
 returns c =
-    let r = c .before .before .before .before in
-    let b = r .before .before .before .before in
-    let a = b .before .before .before .before in
+    let at-put-ruling = c .before .before in
+    let at-put-byte3 = at-put-ruling .before .before in
+    let at-put-decimal3 = at-put-byte3 .before .before in
+    let at-put-byte2 = at-put-decimal3 .before .before in
+    let at-put-decimal2 = at-put-byte2 .before .before in
+    let at-put-byte = at-put-decimal2 .before .before in
     append (append (append (append (append (append (append
-    (a .before .before .put-decimal .ensures) (a .put-byte .ensures)) (b .before .before .put-decimal2 .ensures)) (b .put-byte2 .ensures))
-    (r .before .before .put-decimal3 .ensures)) (r .put-byte3 .ensures)) (c .before .before .put-ruling .ensures)) (c .put-byte4 .ensures)
+    (at-put-byte .before .before .put-decimal .ensures) (at-put-byte .put-byte .ensures)) (at-put-decimal2 .put-decimal2 .ensures))
+    (at-put-byte2 .put-byte2 .ensures)) (at-put-decimal3 .put-decimal3 .ensures)) (at-put-byte3 .put-byte3 .ensures))
+    (at-put-ruling .put-ruling .ensures)) (c .put-byte4 .ensures)
 
 pub put-edge-spec : {M : Type 1} → statement M
 put-edge-spec =

@@ -20,10 +20,16 @@ put-word-requires : tie.Need-put-word-requires
 put-word-requires c κs = search needs
 
 put-decimal-requires : tie.Need-put-decimal-requires
-put-decimal-requires c κs = omega (arith, digits (c .before .before .before .before))
+put-decimal-requires c κs =
+    let at-put-word = c .before in
+    let start = at-put-word .before .before .before in
+    omega (arith, digits start)
 
 put-byte-requires : tie.Need-put-byte-requires
-put-byte-requires c κs = omega (arith, digits (c .before .before .before .before .before .before))
+put-byte-requires c κs =
+    let at-put-word = c .before .before .before in
+    let start = at-put-word .before .before .before in
+    omega (arith, digits start)
 
 returns : tie.Need-returns
 unfolding nodesLine

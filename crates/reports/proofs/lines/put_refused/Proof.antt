@@ -30,11 +30,13 @@ put-byte-requires c κs = search needs
 returns : tie.Need-returns
 unfolding refusedLine
 returns c =
-    let p = c .before .before .before .before in
-    let w = p .before .before .before .before .before in (
+    let at-put-decimal2 = c .before .before in
+    let at-put-word2 = at-put-decimal2 .before .before in
+    let at-put-decimal = at-put-word2 .before .before .before in (
       append
-          (append (append (append (w .put-word .ensures) (p .before .before .before .put-decimal .ensures)) (p .put-word2 .ensures))
-          (c .before .before .put-decimal2 .ensures)) (c .put-byte .ensures),
+          (append (append (append (at-put-decimal .before .before .put-word .ensures) (at-put-decimal .put-decimal .ensures))
+          (at-put-word2 .put-word2 .ensures))
+          (at-put-decimal2 .put-decimal2 .ensures)) (c .put-byte .ensures),
       omega arith,
     )
 

@@ -30,15 +30,18 @@ enum-known-answer-2 c = search needs
 
 put-bound-requires : tie.Need-put-bound-requires
 put-bound-requires c κs =
-    let t = c .before in
-    let s = t .before .before .before .before in
-    rw (back64 (t .before .answer2 .given .0 .0) (t .known-told2 .given .0 .1), toZ-ofZ (s .fits .ceiling))
-    (bound-room (t .before .answer2 .given .0 .0) (s .args .ceiling) (t .known-told2 .given .0 .1) (s .fits .ceiling .sfits))
+    let at-answer2 = c .before .before in
+    let start = at-answer2 .before .before .before in
+    rw (back64 (at-answer2 .answer2 .given .0 .0) (c .before .known-told2 .given .0 .1), toZ-ofZ (start .fits .ceiling))
+    (bound-room (at-answer2 .answer2 .given .0 .0) (start .args .ceiling) (c .before .known-told2 .given .0 .1)
+    (start .fits .ceiling .sfits))
 
 put-edges-requires : tie.Need-put-edges-requires
 put-edges-requires c κs =
-    let s = c .before .before .before .before .before .before .before in
-    (c .before .put-bound .ensures .1, s .pre .0, s .pre .1)
+    let at-put-bound = c .before in
+    let at-answer2 = at-put-bound .before .before .before in
+    let start = at-answer2 .before .before .before in
+    (at-put-bound .put-bound .ensures .1, start .pre .0, start .pre .1)
 
 returns : tie.Need-returns
 unfolding replyText ruleMeaning
@@ -54,12 +57,13 @@ returns-2 c =
 returns-3 : tie.Need-returns-3
 unfolding replyText ruleMeaning
 returns-3 c =
-    let t = c .before .before .before .before in
-    let a = t .before in
-    let s = a .before .before .before in
-    let b = a .answer2 .given .0 .0 in
-    let line = rw (back64 b (t .known-told2 .given .0 .1), toZ-ofZ (s .fits .ceiling)) at (c .before .before .put-bound .ensures .0) in
-    (rw (a .answer2 .given .1) (append line (c .put-edges .ensures .0)), c .put-edges .ensures .1)
+    let at-put-bound = c .before .before in
+    let at-answer2 = at-put-bound .before .before .before in
+    let start = at-answer2 .before .before .before in
+    let b = at-answer2 .answer2 .given .0 .0 in
+    let line = rw (back64 b (at-put-bound .before .before .known-told2 .given .0 .1), toZ-ofZ (start .fits .ceiling)) at
+    (at-put-bound .put-bound .ensures .0) in
+    (rw (at-answer2 .answer2 .given .1) (append line (c .put-edges .ensures .0)), c .put-edges .ensures .1)
 
 pub put-answer-spec : {M : Type 1} → statement M
 put-answer-spec =

@@ -27,19 +27,26 @@ add-put-edge : tie.Need-add-put-edge Inv-loop μ-loop
 add-put-edge c = omega arith
 
 element-copy-out-put-edge : tie.Need-element-copy-out-put-edge Inv-loop μ-loop
-element-copy-out-put-edge c = omega (arith, c .before .before .before .before .before .pre .1 .few)
+element-copy-out-put-edge c =
+    let at-loop = c .before .before in
+    let start = at-loop .before .before .before in
+    omega (arith, start .pre .1 .few)
 
 element-copy-out-put-edge-2 : tie.Need-element-copy-out-put-edge-2 Inv-loop μ-loop
-element-copy-out-put-edge-2 c = omega (arith, c .before .before .before .before .before .before .pre .1 .few)
+element-copy-out-put-edge-2 c =
+    let at-loop = c .before .before .before in
+    let start = at-loop .before .before .before in
+    omega (arith, start .pre .1 .few)
 
 shared-slice-read-put-edge : tie.Need-shared-slice-read-put-edge Inv-loop μ-loop
 shared-slice-read-put-edge c = omega arith
 
 put-edge-requires : tie.Need-put-edge-requires Inv-loop μ-loop
 put-edge-requires c κs =
-    let l = c .before .before .before .before .before in
-    let s = l .before .before .before in
-    omega (arith, s .pre .1 .few, line-room (s .args .t3) (s .pre .1) (l .loop .k) (omega arith))
+    let at-put-edge-arg2 = c .before .before in
+    let at-loop = at-put-edge-arg2 .before .before .before in
+    let start = at-loop .before .before .before in
+    omega (arith, start .pre .1 .few, line-room (start .args .t3) (start .pre .1) (at-loop .loop .k) (omega arith))
 
 add-k : tie.Need-add-k Inv-loop μ-loop
 add-k c = omega arith
@@ -49,13 +56,14 @@ loop-less c = omega arith
 
 loop-again : tie.Need-loop-again Inv-loop μ-loop
 loop-again c =
-    let l = c .before .before .before .before .before .before in
-    let s = l .before .before .before in
-    let g = s .args .t3 in
-    let h : l .loop .k < g .m = omega arith in (
+    let at-put-edge-arg2 = c .before .before .before in
+    let at-loop = at-put-edge-arg2 .before .before .before in
+    let start = at-loop .before .before .before in
+    let g = start .args .t3 in
+    let h : at-loop .loop .k < g .m = omega arith in (
       omega arith,
-      line-ends g (s .pre .1) (l .loop .k) h _ (l .loop .inv .1) (c .put-edge .ensures),
-      line-more g (s .pre .1) (l .loop .k) h (s .args .rulings .now) (l .loop .inv .2) (c .put-edge .ensures),
+      line-ends g (start .pre .1) (at-loop .loop .k) h _ (at-loop .loop .inv .1) (c .put-edge .ensures),
+      line-more g (start .pre .1) (at-loop .loop .k) h (start .args .rulings .now) (at-loop .loop .inv .2) (c .put-edge .ensures),
     )
 
 returns : tie.Need-returns Inv-loop μ-loop

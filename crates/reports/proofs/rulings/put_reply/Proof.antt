@@ -15,10 +15,11 @@ same-length c = search needs
 
 returns : tie.Need-returns
 returns c =
-    let r = c .before .before .before .before .before in
-    let s = r .before .before .before in
-    let ruled = rw (toZ-ofZ (s .fits .ceiling)) at (r .rule .ensures) in
-    rw (← (ruled .0), ← (ruled .1)) (rw (toZ-ofZ (s .fits .ceiling)) at (c .put-answer .ensures))
+    let at-put-answer-arg = c .before .before in
+    let at-rule = at-put-answer-arg .before .before .before in
+    let start = at-rule .before .before .before in
+    let ruled = rw (toZ-ofZ (start .fits .ceiling)) at (at-rule .rule .ensures) in
+    rw (← (ruled .0), ← (ruled .1)) (rw (toZ-ofZ (start .fits .ceiling)) at (c .put-answer .ensures))
 
 pub put-reply-spec : {M : Type 1} → statement M
 put-reply-spec = tie.close (tie.spec rule-requires put-answer-requires same-length returns)

@@ -39,10 +39,12 @@ put-reply-requires c κs =
 
 returns : tie.Need-returns
 returns c =
-    let w = c .before .before .before .before .before in
-    let s = w .before .before in
-    let put = rw (toZ-ofZ (s .fits .ceiling), w .before .wide .ensures .0, w .wide2 .ensures .0) at (c .before .put-reply .ensures) in
-    (rules-put (s .args .g) (s .pre) (s .args .ceiling) (put .0), put .1)
+    let at-rulings = c .before .before in
+    let at-wide2 = at-rulings .before .before .before in
+    let start = at-wide2 .before .before in
+    let put = rw (toZ-ofZ (start .fits .ceiling), at-wide2 .before .wide .ensures .0, at-wide2 .wide2 .ensures .0) at
+    (c .before .put-reply .ensures) in
+    (rules-put (start .args .g) (start .pre) (start .args .ceiling) (put .0), put .1)
 
 pub put-rules-spec : {M : Type 1} → statement M
 put-rules-spec =

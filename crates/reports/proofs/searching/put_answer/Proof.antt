@@ -79,14 +79,20 @@ returns-4 c = (rw (c .enum-told3 .given .1) (none _ 0), omega arith)
 returns-5 : tie.Need-returns-5
 unfolding answerText verdictLine
 returns-5 c =
-    let w = c .before .before in
-    (rw (w .before .before .before .before .answer2 .given .1) (append (w .put-word .ensures) (c .put-nodes .ensures .0)), omega arith)
+    let at-put-word-arg2 = c .before .before .before in (
+      rw (at-put-word-arg2 .before .before .before .answer2 .given .1) (append (c .before .before .put-word .ensures)
+          (c .put-nodes .ensures .0)),
+      omega arith,
+    )
 
 returns-6 : tie.Need-returns-6
 unfolding answerText verdictLine
 returns-6 c =
-    let w = c .before .before in
-    (rw (w .before .before .before .before .answer3 .given .1) (append (w .put-word2 .ensures) (c .put-nodes2 .ensures .0)), omega arith)
+    let at-put-word-arg4 = c .before .before .before in (
+      rw (at-put-word-arg4 .before .before .before .answer3 .given .1) (append (c .before .before .put-word2 .ensures)
+          (c .put-nodes2 .ensures .0)),
+      omega arith,
+    )
 
 returns-7 : tie.Need-returns-7
 unfolding answerText

@@ -52,8 +52,9 @@ put-decimal-returns : (t : ℕ) → put-decimal-lts.Need-returns (
   put-decimal.Post,
 ) (put-decimal-at t) put-decimal.Post
 put-decimal-returns t c =
-    let s = c .before .before .before .before in
-    put-digit (s .args .n) (c .before .before .before .if1 .taken) (c .before .digit .ensures) (c .put-byte .ensures)
+    let at-if1 = c .before .before .before in
+    let start = at-if1 .before in
+    put-digit (start .args .n) (at-if1 .if1 .taken) (c .before .digit .ensures) (c .put-byte .ensures)
 
 put-decimal-put-decimal-requires : (t : ℕ) → put-decimal-lts.Need-put-decimal-requires (
   digit-reads.Asked,
@@ -85,8 +86,10 @@ put-decimal-put-byte-requires-2 : (t : ℕ) → put-decimal-lts.Need-put-byte-re
   put-decimal.Post,
 ) (put-decimal-at t) put-decimal.Post
 put-decimal-put-byte-requires-2 t c κs =
-    let s = c .before .before .before .before .before in
-    omega (arith, length-more (s .args .n) (c .before .before .before .before .if1 .left), c .before .before .put-decimal .ensures .ends)
+    let at-put-decimal = c .before .before in
+    let at-if1 = at-put-decimal .before .before in
+    let start = at-if1 .before in
+    omega (arith, length-more (start .args .n) (at-if1 .if1 .left), at-put-decimal .put-decimal .ensures .ends)
 
 put-decimal-returns-2 : (t : ℕ) → put-decimal-lts.Need-returns-2 (
   digit-reads.Asked,
@@ -97,9 +100,10 @@ put-decimal-returns-2 : (t : ℕ) → put-decimal-lts.Need-returns-2 (
   put-decimal.Post,
 ) (put-decimal-at t) put-decimal.Post
 put-decimal-returns-2 t c =
-    let s = c .before .before .before .before .before .before in
-    put-more (s .args .n) (c .before .before .before .before .before .if1 .left) (c .before .digit2 .ensures)
-    (c .before .before .before .put-decimal .ensures) (c .put-byte2 .ensures)
+    let at-put-decimal = c .before .before .before in
+    let at-if1 = at-put-decimal .before .before in
+    let start = at-if1 .before in
+    put-more (start .args .n) (at-if1 .if1 .left) (c .before .digit2 .ensures) (at-put-decimal .put-decimal .ensures) (c .put-byte2 .ensures)
 
 pub +put-decimal-spec : {M : Type 1} → statement M
 +put-decimal-spec = close μ-put-decimal λ t. put-decimal-lts.spec (

@@ -7,7 +7,7 @@ use mir.Val.{SFits, toZ, ofZ}
 use mir.Syntax.{w64}
 use mir.Facts.{toZ-ofZ}
 use Rattle.integers.specs.Parts.{dn}
-use Rattle.graph.specs.TwosComplement.{flip, natural}
+use Rattle.charts.specs.TwosComplement.{flip, natural}
 use Rattle.reports.specs.Steps.{abs-negative, abs-fits}
 use Rattle.reports.proofs.text.magnitude.Statement.{statement}
 use Rattle.reports.proofs.text.magnitude.Tie as tie

@@ -19,8 +19,14 @@ negative c = rw (toZ-ofZ (c .before .fits .z)) at (c .if1 .taken)
 positive : (c : tie.Else1) → ltZ (c .before .args .z) (pos 0) ≡ false
 positive c = rw (toZ-ofZ (c .before .fits .z)) at (c .if1 .left)
 
-abs-negative : (c : tie.After-magnitude) → c .magnitude .result ≡ natAbs (c .before .before .before .before .before .args .z)
-abs-negative c = rw (toZ-ofZ (c .before .before .before .before .before .fits .z)) at (c .magnitude .ensures)
+abs-negative : (c : tie.After-magnitude)
+    → let at-put-byte = c .before .before in
+    let start = at-put-byte .before .before .before in
+    c .magnitude .result ≡ natAbs (start .args .z)
+abs-negative c =
+    let at-put-byte = c .before .before in
+    let start = at-put-byte .before .before .before in
+    rw (toZ-ofZ (start .fits .z)) at (c .magnitude .ensures)
 
 abs-positive : (c : tie.After-magnitude2) → c .magnitude2 .result ≡ natAbs (c .before .before .before .args .z)
 abs-positive c = rw (toZ-ofZ (c .before .before .before .fits .z)) at (c .magnitude2 .ensures)
@@ -33,18 +39,20 @@ magnitude-requires c κs = search needs
 
 put-decimal-requires : tie.Need-put-decimal-requires
 put-decimal-requires c κs =
-    let t = c .before .before .before .before in
+    let at-put-byte = c .before .before in
+    let start = at-put-byte .before .before .before in
     omega (
       arith,
-      length-negative (t .before .args .z) (negative t),
-      c .before .before .put-byte .ensures .ends,
+      length-negative (start .args .z) (negative (at-put-byte .before .before)),
+      at-put-byte .put-byte .ensures .ends,
       ap (λ (n : ℕ). length (decimal n)) (abs-negative c),
     )
 
 returns : tie.Need-returns
 returns c =
-    let t = c .before .before .before .before .before in
-    put-negative (t .before .args .z) (negative t) (abs-negative (c .before)) (c .before .before .before .put-byte .ensures)
+    let at-put-byte = c .before .before .before in
+    let start = at-put-byte .before .before .before in
+    put-negative (start .args .z) (negative (at-put-byte .before .before)) (abs-negative (c .before)) (at-put-byte .put-byte .ensures)
     (c .put-decimal .ensures)
 
 magnitude-requires-2 : tie.Need-magnitude-requires-2

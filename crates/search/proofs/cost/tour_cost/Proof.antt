@@ -41,13 +41,14 @@ element-copy-out-tick-2 c = search needs
 
 tick-requires : tie.Need-tick-requires Inv-loop μ-loop
 tick-requires c κs =
-    let l = c .before .before .before .loop in
-    let s = c .before .before .before .before in
-    let g = s .pre .0 in
-    let sum = l .inv .2 g (s .pre .1) (s .pre .2) (s .pre .3) in
-    rw (back32 (getD (s .args .costs .now) (l .k) (pos 0)) (c .tick-arg2 .given)) (
-      subst (λ (x : List ℤ). InRange 1000000 (getD x (l .k) (pos 0))) (s .pre .3)
-          (within-range 1000000 _ (s .pre .1 .each (l .k) (omega (arith, s .pre .2)) .range)),
+    let at-loop = c .before .before .before in
+    let start = at-loop .before in
+    let l = at-loop .loop in
+    let g = start .pre .0 in
+    let sum = l .inv .2 g (start .pre .1) (start .pre .2) (start .pre .3) in
+    rw (back32 (getD (start .args .costs .now) (l .k) (pos 0)) (c .tick-arg2 .given)) (
+      subst (λ (x : List ℤ). InRange 1000000 (getD x (l .k) (pos 0))) (start .pre .3)
+          (within-range 1000000 _ (start .pre .1 .each (l .k) (omega (arith, start .pre .2)) .range)),
       record { high = omega (arith, sum .high); low = omega (arith, sum .low) },
     )
 
@@ -59,15 +60,17 @@ loop-less c = search needs
 
 loop-again : tie.Need-loop-again Inv-loop μ-loop
 loop-again c =
-    let l = c .before .before .before .before .loop in
-    let s = c .before .before .before .before .before in
-    let w = s .args .w .now in
-    let t = rw (back32 (getD (s .args .costs .now) (l .k) (pos 0)) (c .before .tick-arg2 .given)) at (c .tick .ensures) in
+    let at-loop-test = c .before .before .before in
+    let start = at-loop-test .before .before in
+    let l = at-loop-test .before .loop in
+    let w = start .args .w .now in
+    let t = rw (back32 (getD (start .args .costs .now) (l .k) (pos 0)) (c .before .tick-arg2 .given)) at (c .tick .ensures) in
     rw (back64 (c .tick .result) (c .tick .ok)) (
       omega arith,
       l .inv .1,
       λ g v e q.
-          ticked (l .k) g w (toZ w64 (l .sum)) (c .tick .result) (omega (arith, e)) (within-range 1000000 _ (v .each (l .k) (omega (arith, e)) .range))
+          ticked (l .k) g w (toZ w64 (l .sum)) (c .tick .result) (omega (arith, e))
+          (within-range 1000000 _ (v .each (l .k) (omega (arith, e)) .range))
           (l .inv .2 g v e q)
           (subst (λ (x : List ℤ). Ticked (getD w (l .k) 0) (getD x (l .k) (pos 0)) (toZ w64 (l .sum)) (c .tick .result)) (sym q) t),
     )

@@ -24,7 +24,8 @@ put-requires c κs = search needs
 
 returns : tie.Need-returns
 returns c =
-    let padded = c .before .before .before .before .before in
+    let at-marks2 = c .before .before in
+    let padded = at-marks2 .before .before .before in
     let trimmed = padded .before in
     let start = trimmed .before in
     begun (asked start) (start .pre) _ (trimmed .trim .ensures) _ (padded .padded .ensures)

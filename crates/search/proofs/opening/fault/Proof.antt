@@ -26,21 +26,26 @@ vertices : (c : tie.After-wide) → c .wide .result ≡ c .before .before .befor
 vertices c = c .wide .ensures .0
 
 long : (c : tie.Else2)
-    → let a = c .before .before .before .before .args in length (a .multipliers .now) ≡ a .g .n
+    → let at-if1 = c .before .before in
+    let start = at-if1 .before .before in
+    let a = start .args in length (a .multipliers .now) ≡ a .g .n
 long c = c .if2 .left ∙ vertices (c .before)
 
-fitting : (c : tie.Else3) → multipliersFit (c .before .before .before .before .before .before .args .multipliers .now) ≡ true
+abbrev start : tie.Else3 → tie.Start
+start c = let at-wide = c .before .before .before in at-wide .before .before .before
+
+fitting : (c : tie.Else3) → multipliersFit (start c .args .multipliers .now) ≡ true
 fitting c = sym (c .before .multipliers-fit .ensures) ∙ not-false _ (c .if3 .left)
 
 -- a signed word that is passed on is read back as it was
 answered : (c : tie.After-ceiling-fits)
-    → c .ceiling-fits .result ≡ ceilingFits (c .before .before .before .before .before .before .before .before .args .settings .ceiling)
+    → c .ceiling-fits .result ≡ ceilingFits (start (c .before .before) .args .settings .ceiling)
 answered c =
-    let a = c .before .before .before .before .before .before .before .before .args in
+    let a = start (c .before .before) .args in
     c .ceiling-fits .ensures ∙ ap ceilingFits (back64 (a .settings .ceiling) (c .before .struct-told .given .0 .1))
 
 inside : (c : tie.Else4)
-    → ceilingFits (c .before .before .before .before .before .before .before .before .before .args .settings .ceiling) ≡ true
+    → ceilingFits (start (c .before .before .before) .args .settings .ceiling) ≡ true
 inside c = sym (answered (c .before)) ∙ not-false _ (c .if4 .left)
 
 check-requires : tie.Need-check-requires

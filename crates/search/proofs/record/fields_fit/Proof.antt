@@ -52,7 +52,10 @@ wide-requires : tie.Need-wide-requires
 wide-requires c κs = search needs
 
 -- the number of vertices, taken out of the graph
-vertices : (c : tie.After-wide) → c .wide .result ≡ c .before .before .before .before .before .args .g .n
+vertices : (c : tie.After-wide)
+    → let at-if1 = c .before .before .before in
+    let start = at-if1 .before .before in
+    c .wide .result ≡ start .args .g .n
 vertices c = c .wide .ensures .0
 
 add-if3 : tie.Need-add-if3

@@ -13,7 +13,9 @@ use Rattle.search.proofs.record.fields_tidy.Tie as tie
 
 -- where the function starts
 abbrev start : tie.After-multipliers-tidy → tie.Start
-start c = c .before .before .before .before
+start c =
+    let at-graph-tidy = c .before .before .before in
+    at-graph-tidy .before
 
 -- what the test of the multipliers says, of the graph's own n
 said : (c : tie.After-multipliers-tidy)

@@ -42,15 +42,17 @@ loop-less c = search needs
 
 loop-again : tie.Need-loop-again Inv-loop μ-loop
 loop-again c =
-    let l = c .before .before .before .before .loop in
-    let args = c .before .before .before .before .before .args in
+    let at-if1 = c .before in
+    let at-loop = at-if1 .before .before .before in
+    let l = at-loop .loop in
+    let args = at-loop .before .args in
     let stack = args .stack .now in (
       omega arith,
       ⊎-elim (λ w. omega (arith, l .inv .1, requireds-one stack (args .p) (l .j) (w .0 .taken)))
           (λ w. omega (arith, l .inv .1, requireds-other stack (args .p) (l .j) (w .0 .left))) (c .if2 .came),
       ⊎-elim (λ w. omega arith) (λ w. omega arith) (c .if2 .came),
       ⊎-elim (λ w. greatest-raised _ _ _ (l .j) (l .most) _ (l .inv .3) (omega arith) (omega arith) (w .0 .taken) (w .1))
-          (λ w. greatest-kept _ _ _ (l .j) (l .most) _ (l .inv .3) (w .0 .left) (w .1)) (c .before .if1 .came),
+          (λ w. greatest-kept _ _ _ (l .j) (l .most) _ (l .inv .3) (w .0 .left) (w .1)) (at-if1 .if1 .came),
     )
 
 returns : tie.Need-returns Inv-loop μ-loop

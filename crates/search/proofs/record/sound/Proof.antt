@@ -26,7 +26,9 @@ returns-2 c = sym (check-no (c .before .before .args .t1) (λ h. omega (arith, h
 
 -- where m is taken out of the graph, where the flags are known, and the record
 abbrev at-flags : tie.After-wide → tie.Else2
-at-flags c = c .before .before .before .before
+at-flags c =
+    let at-g = c .before .before .before in
+    at-g .before
 
 abbrev given : tie.After-wide → Search
 given c = at-flags c .before .before .args .t1

@@ -42,9 +42,12 @@ node-zeros-requires c κs = omega (arith, c .before .loop .inv .0 .few)
 
 returns-2 : tie.Need-returns-2 Inv-loop μ-loop
 returns-2 c =
-    λ t. let l = c .before .before .before .loop in
+    let at-loop = c .before .before .before in
+    let at-if1 = at-loop .before in
+    let start = at-if1 .before .before .before in
+    λ t. let l = at-loop .loop in
     says-no (c .before .node-zeros .result) (c .before .node-zeros .ensures) (not-true _ (c .if2 .taken))
-    (tidy-nodes _ _ _ (c .before .before .before .before .before .before .before .args .stack .now) (l .inv .0) t (l .p) (omega arith))
+    (tidy-nodes _ _ _ (start .args .stack .now) (l .inv .0) t (l .p) (omega arith))
 
 add-p : tie.Need-add-p Inv-loop μ-loop
 add-p c = omega (arith, c .before .before .before .loop .inv .0 .few)
@@ -62,8 +65,10 @@ loop-again c =
 
 returns-3 : tie.Need-returns-3 Inv-loop μ-loop
 returns-3 c =
+    let at-if1 = c .before .before in
+    let start = at-if1 .before .before .before in
     let l = c .before .loop in
-    tidy-stack _ _ _ (c .before .before .before .before .before .args .stack .now) (l .inv .0) (l .inv .1) (λ k h. l .inv .2 k (omega arith))
+    tidy-stack _ _ _ (start .args .stack .now) (l .inv .0) (l .inv .1) (λ k h. l .inv .2 k (omega arith))
 
 pub stack-tidy-spec : {M : Type 1} → statement M
 stack-tidy-spec =

@@ -11,16 +11,16 @@ use Rattle.integers.specs.Parts.{up, dn}
 use Rattle.graph.specs.declared.Graph.{Graph}
 use Rattle.graph.specs.Limits.{maxEdges}
 use Rattle.graph.specs.Network.{network}
-use Rattle.onetree.specs.OneTree.{Edges}
-use Rattle.onetree.specs.Inputs.{multiplier}
-use Rattle.onetree.specs.Enumeration.{Tree, noTree, aTree, leastTree, ruling}
-use Rattle.onetree.specs.LeastTree.{tree-found, tree-missing}
-use Rattle.onetree.specs.Answers.{rulingByte, blank}
-use Rattle.onetree.specs.Arrays.{bytes, in-edge}
+use Rattle.trees.specs.OneTree.{Edges}
+use Rattle.trees.specs.Inputs.{multiplier}
+use Rattle.trees.specs.Enumeration.{Tree, noTree, aTree, leastTree, ruling}
+use Rattle.trees.specs.LeastTree.{tree-found, tree-missing}
+use Rattle.onetree.specs.Answers.{rulingByte}
+use Rattle.trees.specs.Arrays.{blank, bytes, in-edge}
 use Rattle.onetree.specs.Charged.{highBound, lowBound, maxSlack}
 use Rattle.onetree.specs.Found.{FoundIs}
 use Rattle.onetree.specs.TreeCall.{byte-is}
-use Rattle.onetree.specs.Slack.{SlackIs}
+use Rattle.swaps.specs.Slack.{SlackIs}
 use Rattle.onetree.specs.Ruled.{RuledBy}
 
 -- what the code knows of the bound of any 1-tree

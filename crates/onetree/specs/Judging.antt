@@ -18,15 +18,14 @@ use Rattle.graph.specs.declared.Graph.{Graph}
 use Rattle.graph.specs.Limits.{maxEdges}
 use Rattle.graph.specs.Network.{network}
 use Rattle.graph.specs.Valid.{Valid, graphOf}
-use Rattle.onetree.specs.OneTree.{OneTree}
-use Rattle.onetree.specs.Answers.{blank}
-use Rattle.onetree.specs.Arrays.{bytes}
-use Rattle.onetree.specs.Extremes.{Largest, Least, least-none, least-skip, least-more}
-use Rattle.onetree.specs.Visiting.{Rooting, rooting}
-use Rattle.onetree.specs.Hanging.{Shape, above}
-use Rattle.onetree.specs.Climbing.{Climbed, Fresh}
-use Rattle.onetree.specs.RootedTree.{RootedIn, Labelled, shape, labelOf}
-use Rattle.onetree.specs.Swaps.{aAt, bAt, markAt, Through, Below}
+use Rattle.trees.specs.OneTree.{OneTree}
+use Rattle.trees.specs.Arrays.{blank, bytes}
+use Rattle.swaps.specs.Extremes.{Largest, Least, least-none, least-skip, least-more}
+use Rattle.swaps.specs.Visiting.{Rooting, rooting}
+use Rattle.swaps.specs.Hanging.{Shape, above}
+use Rattle.swaps.specs.Climbing.{Climbed, Fresh}
+use Rattle.swaps.specs.RootedTree.{RootedIn, Labelled, shape, labelOf}
+use Rattle.swaps.specs.Swaps.{aAt, bAt, markAt, Through, Below}
 use Rattle.onetree.specs.Verdicts.{noCharge, chargeAt, Gives, barByte, forceByte}
 use Rattle.onetree.specs.Candidates.{NearIs, Crosses, Weighed, near-gives, far-gives}
 

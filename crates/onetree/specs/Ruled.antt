@@ -15,17 +15,17 @@ use Rattle.lists.specs.Members.{_∈_}
 use Rattle.graph.specs.declared.Graph.{Graph}
 use Rattle.graph.specs.Network.{network}
 use Rattle.graph.specs.Valid.{Valid}
-use Rattle.onetree.specs.OneTree.{OneTree}
-use Rattle.onetree.specs.Enumeration.{ruling}
-use Rattle.onetree.specs.Rulings.{rules-required, rules-excluded}
-use Rattle.onetree.specs.Inputs.{multiplier}
+use Rattle.trees.specs.OneTree.{OneTree}
+use Rattle.trees.specs.Enumeration.{ruling}
+use Rattle.trees.specs.Rulings.{rules-required, rules-excluded}
+use Rattle.trees.specs.Inputs.{multiplier}
 use Rattle.onetree.specs.Answers.{rulingByte}
-use Rattle.onetree.specs.Arrays.{bytes, of-edge, mark-required, mark-excluded}
-use Rattle.onetree.specs.Extremes.{Least}
-use Rattle.onetree.specs.Filled.{Updated}
-use Rattle.onetree.specs.Visiting.{Rooting, edgeAt}
-use Rattle.onetree.specs.RootedTree.{RootedIn}
-use Rattle.onetree.specs.Swaps.{aAt, markAt, Below, over-in, over-once, over-all}
+use Rattle.trees.specs.Arrays.{bytes, of-edge, mark-required, mark-excluded}
+use Rattle.swaps.specs.Extremes.{Least}
+use Rattle.lists.specs.Filled.{Updated}
+use Rattle.swaps.specs.Visiting.{Rooting, edgeAt}
+use Rattle.swaps.specs.RootedTree.{RootedIn}
+use Rattle.swaps.specs.Swaps.{aAt, markAt, Below, over-in, over-once, over-all}
 use Rattle.onetree.specs.Verdicts.{noCharge, chargeAt, Comes, forceByte, Judgement, out-byte, in-byte}
 use Rattle.onetree.specs.Candidates.{near-comes, far-comes}
 use Rattle.onetree.specs.Judging.{Ready, Judged, Barring}

@@ -3,9 +3,9 @@ ghost use mathlib.Core.Path.{_≡_};
 ghost use mathlib.Core.Logic.{_⊎_};
 ghost use Prim.Native.Nat.{_<_, _≤_};
 ghost use lib.ListN.{length, getD};
-ghost use Rattle.onetree.specs.Hanging.{Hangs, Vertex};
-ghost use Rattle.onetree.specs.RootedTree.{shape};
-ghost use Rattle.onetree.specs.Climbing.{Offered, Climbed};
+ghost use Rattle.swaps.specs.Hanging.{Hangs, Vertex};
+ghost use Rattle.swaps.specs.RootedTree.{shape};
+ghost use Rattle.swaps.specs.Climbing.{Offered, Climbed};
 use graph::wide;
 
 pub(crate) fn greater(x: u32, y: u32) -> u32

@@ -5,22 +5,12 @@ ghost use lib.ListN.{length};
 ghost use Rattle.lists.specs.Rows.{row};
 ghost use Rattle.graph.specs.Limits.{maxEdges};
 ghost use Rattle.graph.specs.Valid.{Valid, graphOf};
-ghost use Rattle.onetree.specs.Merges.{Merges};
-ghost use Rattle.onetree.specs.Arrays.{entry};
-ghost use Rattle.onetree.specs.Multipliers.{Ranged};
+ghost use Rattle.trees.specs.Merges.{Merges};
+ghost use Rattle.trees.specs.Arrays.{entry, blank};
+ghost use Rattle.trees.specs.Multipliers.{Ranged};
 ghost use Rattle.onetree.specs.Found.{FoundIs};
 ghost use Rattle.onetree.specs.Looks.{Hinted, HintAfter};
-ghost use Rattle.onetree.specs.Answers.{
-  treeMeaning,
-  treeReply,
-  treeLeaves,
-  ruleMeaning,
-  ruleReply,
-  ruleLeaves,
-  blank,
-  passTree,
-  passRulings,
-};
+ghost use Rattle.onetree.specs.Answers.{treeMeaning, treeReply, treeLeaves, ruleMeaning, ruleReply, ruleLeaves, passTree, passRulings};
 
 mod charges;
 mod climb;

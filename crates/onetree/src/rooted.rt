@@ -9,9 +9,9 @@ ghost use lib.IntN.{ℤ};
 ghost use lib.ListN.{replicate};
 ghost use Rattle.graph.specs.Limits.{maxVertices};
 ghost use Rattle.graph.specs.Valid.{graphOf};
-ghost use Rattle.onetree.specs.Spans.{Spans};
-ghost use Rattle.onetree.specs.TreeTable.{Ends, Lists, emptyTable};
-ghost use Rattle.onetree.specs.Visiting.{rooting, rowOf, Hung, Complete, Lined, Leaving, Left, Rows};
+ghost use Rattle.trees.specs.Spans.{Spans};
+ghost use Rattle.swaps.specs.TreeTable.{Ends, Lists, emptyTable};
+ghost use Rattle.swaps.specs.Visiting.{rooting, rowOf, Hung, Complete, Lined, Leaving, Left, Rows};
 use graph::wide;
 
 // Whether an edge is one of the tree that may give way to another on its circle: it is free, which is the mark 0, and not at vertex 1.

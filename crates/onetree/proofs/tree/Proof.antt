@@ -8,9 +8,11 @@ use Rattle.integers.specs.Words.{back64}
 use Rattle.graph.specs.declared.Graph.{Graph}
 use Rattle.graph.specs.Valid.{Valid, graphOf}
 use Rattle.graph.specs.Parts.{own-parts}
-use Rattle.onetree.specs.Answers.{treeMeaning, inputFault}
+use Rattle.onetree.specs.Answers.{treeMeaning}
+use Rattle.trees.specs.Inputs.{inputFault}
 use Rattle.onetree.specs.Found.{FoundIs}
-use Rattle.onetree.specs.TreeCall.{Accepted, no-fault, tree-refused, tree-none, tree-some}
+use Rattle.trees.specs.Accepted.{Accepted, no-fault}
+use Rattle.onetree.specs.TreeCall.{tree-refused, tree-none, tree-some}
 use Rattle.onetree.proofs.tree.Statement.{statement}
 use Rattle.onetree.proofs.tree.Tie as tie
 

@@ -6,7 +6,7 @@ use lib.IntN.{pos}
 use borrow.Author.Needs.{needs}
 use native.Mathlib.Omega.{arith}
 use Rattle.integers.specs.Words.{back32}
-use Rattle.onetree.specs.Multipliers.{Ranged, multiplier-range}
+use Rattle.trees.specs.Multipliers.{Ranged, multiplier-range}
 use Rattle.onetree.specs.Charging.{Chargeable, ChargesOf, charges-more}
 use Rattle.onetree.proofs.charges.charges.Statement.{statement}
 use Rattle.onetree.proofs.charges.charges.Tie as tie

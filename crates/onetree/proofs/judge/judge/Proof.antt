@@ -12,7 +12,7 @@ use mir.Facts.{toZ-ofZ}
 use Rattle.integers.specs.Words.{back64}
 use Rattle.graph.specs.declared.Graph.{Graph}
 use Rattle.graph.specs.Valid.{graphOf}
-use Rattle.onetree.specs.Spans.{Spans}
+use Rattle.trees.specs.Spans.{Spans}
 use Rattle.onetree.specs.Looks.{handed-some, handed-none}
 use Rattle.onetree.specs.Judged.{judged-nothing, judged-missing, judged-over, judged-within, found-fits}
 use Rattle.onetree.proofs.judge.judge.Statement.{statement}

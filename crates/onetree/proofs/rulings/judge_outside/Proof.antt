@@ -6,8 +6,8 @@ use mathlib.Core.Path.{_≡_, subst, _∙_}
 use mathlib.Core.Logic.{⊎-elim}
 use lib.ListN.{getD}
 use Rattle.graph.specs.Limits.{maxEdges}
-use Rattle.onetree.specs.RootedTree.{labelOf}
-use Rattle.onetree.specs.Swaps.{ends-hang}
+use Rattle.swaps.specs.RootedTree.{labelOf}
+use Rattle.swaps.specs.Swaps.{ends-hang}
 use Rattle.onetree.specs.Judging.{Prepared, graphIn, rootingIn, Judged, judged-none, judged-skip, judged-near, judged-far}
 use Rattle.onetree.proofs.rulings.judge_outside.Statement.{statement}
 use Rattle.onetree.proofs.rulings.judge_outside.Tie as tie

@@ -8,12 +8,12 @@ use lib.ListN.{length}
 use Rattle.graph.specs.declared.Graph.{Graph}
 use Rattle.graph.specs.Limits.{maxEdges}
 use Rattle.graph.specs.Valid.{graphOf}
-use Rattle.onetree.specs.Spans.{Spans}
-use Rattle.onetree.specs.Merges.{Merges}
-use Rattle.onetree.specs.TreeTable.{Ends, Lists}
-use Rattle.onetree.specs.Visiting.{Rooting, rooting, Rows, Hung}
-use Rattle.onetree.specs.RootedTree.{Labelled, RootedIn, two-ends, walkable, rooted}
-use Rattle.onetree.specs.Swaps.{Below}
+use Rattle.trees.specs.Spans.{Spans}
+use Rattle.trees.specs.Merges.{Merges}
+use Rattle.swaps.specs.TreeTable.{Ends, Lists}
+use Rattle.swaps.specs.Visiting.{Rooting, rooting, Rows, Hung}
+use Rattle.swaps.specs.RootedTree.{Labelled, RootedIn, two-ends, walkable, rooted}
+use Rattle.swaps.specs.Swaps.{Below}
 use Rattle.onetree.specs.Judging.{Ready, Prepared, Judged}
 use Rattle.onetree.specs.Candidates.{BelowRoot, queue-below, below-queue}
 use Rattle.onetree.specs.Forcing.{OneEach, one-each-as, forcing-as}

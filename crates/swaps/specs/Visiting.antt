@@ -10,8 +10,8 @@ use native.Mathlib.Numerals.{add-one}
 use lib.ListN.{length, getD, set, length-set, replicate}
 use lib.Seq.{getD-set-same, getD-set-other}
 use Rattle.lists.specs.Rows.{zeros}
-use Rattle.onetree.specs.Grid.{cell}
-use Rattle.onetree.specs.TreeTable.{listed}
+use Rattle.swaps.specs.Grid.{cell}
+use Rattle.swaps.specs.TreeTable.{listed}
 
 -- the vertex above each vertex, how deep it hangs (0: nowhere yet) and the place of the edge to the vertex above
 pub record Rooting : Type 0 where

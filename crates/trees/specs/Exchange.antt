@@ -19,11 +19,11 @@ use Rattle.lists.specs.Sets.{swapped-weight, unmoved, partner}
 use Rattle.graph.specs.Network.{Network}
 use Rattle.spanning.specs.Trees.{Tree}
 use Rattle.spanning.specs.Exchange.{Traded, trade}
-use Rattle.onetree.specs.OneTree.{Edges, OneTree, Least, bound, Barred, Forced}
-use Rattle.onetree.specs.Valid.{Valid, isExcluded, needed, isNear, near, far, distinct-near, distinct-far, near-in, far-in}
-use Rattle.onetree.specs.Valid.{in-near, in-far, near-not-far}
-use Rattle.onetree.specs.Link.{Parts, to-parts, of-parts, in-allowed, out-loose}
-use Rattle.onetree.specs.Bound.{Shifted, bound-le, le-bound}
+use Rattle.trees.specs.OneTree.{Edges, OneTree, Least, bound, Barred, Forced}
+use Rattle.trees.specs.Valid.{Valid, isExcluded, needed, isNear, near, far, distinct-near, distinct-far, near-in, far-in}
+use Rattle.trees.specs.Valid.{in-near, in-far, near-not-far}
+use Rattle.trees.specs.Link.{Parts, to-parts, of-parts, in-allowed, out-loose}
+use Rattle.trees.specs.Bound.{Shifted, bound-le, le-bound}
 
 -- ---- b for a in a 1-tree
 

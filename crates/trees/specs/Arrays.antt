@@ -5,17 +5,17 @@ use mathlib.Core.List.{List, _∷_}
 use Prim.Native.Nat.{ℕ, zero, suc, _<_, _≤_}
 use native.Mathlib.Omega.{arith}
 use lib.Dec.{eqb}
-use lib.ListN.{getD}
+use lib.ListN.{getD, replicate}
 use borrow.Author.Tests.{ne-eqb}
 use Rattle.lists.specs.Members.{_∈_}
 use Rattle.lists.specs.Numbers.{upTo, upTo-in, in-upTo}
 use Rattle.graph.specs.declared.Graph.{Graph}
-use Rattle.graph.specs.Limits.{maxMark}
+use Rattle.graph.specs.Limits.{maxEdges, maxMark}
 use Rattle.graph.specs.Network.{free, required, excluded, markOf, network}
 use Rattle.graph.specs.Places.{network-a, network-b, network-mark}
 use Rattle.graph.specs.Valid as value
-use Rattle.onetree.specs.OneTree.{Edges}
-use Rattle.onetree.specs.Valid.{Valid, isRequired, isExcluded, needed}
+use Rattle.trees.specs.OneTree.{Edges}
+use Rattle.trees.specs.Valid.{Valid, isRequired, isExcluded, needed}
 
 -- the number that an array has for edge k, 0 for no edge
 abbrev pub entry : List ℕ → ℕ → ℕ
@@ -24,6 +24,10 @@ entry c k = getD (0 ∷ c) k 0
 -- one byte an edge, "1 in, 0 out"
 abbrev pub bytes : List ℕ → Edges
 bytes w k = eqb (entry w k) 1
+
+-- a byte at every place, all 0
+abbrev pub blank : List ℕ
+blank = replicate maxEdges 0
 
 -- the edges are the numbers suc k with k < m
 pub edge-of : (m e : ℕ) → e ∈ upTo m → (k : ℕ) × (k < m) × (e ≡ suc k)

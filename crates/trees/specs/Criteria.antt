@@ -20,11 +20,11 @@ use Rattle.graph.specs.Network.{Network}
 use Rattle.spanning.specs.Walks.{label}
 use Rattle.spanning.specs.Forests.{forest-joins}
 use Rattle.spanning.specs.Trees.{swap-tree, forest-plus}
-use Rattle.onetree.specs.OneTree.{Edges, OneTree, Least, bound, Barred, Forced}
-use Rattle.onetree.specs.Valid.{Valid, isExcluded, needed, isNear, near, far, distinct-near, distinct-far, near-in, in-near, in-far}
-use Rattle.onetree.specs.Link.{Parts, to-parts, of-parts, in-allowed, out-loose}
-use Rattle.onetree.specs.Bound.{Shifted, twiceAll, bound-above}
-use Rattle.onetree.specs.Exchange.{swap-far, swap-near, barred-iff, forced-iff}
+use Rattle.trees.specs.OneTree.{Edges, OneTree, Least, bound, Barred, Forced}
+use Rattle.trees.specs.Valid.{Valid, isExcluded, needed, isNear, near, far, distinct-near, distinct-far, near-in, in-near, in-far}
+use Rattle.trees.specs.Link.{Parts, to-parts, of-parts, in-allowed, out-loose}
+use Rattle.trees.specs.Bound.{Shifted, twiceAll, bound-above}
+use Rattle.trees.specs.Exchange.{swap-far, swap-near, barred-iff, forced-iff}
 
 -- ---- which swaps are 1-trees
 

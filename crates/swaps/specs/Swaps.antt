@@ -15,15 +15,15 @@ use Rattle.graph.specs.declared.Graph.{Graph}
 use Rattle.graph.specs.Network.{network}
 use Rattle.graph.specs.Places.{network-a, network-b}
 use Rattle.graph.specs.Valid as value
-use Rattle.onetree.specs.OneTree.{OneTree}
-use Rattle.onetree.specs.Valid.{isNear, isExcluded, needed, far, far-in, in-far}
-use Rattle.onetree.specs.Link.{Parts, to-parts}
-use Rattle.onetree.specs.Criteria.{MaySwap, Apart, Place}
-use Rattle.onetree.specs.Arrays.{bytes, edge-of, of-edge, needed-at, excluded-at, network-valid}
-use Rattle.onetree.specs.Hanging.{Vertex, Child, Splits}
-use Rattle.onetree.specs.Visiting.{Rooting, edgeAt}
-use Rattle.onetree.specs.Rooted.{Other, cut-same, same-cut, edge-above, one-vertex}
-use Rattle.onetree.specs.RootedTree.{shape, edgeOver, labelOf, RootedIn, free-mark}
+use Rattle.trees.specs.OneTree.{OneTree}
+use Rattle.trees.specs.Valid.{isNear, isExcluded, needed, far, far-in, in-far}
+use Rattle.trees.specs.Link.{Parts, to-parts}
+use Rattle.trees.specs.Criteria.{MaySwap, Apart, Place}
+use Rattle.trees.specs.Arrays.{bytes, edge-of, of-edge, needed-at, excluded-at, network-valid}
+use Rattle.swaps.specs.Hanging.{Vertex, Child, Splits}
+use Rattle.swaps.specs.Visiting.{Rooting, edgeAt}
+use Rattle.swaps.specs.Rooted.{Other, cut-same, same-cut, edge-above, one-vertex}
+use Rattle.swaps.specs.RootedTree.{shape, edgeOver, labelOf, RootedIn, free-mark}
 
 -- the ends of the edge at place k, and its mark
 abbrev pub aAt : Graph → ℕ → ℕ

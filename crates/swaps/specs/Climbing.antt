@@ -9,7 +9,7 @@ use native.Mathlib.Omega.{arith}
 use native.Mathlib.Decide.{ℕ-discrete}
 use lib.ListN.{length, getD, set, length-set}
 use lib.Seq.{getD-set-same, getD-set-other}
-use Rattle.onetree.specs.Hanging.{
+use Rattle.swaps.specs.Hanging.{
   Shape,
   Hangs,
   Vertex,

@@ -18,16 +18,16 @@ use Rattle.graph.specs.Places.{network-a, network-b}
 use Rattle.graph.specs.Valid as value
 use Rattle.spanning.specs.Walks.{Walk, walk-trans, walk-sym, walk-respects, label-walk}
 use Rattle.spanning.specs.Trees.{minus-apart}
-use Rattle.onetree.specs.OneTree.{OneTree, away}
-use Rattle.onetree.specs.Valid.{isNear, isExcluded, needed, far, far-in, in-far, in-others, distinct-far, far-within, others-in}
-use Rattle.onetree.specs.Link.{Parts, to-parts, away-is}
-use Rattle.onetree.specs.Arrays.{bytes, edge-of, of-edge, needed-at, excluded-at, network-valid}
-use Rattle.onetree.specs.Merges.{Merges}
-use Rattle.onetree.specs.Grid.{cell}
-use Rattle.onetree.specs.TreeTable.{Lists, Inner, End, Ends, TwoEnds, listed}
-use Rattle.onetree.specs.Hanging.{Shape, Child}
-use Rattle.onetree.specs.Visiting.{Rooting, Rows, Leads, Joined, opposite, Hung, Among, Complete, parentAt, depthAt, edgeAt}
-use Rattle.onetree.specs.Rooted.{Rooted, Joins, Trip, tied-trip}
+use Rattle.trees.specs.OneTree.{OneTree, away}
+use Rattle.trees.specs.Valid.{isNear, isExcluded, needed, far, far-in, in-far, in-others, distinct-far, far-within, others-in}
+use Rattle.trees.specs.Link.{Parts, to-parts, away-is}
+use Rattle.trees.specs.Arrays.{bytes, edge-of, of-edge, needed-at, excluded-at, network-valid}
+use Rattle.trees.specs.Merges.{Merges}
+use Rattle.swaps.specs.Grid.{cell}
+use Rattle.swaps.specs.TreeTable.{Lists, Inner, End, Ends, TwoEnds, listed}
+use Rattle.swaps.specs.Hanging.{Shape, Child}
+use Rattle.swaps.specs.Visiting.{Rooting, Rows, Leads, Joined, opposite, Hung, Among, Complete, parentAt, depthAt, edgeAt}
+use Rattle.swaps.specs.Rooted.{Rooted, Joins, Trip, tied-trip}
 
 -- what the lists say
 abbrev pub shape : List ℕ → List ℕ → Shape

@@ -20,12 +20,12 @@ use Rattle.lists.specs.Rows.{row, row-same}
 use Rattle.integers.specs.Range.{clamp}
 use Rattle.graph.specs.Limits.{maxMultiplier}
 use Rattle.graph.specs.Network.{Network, free, excluded}
-use Rattle.trees.specs.OneTree.{Edges, others, bound}
-use Rattle.trees.specs.Agree.{Agree}
-use Rattle.trees.specs.Inputs.{multiplier}
-use Rattle.trees.specs.Enumeration.{Tree, noTree, aTree, leastTree, ruling}
-use Rattle.trees.specs.LeastTree.{Right, tree-right, tree-found, tree-missing}
-use Rattle.trees.specs.Rulings.{rules-excluded}
+use Rattle.tree_theory.specs.OneTree.{Edges, others, bound}
+use Rattle.tree_theory.specs.Agree.{Agree}
+use Rattle.tree_theory.specs.Inputs.{multiplier}
+use Rattle.tree_theory.specs.Enumeration.{Tree, noTree, aTree, leastTree, ruling}
+use Rattle.tree_theory.specs.LeastTree.{Right, tree-right, tree-found, tree-missing}
+use Rattle.tree_theory.specs.Rulings.{rules-excluded}
 use Rattle.machine.specs.Orders.{distinct, words}
 use Rattle.machine.specs.Tours.{isJoined, isTrip, isTour}
 use Rattle.machine.specs.Machine.{Marks, Opened, withMarks, applied, markBy, shut, found, unclosed, passBy, pass, degree, gained, branch}

@@ -7,8 +7,8 @@ use Rattle.lists.specs.Bools.{by-cases}
 use Rattle.lists.specs.Members.{_∈_}
 use Rattle.lists.specs.Numbers.{upTo}
 use Rattle.graph.specs.Network.{Network}
-use Rattle.trees.specs.OneTree.{Edges, OneTree}
-use Rattle.trees.specs.Valid.{Valid}
+use Rattle.tree_theory.specs.OneTree.{Edges, OneTree}
+use Rattle.tree_theory.specs.Valid.{Valid}
 use Rattle.machine.specs.Tours.{isTour}
 use Rattle.machine.specs.Machine.{degree}
 use Rattle.machine.specs.TourTest.{test-tour, tour-test}

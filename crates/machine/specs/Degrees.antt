@@ -14,9 +14,9 @@ use Rattle.lists.specs.Select.{keep, select, select-cong}
 use Rattle.lists.specs.Numbers.{upTo, in-upTo}
 use Rattle.integers.specs.Sums.{sumZ}
 use Rattle.graph.specs.Network.{Network}
-use Rattle.trees.specs.OneTree.{Edges}
-use Rattle.trees.specs.Agree.{Agree}
-use Rattle.trees.specs.Valid.{Valid}
+use Rattle.tree_theory.specs.OneTree.{Edges}
+use Rattle.tree_theory.specs.Agree.{Agree}
+use Rattle.tree_theory.specs.Valid.{Valid}
 use Rattle.machine.specs.Tours.{Tour}
 use Rattle.machine.specs.Machine.{degree}
 use Rattle.machine.specs.Trips.{atEnds}

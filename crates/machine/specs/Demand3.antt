@@ -15,7 +15,7 @@ use Rattle.lists.specs.Members.{_∈_}
 use Rattle.lists.specs.Numbers.{upTo}
 use Rattle.lists.specs.Rows.{row}
 use Rattle.graph.specs.Network.{Network, network}
-use Rattle.trees.specs.OneTree.{Edges}
+use Rattle.tree_theory.specs.OneTree.{Edges}
 use Rattle.machine.specs.Tours.{cost, Feasible}
 use Rattle.machine.specs.Machine.{Opening, State, noSearch, searching, finished}
 use Rattle.machine.specs.Calls.{Call, tell, show, Verdict, goingOn, none, best, Answer, accepted, tells, step, leaves}

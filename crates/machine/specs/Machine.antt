@@ -17,9 +17,9 @@ use Rattle.integers.specs.Range.{clamp}
 use Rattle.graph.specs.declared.Graph.{Graph}
 use Rattle.graph.specs.Limits.{maxEdges, maxMultiplier, maxCount}
 use Rattle.graph.specs.Network.{Network, Mark, free, required, excluded, place, network}
-use Rattle.trees.specs.OneTree.{Edges}
-use Rattle.trees.specs.Inputs.{multiplier}
-use Rattle.trees.specs.Enumeration.{Tree, noTree, aTree, leastTree, Ruling, keeps, forces, bars, wasRequired, wasExcluded, ruling}
+use Rattle.tree_theory.specs.OneTree.{Edges}
+use Rattle.tree_theory.specs.Inputs.{multiplier}
+use Rattle.tree_theory.specs.Enumeration.{Tree, noTree, aTree, leastTree, Ruling, keeps, forces, bars, wasRequired, wasExcluded, ruling}
 use Rattle.machine.specs.declared.Settings.{Settings}
 use Rattle.machine.specs.Tours.{cost, isTour}
 use Rattle.machine.specs.Outcomes.{Outcome, closes, finds, splits, Incumbent, noTour, nextStack, nextIncumbent, nextUpper}

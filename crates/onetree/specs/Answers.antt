@@ -12,10 +12,10 @@ use Rattle.lists.specs.Rows.{row}
 use Rattle.graph.specs.declared.Graph.{Graph}
 use Rattle.graph.specs.Limits.{maxEdges}
 use Rattle.graph.specs.Network.{network}
-use Rattle.trees.specs.OneTree.{Edges}
-use Rattle.trees.specs.Inputs.{multiplier, ceilingFits, inputFault}
-use Rattle.trees.specs.Arrays.{blank}
-use Rattle.trees.specs.Enumeration.{Tree, noTree, aTree, leastTree, Ruling, keeps, forces, bars, wasRequired, wasExcluded, ruling}
+use Rattle.tree_theory.specs.OneTree.{Edges}
+use Rattle.tree_theory.specs.Inputs.{multiplier, ceilingFits, inputFault}
+use Rattle.tree_theory.specs.Arrays.{blank}
+use Rattle.tree_theory.specs.Enumeration.{Tree, noTree, aTree, leastTree, Ruling, keeps, forces, bars, wasRequired, wasExcluded, ruling}
 use Rattle.onetree.specs.declared.TreeAnswer.{TreeAnswer}
 use Rattle.onetree.specs.declared.TreeAnswer.the-variants as tree
 use Rattle.onetree.specs.declared.RuleAnswer.{RuleAnswer}

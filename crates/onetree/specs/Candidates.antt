@@ -11,8 +11,8 @@ use lib.Seq.{getD-set-same, getD-set-other}
 use Rattle.graph.specs.declared.Graph.{Graph}
 use Rattle.graph.specs.Network.{network}
 use Rattle.graph.specs.Valid as value
-use Rattle.trees.specs.OneTree.{OneTree}
-use Rattle.trees.specs.Arrays.{bytes}
+use Rattle.tree_theory.specs.OneTree.{OneTree}
+use Rattle.tree_theory.specs.Arrays.{bytes}
 use Rattle.swaps.specs.Extremes.{
   Largest,
   Least,

@@ -9,10 +9,10 @@ use Rattle.integers.specs.Parts.{IsDiff}
 use Rattle.graph.specs.declared.Graph.{Graph}
 use Rattle.graph.specs.Limits.{maxVertices, maxEdges, maxCost, maxMultiplier, maxCeiling}
 use Rattle.graph.specs.Network.{network}
-use Rattle.trees.specs.OneTree.{charge}
-use Rattle.trees.specs.Inputs.{multiplier}
-use Rattle.trees.specs.Bound.{Shifted}
-use Rattle.trees.specs.Arrays.{entry, edge-in}
+use Rattle.tree_theory.specs.OneTree.{charge}
+use Rattle.tree_theory.specs.Inputs.{multiplier}
+use Rattle.tree_theory.specs.Bound.{Shifted}
+use Rattle.tree_theory.specs.Arrays.{entry, edge-in}
 
 -- a charge is a cost and two multipliers, so it is at least −3,000,000
 abbrev pub offset : ℕ

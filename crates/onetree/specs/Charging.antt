@@ -20,11 +20,11 @@ use Rattle.graph.specs.Limits.{maxCost, maxMultiplier}
 use Rattle.graph.specs.Network.{network}
 use Rattle.graph.specs.Places.{network-a, network-b, network-cost}
 use Rattle.graph.specs.Valid as value
-use Rattle.trees.specs.OneTree.{OneTree, charge, bound}
-use Rattle.trees.specs.Inputs.{multiplier}
-use Rattle.trees.specs.Link.{to-parts}
-use Rattle.trees.specs.Bound.{bound-diff}
-use Rattle.trees.specs.Arrays.{entry, bytes, network-valid}
+use Rattle.tree_theory.specs.OneTree.{OneTree, charge, bound}
+use Rattle.tree_theory.specs.Inputs.{multiplier}
+use Rattle.tree_theory.specs.Link.{to-parts}
+use Rattle.tree_theory.specs.Bound.{bound-diff}
+use Rattle.tree_theory.specs.Arrays.{entry, bytes, network-valid}
 use Rattle.onetree.specs.Charged.{offset, maxCharge, Charged, offs}
 
 -- ---- the array of charges

@@ -10,7 +10,7 @@ use Rattle.lists.specs.Members.{_∈_}
 use Rattle.lists.specs.Select.{keep, select, select-in, select-full}
 use Rattle.lists.specs.Distinct.{Distinct}
 use Rattle.spanning.specs.Choice.{Desc}
-use Rattle.trees.specs.OneTree.{Edges}
+use Rattle.tree_theory.specs.OneTree.{Edges}
 
 -- each falls below the one in front
 abbrev pub Falls : (ℕ → ℕ) → List ℕ → Type 0

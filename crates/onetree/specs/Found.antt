@@ -10,9 +10,9 @@ use lib.Signed.{mag}
 use Rattle.integers.specs.Parts.{up, dn}
 use Rattle.graph.specs.declared.Graph.{Graph}
 use Rattle.graph.specs.Network.{network}
-use Rattle.trees.specs.OneTree.{Edges, OneTree, Least, bound}
-use Rattle.trees.specs.Inputs.{multiplier}
-use Rattle.trees.specs.Arrays.{bytes}
+use Rattle.tree_theory.specs.OneTree.{Edges, OneTree, Least, bound}
+use Rattle.tree_theory.specs.Inputs.{multiplier}
+use Rattle.tree_theory.specs.Arrays.{bytes}
 use Rattle.onetree.specs.Charged.{highBound, lowBound, Charged}
 
 -- any says whether there is a 1-tree; if so w is the least and b its bound. c are the charges

@@ -20,8 +20,8 @@ use Rattle.spanning.specs.Choice.{choose}
 use Rattle.spanning.specs.FirstTwo.{fewer}
 use Rattle.spanning.specs.Forests.{greedy}
 use Rattle.spanning.specs.Held.{Holds, holds-join, holds-idle}
-use Rattle.trees.specs.Valid.{isNear}
-use Rattle.trees.specs.Arrays.{entry}
+use Rattle.tree_theory.specs.Valid.{isNear}
+use Rattle.tree_theory.specs.Arrays.{entry}
 
 -- w has a 1 at each edge of xs and of ys, and 0 elsewhere
 pub record Took (w xs ys : List ℕ) : Type 0 where

@@ -18,8 +18,8 @@ use Rattle.graph.specs.declared.Graph.{Graph}
 use Rattle.graph.specs.Limits.{maxEdges}
 use Rattle.graph.specs.Network.{network}
 use Rattle.graph.specs.Valid.{Valid, graphOf}
-use Rattle.trees.specs.OneTree.{OneTree}
-use Rattle.trees.specs.Arrays.{blank, bytes}
+use Rattle.tree_theory.specs.OneTree.{OneTree}
+use Rattle.tree_theory.specs.Arrays.{blank, bytes}
 use Rattle.swaps.specs.Extremes.{Largest, Least, least-none, least-skip, least-more}
 use Rattle.swaps.specs.Visiting.{Rooting, rooting}
 use Rattle.swaps.specs.Hanging.{Shape, above}

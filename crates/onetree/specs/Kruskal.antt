@@ -21,13 +21,13 @@ use Rattle.spanning.specs.Choice.{choose-in}
 use Rattle.spanning.specs.FirstTwo.{fewer, fewer-length}
 use Rattle.spanning.specs.Forests.{Forest, greedy, greedy-length}
 use Rattle.spanning.specs.Kruskal.{rank-all}
-use Rattle.trees.specs.OneTree.{Edges, OneTree, Least}
-use Rattle.trees.specs.Inputs.{multiplier}
-use Rattle.trees.specs.Valid.{Valid, isExcluded, isNear, near, far, near-in, far-in}
-use Rattle.trees.specs.Link.{to-parts}
-use Rattle.trees.specs.Weight.{oneWeight}
-use Rattle.trees.specs.Minimum.{Chosen, chosen-least, chosen-weight, chosen-tree, chosen-must, chosen-none}
-use Rattle.trees.specs.Arrays.{entry, bytes, network-n, edge-in, excluded-at, network-valid}
+use Rattle.tree_theory.specs.OneTree.{Edges, OneTree, Least}
+use Rattle.tree_theory.specs.Inputs.{multiplier}
+use Rattle.tree_theory.specs.Valid.{Valid, isExcluded, isNear, near, far, near-in, far-in}
+use Rattle.tree_theory.specs.Link.{to-parts}
+use Rattle.tree_theory.specs.Weight.{oneWeight}
+use Rattle.tree_theory.specs.Minimum.{Chosen, chosen-least, chosen-weight, chosen-tree, chosen-must, chosen-none}
+use Rattle.tree_theory.specs.Arrays.{entry, bytes, network-n, edge-in, excluded-at, network-valid}
 use Rattle.onetree.specs.Charged.{offset, Charged, offs}
 use Rattle.onetree.specs.Sorting.{Ascending}
 use Rattle.onetree.specs.Keys.{Keyed, queued}

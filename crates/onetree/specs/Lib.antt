@@ -11,6 +11,7 @@ pub mod Falling
 pub mod Keys
 pub mod Making
 pub mod Looks
+pub mod Least
 pub mod Growth
 pub mod Turn
 pub mod Relabelling
@@ -19,5 +20,5 @@ pub mod Required
 pub mod Kruskal
 pub mod Charging
 pub mod TreeCall
-pub mod Judged
+pub mod Ceiling
 pub mod RuleCall

@@ -19,11 +19,11 @@ use Rattle.graph.specs.declared.Graph.{Graph}
 use Rattle.graph.specs.Network.{network}
 use Rattle.graph.specs.Valid as value
 use Rattle.spanning.specs.Choice.{Listing}
-use Rattle.trees.specs.OneTree.{Edges}
-use Rattle.trees.specs.Valid.{isExcluded, needed, isNear, near, far, distinct-near, distinct-far, near-in, far-in, in-near, in-far}
-use Rattle.trees.specs.Weight.{oneWeight, oneWeight-le}
-use Rattle.trees.specs.Minimum.{Order}
-use Rattle.trees.specs.Arrays.{entry, network-m, edge-in, in-edge, needed-at, excluded-at}
+use Rattle.tree_theory.specs.OneTree.{Edges}
+use Rattle.tree_theory.specs.Valid.{isExcluded, needed, isNear, near, far, distinct-near, distinct-far, near-in, far-in, in-near, in-far}
+use Rattle.tree_theory.specs.Weight.{oneWeight, oneWeight-le}
+use Rattle.tree_theory.specs.Minimum.{Order}
+use Rattle.tree_theory.specs.Arrays.{entry, network-m, edge-in, in-edge, needed-at, excluded-at}
 use Rattle.onetree.specs.Sorting.{Ascending}
 use Rattle.onetree.specs.Falling.{Falls, GoesWith, falls-select, falls-distinct, falls-split, falls-desc}
 use Rattle.onetree.specs.Keys.{keyAt, key-low, key-required, key-free, Keyed, queued, queued-in, in-queued, queued-falls}

@@ -18,15 +18,15 @@ use Rattle.graph.specs.Places.{network-a, network-b}
 use Rattle.graph.specs.Valid as value
 use Rattle.spanning.specs.Walks.{label, label-le, label-edge, label-idem, walk-label, walk-mono, walk-respects}
 use Rattle.spanning.specs.Held.{Holds}
-use Rattle.trees.specs.OneTree.{Edges}
-use Rattle.trees.specs.Valid.{needed, isNear, far, others-in, far-within}
-use Rattle.trees.specs.Arrays.{needed-at, network-valid}
+use Rattle.tree_theory.specs.OneTree.{Edges}
+use Rattle.tree_theory.specs.Valid.{needed, isNear, far, others-in, far-within}
+use Rattle.tree_theory.specs.Arrays.{needed-at, network-valid}
 use Rattle.onetree.specs.Sorting.{Ascending}
 use Rattle.onetree.specs.Keys.{keyAt, key-low, key-required, key-free, Keyed, queued, queued-in}
 use Rattle.onetree.specs.Growth.{nearOf, farOf}
 use Rattle.onetree.specs.Turn.{maxLabels}
 use Rattle.onetree.specs.Queue.{requiredOf, freeOf, listed, Queued, in-order}
-use Rattle.trees.specs.Merges.{Merges}
+use Rattle.tree_theory.specs.Merges.{Merges}
 
 -- of the first f keys the first r are below 256, and the next is not
 abbrev pub Small : List ℕ → ℕ → ℕ → Type 0

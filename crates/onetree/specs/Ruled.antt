@@ -15,12 +15,12 @@ use Rattle.lists.specs.Members.{_∈_}
 use Rattle.graph.specs.declared.Graph.{Graph}
 use Rattle.graph.specs.Network.{network}
 use Rattle.graph.specs.Valid.{Valid}
-use Rattle.trees.specs.OneTree.{OneTree}
-use Rattle.trees.specs.Enumeration.{ruling}
-use Rattle.trees.specs.Rulings.{rules-required, rules-excluded}
-use Rattle.trees.specs.Inputs.{multiplier}
+use Rattle.tree_theory.specs.OneTree.{OneTree}
+use Rattle.tree_theory.specs.Enumeration.{ruling}
+use Rattle.tree_theory.specs.Rulings.{rules-required, rules-excluded}
+use Rattle.tree_theory.specs.Inputs.{multiplier}
 use Rattle.onetree.specs.Answers.{rulingByte}
-use Rattle.trees.specs.Arrays.{bytes, of-edge, mark-required, mark-excluded}
+use Rattle.tree_theory.specs.Arrays.{bytes, of-edge, mark-required, mark-excluded}
 use Rattle.swaps.specs.Extremes.{Least}
 use Rattle.lists.specs.Filled.{Updated}
 use Rattle.swaps.specs.Visiting.{Rooting, edgeAt}

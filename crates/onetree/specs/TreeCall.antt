@@ -14,13 +14,13 @@ use Rattle.lists.specs.Rows.{row, row-same}
 use Rattle.graph.specs.declared.Graph.{Graph}
 use Rattle.graph.specs.Network.{network}
 use Rattle.graph.specs.Valid as value
-use Rattle.trees.specs.OneTree.{Edges, bound}
-use Rattle.trees.specs.Inputs.{multiplier, inputFault}
-use Rattle.trees.specs.Enumeration.{Tree, noTree, aTree, leastTree}
-use Rattle.trees.specs.LeastTree.{tree-found, tree-missing}
+use Rattle.tree_theory.specs.OneTree.{Edges, bound}
+use Rattle.tree_theory.specs.Inputs.{multiplier, inputFault}
+use Rattle.tree_theory.specs.Enumeration.{Tree, noTree, aTree, leastTree}
+use Rattle.tree_theory.specs.LeastTree.{tree-found, tree-missing}
 use Rattle.onetree.specs.Answers.{Reply, refused, none, bounded, treeFault, treeReply, treeLeaves, treeSays, treeWrites, unlessFault, leaves}
-use Rattle.trees.specs.Arrays.{entry, bytes, in-edge}
-use Rattle.trees.specs.Accepted.{no-fault}
+use Rattle.tree_theory.specs.Arrays.{entry, bytes, in-edge}
+use Rattle.tree_theory.specs.Accepted.{no-fault}
 use Rattle.onetree.specs.Found.{FoundIs}
 
 -- ---- the calls' answers, by the fault

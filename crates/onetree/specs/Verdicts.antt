@@ -16,14 +16,14 @@ use Rattle.lists.specs.Numbers.{upTo}
 use Rattle.graph.specs.declared.Graph.{Graph}
 use Rattle.graph.specs.Network.{network}
 use Rattle.graph.specs.Valid as value
-use Rattle.trees.specs.OneTree as one
-use Rattle.trees.specs.OneTree.{bound, Barred, Forced}
-use Rattle.trees.specs.Enumeration.{ruling}
-use Rattle.trees.specs.Rulings.{rules-out, rules-in, rules-nothing}
-use Rattle.trees.specs.Criteria.{MaySwap}
-use Rattle.trees.specs.Inputs.{multiplier}
+use Rattle.tree_theory.specs.OneTree as one
+use Rattle.tree_theory.specs.OneTree.{bound, Barred, Forced}
+use Rattle.tree_theory.specs.Enumeration.{ruling}
+use Rattle.tree_theory.specs.Rulings.{rules-out, rules-in, rules-nothing}
+use Rattle.tree_theory.specs.Criteria.{MaySwap}
+use Rattle.tree_theory.specs.Inputs.{multiplier}
 use Rattle.onetree.specs.Answers.{rulingByte}
-use Rattle.trees.specs.Arrays.{entry, bytes, edge-of, of-edge, mark-free, network-valid}
+use Rattle.tree_theory.specs.Arrays.{entry, bytes, edge-of, of-edge, mark-free, network-valid}
 use Rattle.onetree.specs.Charged.{Charged, offset, maxSlack, offs}
 use Rattle.swaps.specs.Extremes.{Largest, Least, Taken}
 use Rattle.swaps.specs.Slack.{SlackIs, barred-slack, forced-slack, not-barred-in, not-forced-out}

@@ -6,8 +6,8 @@ ghost use lib.IntN.{pos, _+ℤ_};
 ghost use Rattle.integers.specs.Parts.{IsDiff};
 ghost use Rattle.integers.specs.Range.{InRange};
 ghost use Rattle.graph.specs.Limits.{maxCost, maxMultiplier, maxEdges, maxVertices};
-ghost use Rattle.trees.specs.Inputs.{multiplier};
-ghost use Rattle.trees.specs.Multipliers.{Ranged};
+ghost use Rattle.tree_theory.specs.Inputs.{multiplier};
+ghost use Rattle.tree_theory.specs.Multipliers.{Ranged};
 ghost use Rattle.onetree.specs.Charged.{offset, maxCharge, highBound, lowBound};
 ghost use Rattle.onetree.specs.Charging.{Chargeable, ChargesOf, Raised};
 use graph::wide;
@@ -47,7 +47,8 @@ pub(crate) fn charges<'a>(
     requires { ⌜ Ranged (now d) × (m ≤ maxEdges)
         × ((k : ℕ) → k < m → Chargeable (length (now d)) (getD (now a) k 0) (getD (now b) k 0) (getD (now cost) k (pos 0)))
         × (length (now c) ≡ maxEdges) ⌝ }
-    ensures { λ _. ⌜ ChargesOf (now (a .entry)) (now (b .entry)) (now (cost .entry)) (now (d .entry)) (now (c .exit)) m ⌝ }
+    ensures { λ _. ⌜ ChargesOf (now (a .entry)) (now (b .entry)) (now (cost .entry)) (now (d .entry)) (now (c .exit)) m
+        × ((k : ℕ) → m ≤ k → getD (now (c .exit)) k 0 ≡ getD (now (c .entry)) k 0) × (length (now (c .exit)) ≡ maxEdges) ⌝ }
 {
     let mut k = 0;
     while k < m {

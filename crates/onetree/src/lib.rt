@@ -5,11 +5,10 @@ ghost use lib.ListN.{length};
 ghost use Rattle.lists.specs.Rows.{row};
 ghost use Rattle.graph.specs.Limits.{maxEdges};
 ghost use Rattle.graph.specs.Valid.{Valid, graphOf};
-ghost use Rattle.trees.specs.Merges.{Merges};
-ghost use Rattle.trees.specs.Arrays.{entry, blank};
-ghost use Rattle.trees.specs.Multipliers.{Ranged};
-ghost use Rattle.onetree.specs.Found.{FoundIs};
-ghost use Rattle.onetree.specs.Looks.{Hinted, HintAfter};
+ghost use Rattle.tree_theory.specs.Arrays.{entry, blank};
+ghost use Rattle.tree_theory.specs.Multipliers.{Ranged};
+ghost use Rattle.onetree.specs.Least.{lists, nothingFor, Searched, LeastOrRefused};
+ghost use Rattle.onetree.specs.Looks.{HintAfter};
 ghost use Rattle.onetree.specs.Answers.{treeMeaning, treeReply, treeLeaves, ruleMeaning, ruleReply, ruleLeaves, passTree, passRulings};
 
 mod charges;
@@ -23,6 +22,7 @@ mod rulings;
 mod sort;
 
 use graph::Graph;
+use graph::MAX_EDGES;
 use graph::wide;
 use kruskal::Grown;
 pub use refusals::ceiling_fits;
@@ -58,8 +58,17 @@ pub struct Passed {
     pub live: usize,
 }
 
-// Whether there is a 1-tree, and then the bound of the least; and how many edges were looked at.
-pub(crate) struct Found {
+// How many vertices and edges there are, and how long the list is that a call is lent for its answer.
+pub struct Sizes {
+    pub n: usize,
+    pub m: usize,
+    pub lent: usize,
+}
+
+// The fault of an input, 0 where there is none; whether there is a 1-tree, and then the bound of the least and how many edges were looked
+// at.
+pub struct Found {
+    pub fault: u32,
     pub any: bool,
     pub bound: i64,
     pub live: usize,
@@ -70,26 +79,24 @@ pub(crate) struct Found {
 pub(crate) fn find<'a>(
     n: usize,
     m: usize,
-    a: &'a [u8; 190],
-    b: &'a [u8; 190],
-    cost: &'a [i32; 190],
-    mark: &'a [u8; 190],
+    a: &'a [u8; MAX_EDGES],
+    b: &'a [u8; MAX_EDGES],
+    cost: &'a [i32; MAX_EDGES],
+    mark: &'a [u8; MAX_EDGES],
     multipliers: &'a [i32],
     hint: &'a [u8],
-    w: &mut [u8; 190],
-    c: &mut [u32; 190],
-    order: &mut [u8; 190],
+    w: &mut [u8; MAX_EDGES],
+    c: &mut [u32; MAX_EDGES],
+    order: &mut [u8; MAX_EDGES],
     rep: &mut [u8; 21],
 ) -> Found
     requires { ⌜ Valid (graphOf n m (now a) (now b) (now cost) (now mark)) × Ranged (now multipliers) × (length (now multipliers) ≡ n)
-        × (now w ≡ blank) × (length (now c) ≡ maxEdges) × (now order ≡ blank) ⌝ }
-    ensures { λ r. ⌜ FoundIs (graphOf n m (now (a .entry)) (now (b .entry)) (now (cost .entry)) (now (mark .entry)))
-        (now (multipliers .entry)) (r .any) (r .bound) (now (w .exit)) (now (c .exit))
-        × (length (now (w .exit)) ≡ maxEdges) × Hinted (now (mark .entry)) m (now (order .exit)) (r .live)
-        × Merges (graphOf n m (now (a .entry)) (now (b .entry)) (now (cost .entry)) (now (mark .entry))) (now (rep .exit)) ⌝ }
+        × (now w ≡ blank) × (now c ≡ blank) × (now order ≡ blank) ⌝ }
+    ensures { λ r. ⌜ Searched (graphOf n m (now (a .entry)) (now (b .entry)) (now (cost .entry)) (now (mark .entry)))
+        (now (multipliers .entry)) r (lists (now (w .exit)) (now (c .exit)) (now (order .exit)) (now (rep .exit))) ⌝ }
 {
     charges::charges(a, b, cost, m, multipliers, c);
-    let mut ks = [0u32; 190];
+    let mut ks = [0u32; MAX_EDGES];
     let f = order::order(mark, m, c, hint, &mut ks);
     order::places(&ks, f, order);
     let r = kruskal::required(&ks, f);
@@ -105,14 +112,87 @@ pub(crate) fn find<'a>(
     let any = kruskal::whole(n, r, first.near, first.far, t.near, t.far);
     let lowest = charges::bound(t.sum, n, charges::total(multipliers));
     Found {
+        fault: 0,
         any: any,
         bound: lowest,
         live: f,
     }
 }
 
+// No 1-tree: what was written of one is wiped out.
+// Ruled out: a byte of a tree that is none left standing; a hint that says how many it lists and is wiped out.
+pub fn nothing(tree: &mut [u8; MAX_EDGES], order: &mut [u8; MAX_EDGES]) -> Found
+    ensures { λ r. ⌜ (r ≡ nothingFor 0) × (now (tree .exit) ≡ blank) × (now (order .exit) ≡ blank) ⌝ }
+{
+    *tree = [0; MAX_EDGES];
+    *order = [0; MAX_EDGES];
+    Found {
+        fault: 0,
+        any: false,
+        bound: 0,
+        live: 0,
+    }
+}
+
+// The first fault of a graph, its multipliers and the list lent for an answer, or else `later`, what the caller refuses after them. Where
+// there is none, the least 1-tree by the greedy choice, from any hint: one byte an edge; each edge's charge; the order in which edges were
+// looked at, a hint for the next time; and the labels that required edges give the vertices.
+// Ruled out: of two 1-trees of equal bound the one with the higher-numbered edge; a byte of a lent list changed where there is a fault.
+pub fn least<'a>(
+    sizes: Sizes,
+    a: &'a [u8; MAX_EDGES],
+    b: &'a [u8; MAX_EDGES],
+    cost: &'a [i32; MAX_EDGES],
+    mark: &'a [u8; MAX_EDGES],
+    multipliers: &'a [i32],
+    later: u32,
+    hint: &'a [u8],
+    tree: &mut [u8; MAX_EDGES],
+    charges: &mut [u32; MAX_EDGES],
+    order: &mut [u8; MAX_EDGES],
+    labels: &mut [u8; 21],
+) -> Found
+    ensures { λ r. ⌜ LeastOrRefused (graphOf (sizes .n) (sizes .m) (now (a .entry)) (now (b .entry)) (now (cost .entry)) (now (mark .entry)))
+        (now (multipliers .entry)) (sizes .lent) later
+        (lists (now (tree .entry)) (now (charges .entry)) (now (order .entry)) (now (labels .entry))) r
+        (lists (now (tree .exit)) (now (charges .exit)) (now (order .exit)) (now (labels .exit))) ⌝ }
+{
+    let n = sizes.n;
+    let m = sizes.m;
+    let fault = refusals::input_fault(n, m, a, b, cost, mark, multipliers, sizes.lent, later);
+    if fault != 0 {
+        return Found {
+            fault: fault,
+            any: false,
+            bound: 0,
+            live: 0,
+        };
+    }
+    *tree = [0; MAX_EDGES];
+    *charges = [0; MAX_EDGES];
+    *order = [0; MAX_EDGES];
+    let f = find(
+        n,
+        m,
+        a,
+        b,
+        cost,
+        mark,
+        multipliers,
+        hint,
+        tree,
+        charges,
+        order,
+        labels,
+    );
+    if !f.any {
+        return nothing(tree, order);
+    }
+    f
+}
+
 // A byte for each edge, into the lent list.
-pub(crate) fn write(from: &[u8; 190], out: &mut [u8])
+pub(crate) fn write(from: &[u8; MAX_EDGES], out: &mut [u8])
     requires { ⌜ length (now out) ≤ maxEdges ⌝ }
     ensures { λ _. ⌜ now (out .exit) ≡ row (length (now (out .entry))) (entry (now (from .entry))) ⌝ }
 {
@@ -129,40 +209,32 @@ pub fn tree(g: Graph, multipliers: &[i32], out: &mut [u8]) -> TreeAnswer
     ensures { λ r. ⌜ (treeMeaning r ≡ treeReply g (now (multipliers .entry)) (length (now (out .entry))))
         × (now (out .exit) ≡ treeLeaves g (now (multipliers .entry)) (now (out .entry))) ⌝ }
 {
-    let n = wide(g.n);
-    let m = wide(g.m);
-    let fault = refusals::input_fault(
-        n,
-        m,
-        &g.a,
-        &g.b,
-        &g.cost,
-        &g.mark,
-        multipliers,
-        out.len(),
-        0,
-    );
-    if fault != 0 {
-        return TreeAnswer::Refused(fault, 0);
-    }
-    let mut w = [0u8; 190];
-    let mut c = [0u32; 190];
-    let mut order = [0u8; 190];
+    let sizes = Sizes {
+        n: wide(g.n),
+        m: wide(g.m),
+        lent: out.len(),
+    };
+    let mut w = [0u8; MAX_EDGES];
+    let mut c = [0u32; MAX_EDGES];
+    let mut order = [0u8; MAX_EDGES];
     let mut rep = [0u8; 21];
-    let f = find(
-        n,
-        m,
+    let f = least(
+        sizes,
         &g.a,
         &g.b,
         &g.cost,
         &g.mark,
         multipliers,
+        0,
         &[],
         &mut w,
         &mut c,
         &mut order,
         &mut rep,
     );
+    if f.fault != 0 {
+        return TreeAnswer::Refused(f.fault, 0);
+    }
     if !f.any {
         return TreeAnswer::NoTree;
     }
@@ -176,28 +248,16 @@ pub fn rule(g: Graph, multipliers: &[i32], ceiling: i64, out: &mut [u8]) -> Rule
     ensures { λ r. ⌜ (ruleMeaning r ≡ ruleReply g (now (multipliers .entry)) ceiling (length (now (out .entry))))
         × (now (out .exit) ≡ ruleLeaves g (now (multipliers .entry)) ceiling (now (out .entry))) ⌝ }
 {
-    let n = wide(g.n);
-    let m = wide(g.m);
-    let fault = judge::rule_fault(
-        n,
-        m,
-        &g.a,
-        &g.b,
-        &g.cost,
-        &g.mark,
-        multipliers,
-        ceiling,
-        out.len(),
-    );
-    if fault != 0 {
-        return RuleAnswer::Refused(fault, 0);
-    }
-    let mut w = [0u8; 190];
-    let mut r = [0u8; 190];
-    let mut order = [0u8; 190];
-    let j = judge::judge(
-        n,
-        m,
+    let sizes = Sizes {
+        n: wide(g.n),
+        m: wide(g.m),
+        lent: out.len(),
+    };
+    let mut w = [0u8; MAX_EDGES];
+    let mut r = [0u8; MAX_EDGES];
+    let mut order = [0u8; MAX_EDGES];
+    let f = judge::judge(
+        sizes,
         &g.a,
         &g.b,
         &g.cost,
@@ -209,11 +269,14 @@ pub fn rule(g: Graph, multipliers: &[i32], ceiling: i64, out: &mut [u8]) -> Rule
         &mut r,
         &mut order,
     );
-    if !j.any {
+    if f.fault != 0 {
+        return RuleAnswer::Refused(f.fault, 0);
+    }
+    if !f.any {
         return RuleAnswer::Infeasible;
     }
     write(&r, out);
-    RuleAnswer::Bound(j.bound)
+    RuleAnswer::Bound(f.bound)
 }
 
 // What the tree call and the rule call say, from one tree, for a search that lends the parts of a graph: a byte for each edge and 0 past
@@ -223,16 +286,16 @@ pub fn rule(g: Graph, multipliers: &[i32], ceiling: i64, out: &mut [u8]) -> Rule
 pub fn pass<'a>(
     n: usize,
     m: usize,
-    a: &'a [u8; 190],
-    b: &'a [u8; 190],
-    cost: &'a [i32; 190],
-    mark: &'a [u8; 190],
+    a: &'a [u8; MAX_EDGES],
+    b: &'a [u8; MAX_EDGES],
+    cost: &'a [i32; MAX_EDGES],
+    mark: &'a [u8; MAX_EDGES],
     multipliers: &'a [i32],
     ceiling: i64,
     hint: &'a [u8],
-    tree: &mut [u8; 190],
-    rulings: &mut [u8; 190],
-    order: &mut [u8; 190],
+    tree: &mut [u8; MAX_EDGES],
+    rulings: &mut [u8; MAX_EDGES],
+    order: &mut [u8; MAX_EDGES],
 ) -> Passed
     ensures { λ r. ⌜ (ruleMeaning (r .answer)
         ≡ ruleReply (graphOf n m (now (a .entry)) (now (b .entry)) (now (cost .entry)) (now (mark .entry))) (now (multipliers .entry))
@@ -245,19 +308,13 @@ pub fn pass<'a>(
         ceiling (now (rulings .entry)))
         × HintAfter (ruleMeaning (r .answer)) (now (mark .entry)) m (now (order .entry)) (now (order .exit)) (r .live) ⌝ }
 {
-    let fault = judge::rule_fault(n, m, a, b, cost, mark, multipliers, ceiling, m);
-    if fault != 0 {
-        return Passed {
-            answer: RuleAnswer::Refused(fault, 0),
-            live: 0,
-        };
-    }
-    *tree = [0; 190];
-    *rulings = [0; 190];
-    *order = [0; 190];
-    let j = judge::judge(
-        n,
-        m,
+    let sizes = Sizes {
+        n: n,
+        m: m,
+        lent: m,
+    };
+    let f = judge::judge(
+        sizes,
         a,
         b,
         cost,
@@ -269,14 +326,20 @@ pub fn pass<'a>(
         rulings,
         order,
     );
-    if !j.any {
+    if f.fault != 0 {
+        return Passed {
+            answer: RuleAnswer::Refused(f.fault, 0),
+            live: 0,
+        };
+    }
+    if !f.any {
         return Passed {
             answer: RuleAnswer::Infeasible,
             live: 0,
         };
     }
     Passed {
-        answer: RuleAnswer::Bound(j.bound),
-        live: j.live,
+        answer: RuleAnswer::Bound(f.bound),
+        live: f.live,
     }
 }

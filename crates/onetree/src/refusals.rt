@@ -5,7 +5,7 @@ ghost use lib.Dec.{eqb};
 ghost use Rattle.integers.specs.Range.{within};
 ghost use Rattle.graph.specs.Limits.{maxMultiplier};
 ghost use Rattle.graph.specs.Valid.{graphOf};
-ghost use Rattle.trees.specs.Inputs.{multipliersFit, ceilingFits, inputFault};
+ghost use Rattle.tree_theory.specs.Inputs.{multipliersFit, ceilingFits, inputFault};
 use crate::MAX_CEILING;
 use crate::MAX_MULTIPLIER;
 

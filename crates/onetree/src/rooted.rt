@@ -9,7 +9,7 @@ ghost use lib.IntN.{ℤ};
 ghost use lib.ListN.{replicate};
 ghost use Rattle.graph.specs.Limits.{maxVertices};
 ghost use Rattle.graph.specs.Valid.{graphOf};
-ghost use Rattle.trees.specs.Spans.{Spans};
+ghost use Rattle.tree_theory.specs.Spans.{Spans};
 ghost use Rattle.swaps.specs.TreeTable.{Ends, Lists, emptyTable};
 ghost use Rattle.swaps.specs.Visiting.{rooting, rowOf, Hung, Complete, Lined, Leaving, Left, Rows};
 use graph::wide;

@@ -19,12 +19,12 @@ use Rattle.graph.specs.declared.Graph.{Graph}
 use Rattle.graph.specs.Limits.{maxEdges}
 use Rattle.graph.specs.Network.{Network, free, network}
 use Rattle.graph.specs.Valid as value
-use Rattle.trees.specs.OneTree.{Edges, OneTree}
-use Rattle.trees.specs.Agree.{Agree}
-use Rattle.trees.specs.Arrays.{bytes, edge-in, network-valid, network-n}
-use Rattle.trees.specs.Inputs.{multiplier}
-use Rattle.trees.specs.Enumeration.{noTree, aTree, leastTree, ruling}
-use Rattle.trees.specs.LeastTree.{Right, tree-right}
+use Rattle.tree_theory.specs.OneTree.{Edges, OneTree}
+use Rattle.tree_theory.specs.Agree.{Agree}
+use Rattle.tree_theory.specs.Arrays.{bytes, edge-in, network-valid, network-n}
+use Rattle.tree_theory.specs.Inputs.{multiplier}
+use Rattle.tree_theory.specs.Enumeration.{noTree, aTree, leastTree, ruling}
+use Rattle.tree_theory.specs.LeastTree.{Right, tree-right}
 use Rattle.onetree.specs.Answers.{rulingByte}
 use Rattle.machine.specs.Tours.{isTour}
 use Rattle.machine.specs.Outcomes.{aTour}

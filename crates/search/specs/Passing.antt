@@ -18,9 +18,9 @@ use Rattle.graph.specs.Limits.{maxEdges}
 use Rattle.graph.specs.Network.{network}
 use Rattle.graph.specs.Valid as value
 use Rattle.graph.specs.Meaning.{true-valid}
-use Rattle.trees.specs.OneTree.{Edges}
-use Rattle.trees.specs.Inputs.{multiplier, multipliersFit, ceilingFits, inputFault}
-use Rattle.trees.specs.Enumeration.{Tree, noTree, aTree, leastTree, ruling}
+use Rattle.tree_theory.specs.OneTree.{Edges}
+use Rattle.tree_theory.specs.Inputs.{multiplier, multipliersFit, ceilingFits, inputFault}
+use Rattle.tree_theory.specs.Enumeration.{Tree, noTree, aTree, leastTree, ruling}
 use Rattle.onetree.specs.declared.RuleAnswer.{RuleAnswer}
 use Rattle.onetree.specs.declared.RuleAnswer.the-variants as answer
 use Rattle.onetree.specs.Answers.{Reply, refused, none, bounded, ruleMeaning, ruleFault, ruleSays, ruleReply, rulingByte, padded, passTree, passRulings}

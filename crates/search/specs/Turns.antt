@@ -14,8 +14,8 @@ use Rattle.graph.specs.Limits.{maxEdges}
 use Rattle.graph.specs.Network.{Network, free, markOf, place, network}
 use Rattle.graph.specs.Places.{place-at, place-zero, place-past}
 use Rattle.graph.specs.Valid.{Valid}
-use Rattle.trees.specs.OneTree.{Edges}
-use Rattle.trees.specs.Inputs.{multiplier, multipliersFit}
+use Rattle.tree_theory.specs.OneTree.{Edges}
+use Rattle.tree_theory.specs.Inputs.{multiplier, multipliersFit}
 use Rattle.machine.specs.Outcomes.{closes}
 use Rattle.machine.specs.Machine as M
 use Rattle.machine.specs.Machine.{Marks, withMarks, Pass, shut, found, unclosed, pass, gained, branch, concluded, passes}

@@ -17,7 +17,7 @@ use Rattle.graph.specs.Network.{Network}
 use Rattle.spanning.specs.Walks.{label, Walk, stay, along, walk-trans, walk-sym, walk-mono, walk-respects, label-walk}
 use Rattle.spanning.specs.Forests.{Forest}
 use Rattle.spanning.specs.Trees.{minus-apart}
-use Rattle.trees.specs.Valid.{far, needed, distinct-far}
+use Rattle.tree_theory.specs.Valid.{far, needed, distinct-far}
 use Rattle.swaps.specs.Hanging.{Shape, Hangs, Vertex, Child, above, above-parent, above-root, above-self}
 
 -- e joins x and y, where p and q have the ends of the edges

@@ -18,11 +18,11 @@ use Rattle.graph.specs.Places.{network-a, network-b}
 use Rattle.graph.specs.Valid as value
 use Rattle.spanning.specs.Walks.{Walk, walk-trans, walk-sym, walk-respects, label-walk}
 use Rattle.spanning.specs.Trees.{minus-apart}
-use Rattle.trees.specs.OneTree.{OneTree, away}
-use Rattle.trees.specs.Valid.{isNear, isExcluded, needed, far, far-in, in-far, in-others, distinct-far, far-within, others-in}
-use Rattle.trees.specs.Link.{Parts, to-parts, away-is}
-use Rattle.trees.specs.Arrays.{bytes, edge-of, of-edge, needed-at, excluded-at, network-valid}
-use Rattle.trees.specs.Merges.{Merges}
+use Rattle.tree_theory.specs.OneTree.{OneTree, away}
+use Rattle.tree_theory.specs.Valid.{isNear, isExcluded, needed, far, far-in, in-far, in-others, distinct-far, far-within, others-in}
+use Rattle.tree_theory.specs.Link.{Parts, to-parts, away-is}
+use Rattle.tree_theory.specs.Arrays.{bytes, edge-of, of-edge, needed-at, excluded-at, network-valid}
+use Rattle.tree_theory.specs.Merges.{Merges}
 use Rattle.swaps.specs.Grid.{cell}
 use Rattle.swaps.specs.TreeTable.{Lists, Inner, End, Ends, TwoEnds, listed}
 use Rattle.swaps.specs.Hanging.{Shape, Child}

@@ -13,12 +13,12 @@ use Rattle.lists.specs.Numbers.{upTo}
 use Rattle.lists.specs.Weights.{weight}
 use Rattle.integers.specs.Parts.{IsDiff, up, dn, diff-self, lt-parts}
 use Rattle.graph.specs.Network.{Network}
-use Rattle.trees.specs.OneTree.{Edges, Least, bound, Barred, Forced}
-use Rattle.trees.specs.Valid.{Valid}
-use Rattle.trees.specs.Link.{to-parts}
-use Rattle.trees.specs.Bound.{Shifted, twiceAll, bound-diff}
-use Rattle.trees.specs.Exchange.{barred-in, forced-out}
-use Rattle.trees.specs.Criteria.{MaySwap, SwapAbove, barred-number, forced-number}
+use Rattle.tree_theory.specs.OneTree.{Edges, Least, bound, Barred, Forced}
+use Rattle.tree_theory.specs.Valid.{Valid}
+use Rattle.tree_theory.specs.Link.{to-parts}
+use Rattle.tree_theory.specs.Bound.{Shifted, twiceAll, bound-diff}
+use Rattle.tree_theory.specs.Exchange.{barred-in, forced-out}
+use Rattle.tree_theory.specs.Criteria.{MaySwap, SwapAbove, barred-number, forced-number}
 
 -- the ceiling is the slack above the bound
 abbrev pub SlackIs : ℤ → ℤ → ℕ → Type 0

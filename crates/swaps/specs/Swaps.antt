@@ -15,11 +15,11 @@ use Rattle.graph.specs.declared.Graph.{Graph}
 use Rattle.graph.specs.Network.{network}
 use Rattle.graph.specs.Places.{network-a, network-b}
 use Rattle.graph.specs.Valid as value
-use Rattle.trees.specs.OneTree.{OneTree}
-use Rattle.trees.specs.Valid.{isNear, isExcluded, needed, far, far-in, in-far}
-use Rattle.trees.specs.Link.{Parts, to-parts}
-use Rattle.trees.specs.Criteria.{MaySwap, Apart, Place}
-use Rattle.trees.specs.Arrays.{bytes, edge-of, of-edge, needed-at, excluded-at, network-valid}
+use Rattle.tree_theory.specs.OneTree.{OneTree}
+use Rattle.tree_theory.specs.Valid.{isNear, isExcluded, needed, far, far-in, in-far}
+use Rattle.tree_theory.specs.Link.{Parts, to-parts}
+use Rattle.tree_theory.specs.Criteria.{MaySwap, Apart, Place}
+use Rattle.tree_theory.specs.Arrays.{bytes, edge-of, of-edge, needed-at, excluded-at, network-valid}
 use Rattle.swaps.specs.Hanging.{Vertex, Child, Splits}
 use Rattle.swaps.specs.Visiting.{Rooting, edgeAt}
 use Rattle.swaps.specs.Rooted.{Other, cut-same, same-cut, edge-above, one-vertex}

@@ -21,8 +21,8 @@ use Rattle.graph.specs.declared.Graph.{Graph}
 use Rattle.graph.specs.Network.{network}
 use Rattle.graph.specs.Places.{network-a}
 use Rattle.graph.specs.Valid.{Valid}
-use Rattle.trees.specs.OneTree.{OneTree, away}
-use Rattle.trees.specs.Arrays.{bytes}
+use Rattle.tree_theory.specs.OneTree.{OneTree, away}
+use Rattle.tree_theory.specs.Arrays.{bytes}
 use Rattle.swaps.specs.Grid.{cell, put, Square, put-same, put-other, put-square, zero-square, zero-cell}
 
 -- the edge at place k is in the tree, free, and not at vertex 1

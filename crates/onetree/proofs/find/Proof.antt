@@ -1,7 +1,7 @@
 -- What the greedy choice comes to (found, missing), the bound that its charges stand for (bound-is), and the labels after the required
 -- edges (merges).
 use Prim.Native.Nat.{ℕ, _<_, _≤_, _%_, _*_}
-use mathlib.Core.Path.{refl, ap}
+use mathlib.Core.Path.{refl, _∙_, ap}
 use mathlib.Core.List.{List}
 use lib.ListN.{length, getD}
 use native.Mathlib.Omega.{arith}
@@ -64,12 +64,12 @@ charges-requires : tie.Need-charges-requires
 charges-requires c κs =
     let s = c .before .before in
     let p = s .pre in
-    (p .1, p .0 .few, chargeable (lent s) _ (p .0) (p .2), p .4)
+    (p .1, p .0 .few, chargeable (lent s) _ (p .0) (p .2), ap length (p .4))
 
 order-requires : tie.Need-order-requires
 order-requires c κs =
     let x = c .before .before in
-    (from-charges x .pre .0 .few, λ k h. x .charges .ensures k h .2, refl)
+    (from-charges x .pre .0 .few, λ k h. x .charges .ensures .0 k h .2, refl)
 
 places-requires : tie.Need-places-requires
 places-requires c κs =
@@ -95,7 +95,7 @@ edge c i h =
       omega (arith, k, v .few),
       omega (arith, e .less, e .to, v .high),
       omega (arith, e .to, v .high),
-      from-order c .charges .ensures _ k .2,
+      from-order c .charges .ensures .0 _ k .2,
     )
 
 reads : (c : tie.After-order) → let a = start c .args in
@@ -173,8 +173,8 @@ returns c =
     let v = begin .pre .0 in
     let x = from-order at .charges in
     let cs = charges at in
-    let charged = charged-of g d cs (x .ensures) in
-    let low : (k : ℕ) → k < g .m → 1 ≤ getD cs k 0 = λ k h. x .ensures k h .1 in
+    let charged = charged-of g d cs (x .ensures .0) in
+    let low : (k : ℕ) → k < g .m → 1 ≤ getD cs k 0 = λ k h. x .ensures .0 k h .1 in
     let o = at .order in
     let ks = keys at in
     let t = s .grow2 .result in
@@ -186,8 +186,9 @@ returns c =
     let all = c .before .total in
     let h : Raised d (g .n) (all .result) = rw (begin .pre .2) at (all .ensures) in
     let places = from-first one .before .before .places .ensures in
-    rw (back64 (c .bound .result) (c .bound .ok)) (
-      record {
+    rw (back64 (c .bound .result) (c .bound .ok)) (record {
+      faultless = refl;
+      found = record {
         charged = charged;
         fits = c .bound .ok;
         high = range c .0;
@@ -205,11 +206,12 @@ returns c =
             (r .result) (r .ensures) _ (t₀ .near) (t₀ .far) (t₀ .sum) (first one .grew) (says-no (said .result) (said .ensures) e);
         bits = bit-at g v cs low ks (o .result) (o .ensures .0) (o .ensures .1) tree (t .near) (t .far) (t .sum) grew;
         past = past-none g v cs low ks (o .result) (o .ensures .0) (o .ensures .1) tree (t .near) (t .far) (t .sum) grew;
-      },
-      last s .wide,
-      keyed-hinted _ _ _ _ _ _ (omega (arith, v .few)) (o .ensures .0) (o .ensures .2) (places .0) (places .1),
-      merges g v cs low ks (o .result) (o .ensures .0) (o .ensures .1) (r .result) (r .ensures) _ (first one .long) (first one .holds),
-    )
+      };
+      long = (last s .wide, x .ensures .2);
+      rest = λ k h. x .ensures .1 k h ∙ rw (begin .pre .4) (zeros 190 k);
+      merges = merges g v cs low ks (o .result) (o .ensures .0) (o .ensures .1) (r .result) (r .ensures) _ (first one .long) (first one .holds);
+      hinted = keyed-hinted _ _ _ _ _ _ (omega (arith, v .few)) (o .ensures .0) (o .ensures .2) (places .0) (places .1);
+    })
 
 pub find-spec : {M : Type 1} → statement M
 find-spec =

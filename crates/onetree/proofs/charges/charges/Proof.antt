@@ -1,12 +1,13 @@
 -- The loop keeps: the first k places have their charges; charges-more is one turn.
 use Prim.Native.Nat.{ℕ, _≤_, _<_, _-_}
-use mathlib.Core.Path.{_≡_, _∙_}
+use mathlib.Core.Path.{_≡_, refl, _∙_}
 use lib.ListN.{length, getD, length-set}
+use lib.Seq.{getD-set-other}
 use lib.IntN.{pos}
 use borrow.Author.Needs.{needs}
 use native.Mathlib.Omega.{arith}
 use Rattle.integers.specs.Words.{back32}
-use Rattle.trees.specs.Multipliers.{Ranged, multiplier-range}
+use Rattle.tree_theory.specs.Multipliers.{Ranged, multiplier-range}
 use Rattle.onetree.specs.Charging.{Chargeable, ChargesOf, charges-more}
 use Rattle.onetree.proofs.charges.charges.Statement.{statement}
 use Rattle.onetree.proofs.charges.charges.Tie as tie
@@ -15,13 +16,13 @@ abbrev Inv-loop : tie.InvT-loop
 Inv-loop a b cost m d c₀ k₀ c k =
     (k ≤ m) × (m ≤ 190) × Ranged d
     × ((j : ℕ) → j < m → Chargeable (length d) (getD a j 0) (getD b j 0) (getD cost j (pos 0)))
-    × (length c ≡ 190) × ChargesOf a b cost d c k
+    × (length c ≡ 190) × ChargesOf a b cost d c k × ((j : ℕ) → k ≤ j → getD c j 0 ≡ getD c₀ j 0)
 
 abbrev μ-loop : tie.MeasureT-loop
 μ-loop a b cost m d c₀ k₀ c k = m - k
 
 loop-holds : tie.Need-loop-holds Inv-loop μ-loop
-loop-holds c = (omega arith, c .pre .1, c .pre .0, c .pre .2, c .pre .3, λ k h. absurd (omega arith))
+loop-holds c = (omega arith, c .pre .1, c .pre .0, c .pre .2, c .pre .3, λ k h. absurd (omega arith), λ j h. refl)
 
 mul-charge : tie.Need-mul-charge Inv-loop μ-loop
 mul-charge c = search needs
@@ -97,10 +98,16 @@ loop-again c =
             x .ensures,
             y .ensures,
           ) at (c .charge .ensures)),
+      λ j h. getD-set-other (l .c) (l .k) j (c .charge .result) 0 (λ q. omega arith) ∙ l .inv .6 j (omega arith),
     )
 
 returns : tie.Need-returns Inv-loop μ-loop
-returns c = let l = c .before .loop in λ k h. l .inv .5 k (omega arith)
+returns c =
+    let l = c .before .loop in (
+      λ k h. l .inv .5 k (omega arith),
+      λ k h. l .inv .6 k (omega arith),
+      l .inv .4,
+    )
 
 pub charges-spec : {M : Type 1} → statement M
 charges-spec =

@@ -5,7 +5,7 @@ use lib.ListN.{getD}
 use lib.IntN.{pos}
 use borrow.Author.Needs.{needs}
 use Rattle.integers.specs.Words.{back32}
-use Rattle.trees.specs.Multipliers.{multiplier-at}
+use Rattle.tree_theory.specs.Multipliers.{multiplier-at}
 use Rattle.onetree.proofs.charges.multiplier_at.Statement.{statement}
 use Rattle.onetree.proofs.charges.multiplier_at.Tie as tie
 

@@ -6,7 +6,7 @@ use lib.IntN.{pos}
 use borrow.Author.Needs.{needs}
 use native.Mathlib.Omega.{arith}
 use Rattle.integers.specs.Words.{back32}
-use Rattle.trees.specs.Multipliers.{Ranged}
+use Rattle.tree_theory.specs.Multipliers.{Ranged}
 use Rattle.onetree.specs.Charging.{raised-none, raised-more, Raised}
 use Rattle.onetree.proofs.charges.total.Statement.{statement}
 use Rattle.onetree.proofs.charges.total.Tie as tie

@@ -7,7 +7,7 @@ use mir.Facts.{toZ-ofZ}
 use borrow.Author.Needs.{needs}
 use Rattle.integers.specs.Parts.{ltZ-no-leZ, no-ltZ-leZ}
 use Rattle.integers.specs.Range.{within}
-use Rattle.trees.specs.Inputs.{ceilingFits}
+use Rattle.tree_theory.specs.Inputs.{ceilingFits}
 use Rattle.onetree.proofs.refusals.ceiling_fits.Statement.{statement}
 use Rattle.onetree.proofs.refusals.ceiling_fits.Tie as tie
 

@@ -2,7 +2,7 @@
 use mathlib.Core.Path.{sym, _∙_}
 use borrow.Author.Tests.{not-true, not-false}
 use borrow.Author.Needs.{needs}
-use Rattle.trees.specs.Inputs.{inputFault}
+use Rattle.tree_theory.specs.Inputs.{inputFault}
 use Rattle.onetree.proofs.refusals.input_fault.Statement.{statement}
 use Rattle.onetree.proofs.refusals.input_fault.Tie as tie
 

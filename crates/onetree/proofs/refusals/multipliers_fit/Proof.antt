@@ -12,8 +12,8 @@ use native.Mathlib.Omega.{arith}
 use Rattle.integers.specs.Words.{back32}
 use Rattle.integers.specs.Range.{InRange, within-range}
 use Rattle.graph.specs.Limits.{maxMultiplier}
-use Rattle.trees.specs.Inputs.{multiplier}
-use Rattle.trees.specs.Multipliers.{ranged-fit, empty-fit, first-wrong, not-ranged}
+use Rattle.tree_theory.specs.Inputs.{multiplier}
+use Rattle.tree_theory.specs.Multipliers.{ranged-fit, empty-fit, first-wrong, not-ranged}
 use Rattle.onetree.proofs.refusals.multipliers_fit.Statement.{statement}
 use Rattle.onetree.proofs.refusals.multipliers_fit.Tie as tie
 

@@ -11,7 +11,7 @@ use lib.ListN.{getD, set}
 use lib.IntN.{ℤ}
 use Rattle.graph.specs.declared.Graph.{Graph}
 use Rattle.graph.specs.Valid.{graphOf}
-use Rattle.trees.specs.Spans.{Spans}
+use Rattle.tree_theory.specs.Spans.{Spans}
 use Rattle.swaps.specs.Grid.{put}
 use Rattle.swaps.specs.TreeTable.{Inner, Ends, Table, test-inner, inner-test}
 use Rattle.swaps.specs.TreeTable.{table-none, table-skip, table-room, room-b, table-more, table-lists}

@@ -8,8 +8,8 @@ use lib.ListN.{length}
 use Rattle.graph.specs.declared.Graph.{Graph}
 use Rattle.graph.specs.Limits.{maxEdges}
 use Rattle.graph.specs.Valid.{graphOf}
-use Rattle.trees.specs.Spans.{Spans}
-use Rattle.trees.specs.Merges.{Merges}
+use Rattle.tree_theory.specs.Spans.{Spans}
+use Rattle.tree_theory.specs.Merges.{Merges}
 use Rattle.swaps.specs.TreeTable.{Ends, Lists}
 use Rattle.swaps.specs.Visiting.{Rooting, rooting, Rows, Hung}
 use Rattle.swaps.specs.RootedTree.{Labelled, RootedIn, two-ends, walkable, rooted}

@@ -21,11 +21,11 @@ use Rattle.spanning.specs.FirstTwo.{fewer, fewer-length, few-least}
 use Rattle.spanning.specs.Forests.{Forest, forest-base, greedy, greedy-length, greedy-all}
 use Rattle.spanning.specs.Trees.{Tree}
 use Rattle.spanning.specs.Kruskal.{rank-all, greedy-tree, kruskal}
-use Rattle.trees.specs.OneTree.{Edges, OneTree, Least, lacksFirst}
-use Rattle.trees.specs.Valid.{Valid, required-not, isExcluded, needed, isNear, near, far, near-in, far-in, in-near, in-far}
-use Rattle.trees.specs.Link.{Parts, to-parts, of-parts, weigh}
-use Rattle.trees.specs.Bound.{Shifted, bound-le, bound-eq}
-use Rattle.trees.specs.Weight.{oneWeight, oneWeight-least}
+use Rattle.tree_theory.specs.OneTree.{Edges, OneTree, Least, lacksFirst}
+use Rattle.tree_theory.specs.Valid.{Valid, required-not, isExcluded, needed, isNear, near, far, near-in, far-in, in-near, in-far}
+use Rattle.tree_theory.specs.Link.{Parts, to-parts, of-parts, weigh}
+use Rattle.tree_theory.specs.Bound.{Shifted, bound-le, bound-eq}
+use Rattle.tree_theory.specs.Weight.{oneWeight, oneWeight-least}
 
 -- how a list of edges is looked at: the required ones rs first, then the others fs by weight; what is looked at first stands last
 pub record Order (g : Network) (w : ℕ → ℕ) (all fs rs : List ℕ) : Type 0 where

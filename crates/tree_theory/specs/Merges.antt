@@ -9,7 +9,7 @@ use Rattle.lists.specs.Select.{select}
 use Rattle.graph.specs.declared.Graph.{Graph}
 use Rattle.graph.specs.Network.{network}
 use Rattle.spanning.specs.Walks.{Walk}
-use Rattle.trees.specs.Valid.{needed, far}
+use Rattle.tree_theory.specs.Valid.{needed, far}
 
 -- rep has the label of each vertex
 pub record Merges (g : Graph) (rep : List ℕ) : Type 0 where

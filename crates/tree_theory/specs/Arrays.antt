@@ -14,8 +14,8 @@ use Rattle.graph.specs.Limits.{maxEdges, maxMark}
 use Rattle.graph.specs.Network.{free, required, excluded, markOf, network}
 use Rattle.graph.specs.Places.{network-a, network-b, network-mark}
 use Rattle.graph.specs.Valid as value
-use Rattle.trees.specs.OneTree.{Edges}
-use Rattle.trees.specs.Valid.{Valid, isRequired, isExcluded, needed}
+use Rattle.tree_theory.specs.OneTree.{Edges}
+use Rattle.tree_theory.specs.Valid.{Valid, isRequired, isExcluded, needed}
 
 -- the number that an array has for edge k, 0 for no edge
 abbrev pub entry : List ℕ → ℕ → ℕ

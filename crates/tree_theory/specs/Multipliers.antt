@@ -11,7 +11,7 @@ use Rattle.lists.specs.All.{everyOf}
 use Rattle.integers.specs.Parts.{eq-of-parts}
 use Rattle.integers.specs.Range.{within, InRange, within-range, range-within}
 use Rattle.graph.specs.Limits.{maxMultiplier}
-use Rattle.trees.specs.Inputs.{multiplier, multipliersFit}
+use Rattle.tree_theory.specs.Inputs.{multiplier, multipliersFit}
 
 -- each number of the list is in the multipliers' range
 abbrev pub Ranged : List ℤ → Type 0

@@ -10,9 +10,9 @@ use Rattle.lists.specs.Members.{_∈_, in-left, in-right, in-either, in-map, of
 use Rattle.lists.specs.Select.{keep, select, select-in}
 use Rattle.lists.specs.Numbers.{upTo, in-upTo}
 use Rattle.lists.specs.Sets.{_⊕_, plus-self, plus-other}
-use Rattle.trees.specs.OneTree.{Edges, lacksFirst}
-use Rattle.trees.specs.Enumeration.{edgeSets}
-use Rattle.trees.specs.Agree.{Agree}
+use Rattle.tree_theory.specs.OneTree.{Edges, lacksFirst}
+use Rattle.tree_theory.specs.Enumeration.{edgeSets}
+use Rattle.tree_theory.specs.Agree.{Agree}
 
 -- one of the sets up to m with m + 1 added
 Added : ℕ → Edges → Type 0

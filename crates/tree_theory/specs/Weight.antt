@@ -13,7 +13,7 @@ use Rattle.lists.specs.Bools.{by-cases}
 use Rattle.lists.specs.Select.{keep, select}
 use Rattle.lists.specs.Numbers.{upTo}
 use Rattle.lists.specs.Weights.{weight}
-use Rattle.trees.specs.OneTree.{Edges, lacksFirst, unless}
+use Rattle.tree_theory.specs.OneTree.{Edges, lacksFirst, unless}
 
 -- the cost first, then the number
 unfoldable pub oneWeight : ℕ → (ℕ → ℕ) → ℕ → ℕ

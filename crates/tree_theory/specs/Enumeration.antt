@@ -13,7 +13,7 @@ use Rattle.lists.specs.Numbers.{upTo}
 use Rattle.lists.specs.Sets.{_⊕_}
 use Rattle.graph.specs.Network.{Network, Mark, free, required, excluded}
 use Rattle.spanning.specs.Walks.{label, relabel}
-use Rattle.trees.specs.OneTree.{Edges, others, atOne, away, bound}
+use Rattle.tree_theory.specs.OneTree.{Edges, others, atOne, away, bound}
 
 -- all sets of edges among 1 to m, in the order of `lacksFirst`
 unfoldable pub edgeSets : ℕ → List Edges

@@ -15,7 +15,7 @@ use Rattle.lists.specs.Distinct.{Distinct, distinct-select}
 use Rattle.lists.specs.Numbers.{upTo, upTo-in, in-upTo, distinct-upTo}
 use Rattle.graph.specs.Network.{Network, Mark, free, required, excluded}
 use Rattle.spanning.specs.Components.{Within}
-use Rattle.trees.specs.OneTree.{Edges, others}
+use Rattle.tree_theory.specs.OneTree.{Edges, others}
 
 -- "n from 3"; "A leg joins a and b, 1 ≤ a < b ≤ n"
 pub record Valid (g : Network) : Type 0 where

@@ -13,8 +13,8 @@ use Rattle.lists.specs.Bools.{and-both}
 use Rattle.graph.specs.declared.Graph.{Graph}
 use Rattle.graph.specs.Valid as value
 use Rattle.graph.specs.Meaning.{valid-true}
-use Rattle.trees.specs.Inputs.{multipliersFit, inputFault}
-use Rattle.trees.specs.Multipliers.{Ranged, fit-ranged}
+use Rattle.tree_theory.specs.Inputs.{multipliersFit, inputFault}
+use Rattle.tree_theory.specs.Multipliers.{Ranged, fit-ranged}
 
 pub record Accepted (g : Graph) (d : List ℤ) (len : ℕ) : Type 0 where
   pub valid : value.Valid g

@@ -15,7 +15,7 @@ use Rattle.integers.specs.Order.{le-antisym}
 use Rattle.integers.specs.Sums.{sumZ}
 use Rattle.graph.specs.Network.{Network}
 use Rattle.spanning.specs.Walks.{Walk}
-use Rattle.trees.specs.OneTree.{Edges, OneTree, Least, away, atOne, charge, bound, lacksFirst, unless}
+use Rattle.tree_theory.specs.OneTree.{Edges, OneTree, Least, away, atOne, charge, bound, lacksFirst, unless}
 
 abbrev pub Agree : ℕ → Edges → Edges → Type 0
 Agree m s t = (k : ℕ) → k ∈ upTo m → s k ≡ t k

@@ -15,8 +15,8 @@ use Rattle.lists.specs.Weights.{weight}
 use Rattle.integers.specs.Parts.{IsDiff, diff-add, diff-neg, diff-self, diff-le, diff-lt, diff-eq, up, dn}
 use Rattle.integers.specs.Sums.{sumZ, sum-diff}
 use Rattle.graph.specs.Network.{Network}
-use Rattle.trees.specs.OneTree.{Edges, charge, bound}
-use Rattle.trees.specs.Link.{Parts, number}
+use Rattle.tree_theory.specs.OneTree.{Edges, charge, bound}
+use Rattle.tree_theory.specs.Link.{Parts, number}
 
 -- c k − K is the charge of each edge k
 abbrev pub Shifted : Network → (ℕ → ℤ) → ℕ → (ℕ → ℕ) → Type 0

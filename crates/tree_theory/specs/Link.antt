@@ -17,9 +17,9 @@ use Rattle.spanning.specs.Components.{rank, Within, sub-inside, inside-rank}
 use Rattle.spanning.specs.Connected.{rank-most, joined-rank, rank-joined}
 use Rattle.spanning.specs.Forests.{Forest}
 use Rattle.spanning.specs.Trees.{Tree}
-use Rattle.trees.specs.OneTree.{Edges, OneTree, others, away, atOne}
-use Rattle.trees.specs.Valid.{Valid, in-others, distinct-others, length-others, required-is, excluded-is, isExcluded}
-use Rattle.trees.specs.Valid.{needed, isNear, near, far, far-within}
+use Rattle.tree_theory.specs.OneTree.{Edges, OneTree, others, away, atOne}
+use Rattle.tree_theory.specs.Valid.{Valid, in-others, distinct-others, length-others, required-is, excluded-is, isExcluded}
+use Rattle.tree_theory.specs.Valid.{needed, isNear, near, far, far-within}
 
 pub record Parts (g : Network) (t : Edges) : Type 0 where
   pub tree : Tree (g .a) (g .b) (far g) t

@@ -5,8 +5,8 @@ use lib.ListN.{getD}
 use Rattle.graph.specs.declared.Graph.{Graph}
 use Rattle.graph.specs.Network.{network}
 use Rattle.graph.specs.Valid.{Valid}
-use Rattle.trees.specs.OneTree.{OneTree}
-use Rattle.trees.specs.Arrays.{bytes}
+use Rattle.tree_theory.specs.OneTree.{OneTree}
+use Rattle.tree_theory.specs.Arrays.{bytes}
 
 -- w has the bytes of a 1-tree of the graph
 pub record Spans (g : Graph) (w : List ℕ) : Type 0 where

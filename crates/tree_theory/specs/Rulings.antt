@@ -9,9 +9,9 @@ use Rattle.lists.specs.Bools.{by-cases}
 use Rattle.lists.specs.Members.{_∈_}
 use Rattle.lists.specs.Numbers.{upTo}
 use Rattle.graph.specs.Network.{Network, free, required, excluded}
-use Rattle.trees.specs.OneTree.{Infeasible, Barred, Forced}
-use Rattle.trees.specs.Enumeration.{barredB, forcedB, keeps, forces, bars, wasRequired, wasExcluded, ruled, ruling}
-use Rattle.trees.specs.Decide.{barred-test, forced-test}
+use Rattle.tree_theory.specs.OneTree.{Infeasible, Barred, Forced}
+use Rattle.tree_theory.specs.Enumeration.{barredB, forcedB, keeps, forces, bars, wasRequired, wasExcluded, ruled, ruling}
+use Rattle.tree_theory.specs.Decide.{barred-test, forced-test}
 
 module _ (g : Network) (d : ℕ → ℤ) (ceiling : ℤ) (k : ℕ) (m : k ∈ upTo (g .m)) where
   not-barred : ¬ Barred g d ceiling k → barredB g d ceiling k ≡ false

@@ -17,10 +17,10 @@ use Rattle.lists.specs.Select.{select-in, in-select}
 use Rattle.lists.specs.Numbers.{upTo}
 use Rattle.graph.specs.Network.{Network, Mark, free, required, excluded}
 use Rattle.spanning.specs.Walks.{label, label-walk}
-use Rattle.trees.specs.OneTree.{Edges, OneTree, Barred, Forced, others, away, atOne, bound}
-use Rattle.trees.specs.Enumeration.{edgeSets, marked, alike, isOneTree, oneTrees, barredB, forcedB}
-use Rattle.trees.specs.Agree.{Agree, tree-agree, bound-agree}
-use Rattle.trees.specs.Subsets.{covers}
+use Rattle.tree_theory.specs.OneTree.{Edges, OneTree, Barred, Forced, others, away, atOne, bound}
+use Rattle.tree_theory.specs.Enumeration.{edgeSets, marked, alike, isOneTree, oneTrees, barredB, forcedB}
+use Rattle.tree_theory.specs.Agree.{Agree, tree-agree, bound-agree}
+use Rattle.tree_theory.specs.Subsets.{covers}
 
 -- ---- the test for a 1-tree
 

@@ -10,11 +10,11 @@ use lib.Signed.{ltZ, _≤ℤ_, _<ℤ_, ≤ℤ-refl, <ℤ-≤ℤ-trans}
 use Rattle.lists.specs.Members.{_∈_}
 use Rattle.integers.specs.Order.{le-trans, lt-le, le-lt-clash, test-lt, test-not-lt}
 use Rattle.graph.specs.Network.{Network}
-use Rattle.trees.specs.OneTree.{Edges, OneTree, Least, Infeasible, bound, lacksFirst, unless}
-use Rattle.trees.specs.Enumeration.{edgeSets, isOneTree, oneTrees, minFrom, Tree, noTree, aTree, leastOf, leastTree}
-use Rattle.trees.specs.Agree.{Agree, bound-agree, lacks-agree, least-unique}
-use Rattle.trees.specs.Subsets.{Sorted, sorted-select, sorted-edgeSets}
-use Rattle.trees.specs.Decide.{listed, is-tree}
+use Rattle.tree_theory.specs.OneTree.{Edges, OneTree, Least, Infeasible, bound, lacksFirst, unless}
+use Rattle.tree_theory.specs.Enumeration.{edgeSets, isOneTree, oneTrees, minFrom, Tree, noTree, aTree, leastOf, leastTree}
+use Rattle.tree_theory.specs.Agree.{Agree, bound-agree, lacks-agree, least-unique}
+use Rattle.tree_theory.specs.Subsets.{Sorted, sorted-select, sorted-edgeSets}
+use Rattle.tree_theory.specs.Decide.{listed, is-tree}
 
 lacks-self : (m : ℕ) (t : Edges) → lacksFirst m t t ≡ false
 unfolding lacksFirst

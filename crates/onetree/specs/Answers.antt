@@ -1,5 +1,6 @@
 -- What the tree call and the rule call answer, and what they leave in the lent list, for every input: refusals first, in document 01's
 -- order, then by the least 1-tree. The contracts cite these. Definitions only.
+use mathlib.Core.Path.{_≡_}
 use mathlib.Core.Bool.{not, cond}
 use mathlib.Core.List.{List}
 use Prim.Native.Nat.{ℕ, zero, suc}
@@ -16,6 +17,7 @@ use Rattle.tree_theory.specs.OneTree.{Edges}
 use Rattle.tree_theory.specs.Inputs.{multiplier, ceilingFits, inputFault}
 use Rattle.tree_theory.specs.Arrays.{blank}
 use Rattle.tree_theory.specs.Enumeration.{Tree, noTree, aTree, leastTree, Ruling, keeps, forces, bars, wasRequired, wasExcluded, ruling}
+use Rattle.greedy.specs.Hint.{Hinted}
 use Rattle.onetree.specs.declared.TreeAnswer.{TreeAnswer}
 use Rattle.onetree.specs.declared.TreeAnswer.the-variants as tree
 use Rattle.onetree.specs.declared.RuleAnswer.{RuleAnswer}
@@ -134,3 +136,9 @@ unfolding ruleFault
 passRulings g d ceiling out =
     leaves (ruleFault g d ceiling (g .m)) out
     (passWrites (g .m) ceiling (λ t k. rulingByte (ruling (network g) (multiplier d) ceiling k)) (leastTree (network g) (multiplier d)))
+
+-- what a pass leaves in the list that it is lent for it: a refusal leaves it as it was
+abbrev pub HintAfter : Reply → List ℕ → ℕ → List ℕ → List ℕ → ℕ → Type 0
+HintAfter (refused number place) marks m out order live = (order ≡ out) × (live ≡ 0)
+HintAfter none marks m out order live = (order ≡ blank) × (live ≡ 0)
+HintAfter (bounded b) marks m out order live = Hinted marks m order live

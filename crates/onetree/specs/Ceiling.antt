@@ -19,10 +19,10 @@ use Rattle.tree_theory.specs.Enumeration.{Tree, noTree, aTree, leastTree, rulin
 use Rattle.tree_theory.specs.LeastTree.{tree-found, tree-missing}
 use Rattle.onetree.specs.Answers.{rulingByte, ruleFault}
 use Rattle.tree_theory.specs.Arrays.{blank, bytes, in-edge}
-use Rattle.onetree.specs.Charged.{highBound, lowBound, maxSlack}
-use Rattle.onetree.specs.declared.Found.{Found}
-use Rattle.onetree.specs.Least.{Lists, nothingFor, TreeFound}
-use Rattle.onetree.specs.Looks.{Hinted}
+use Rattle.greedy.specs.Charged.{highBound, lowBound, maxSlack}
+use Rattle.greedy.specs.declared.Found.{Found}
+use Rattle.greedy.specs.Least.{Lists, nothingFor, TreeFound}
+use Rattle.greedy.specs.Hint.{Hinted}
 use Rattle.onetree.specs.TreeCall.{byte-is}
 use Rattle.swaps.specs.Slack.{SlackIs}
 use Rattle.onetree.specs.Ruled.{RuledBy}

@@ -1,24 +1,13 @@
+-- The tree call, the rule call and the pass. What a reader must believe: what they answer, and every byte that they leave
 pub mod Answers
+-- What follows is proved, or says what code knows.
+-- the rulings by swaps with the least 1-tree: of an edge, of those outside the tree, of those in it, of all
 pub mod Verdicts
 pub mod Candidates
-pub mod Judging
+pub mod Outside
 pub mod Forcing
 pub mod Ruled
-pub mod Charged
-pub mod Found
-pub mod Sorting
-pub mod Falling
-pub mod Keys
-pub mod Making
-pub mod Looks
-pub mod Least
-pub mod Growth
-pub mod Turn
-pub mod Relabelling
-pub mod Queue
-pub mod Required
-pub mod Kruskal
-pub mod Charging
+-- the calls, case by case
 pub mod TreeCall
 pub mod Ceiling
 pub mod RuleCall

@@ -21,7 +21,7 @@ use Rattle.tree_theory.specs.LeastTree.{tree-found, tree-missing}
 use Rattle.onetree.specs.Answers.{Reply, refused, none, bounded, treeFault, treeReply, treeLeaves, treeSays, treeWrites, unlessFault, leaves}
 use Rattle.tree_theory.specs.Arrays.{entry, bytes, in-edge}
 use Rattle.tree_theory.specs.Accepted.{no-fault}
-use Rattle.onetree.specs.Found.{FoundIs}
+use Rattle.greedy.specs.Found.{FoundIs}
 
 -- ---- the calls' answers, by the fault
 

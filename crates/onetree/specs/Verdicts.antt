@@ -24,7 +24,7 @@ use Rattle.tree_theory.specs.Criteria.{MaySwap}
 use Rattle.tree_theory.specs.Inputs.{multiplier}
 use Rattle.onetree.specs.Answers.{rulingByte}
 use Rattle.tree_theory.specs.Arrays.{entry, bytes, edge-of, of-edge, mark-free, network-valid}
-use Rattle.onetree.specs.Charged.{Charged, offset, maxSlack, offs}
+use Rattle.greedy.specs.Charged.{Charged, offset, maxSlack, offs}
 use Rattle.swaps.specs.Extremes.{Largest, Least, Taken}
 use Rattle.swaps.specs.Slack.{SlackIs, barred-slack, forced-slack, not-barred-in, not-forced-out}
 use Rattle.swaps.specs.Visiting.{Rooting}

@@ -8,15 +8,16 @@ ghost use Rattle.graph.specs.Limits.{maxCeiling};
 ghost use Rattle.graph.specs.Valid.{graphOf};
 ghost use Rattle.tree_theory.specs.Inputs.{ceilingFits};
 ghost use Rattle.swaps.specs.Slack.{SlackIs};
-ghost use Rattle.onetree.specs.Charged.{maxSlack};
+ghost use Rattle.greedy.specs.Charged.{maxSlack};
 ghost use Rattle.onetree.specs.Ceiling.{BoundFits, passLists, RuledOrRefused};
-use crate::Found;
-use crate::Sizes;
-use crate::least;
-use crate::nothing;
-use crate::refusals::ceiling_fits;
 use crate::rulings::rulings;
 use graph::MAX_EDGES;
+use greedy::Found;
+use greedy::MAX_LABELS;
+use greedy::Sizes;
+use greedy::ceiling_fits;
+use greedy::least;
+use greedy::nothing;
 
 // Refusal 13, 0 where the ceiling fits.
 fn ceiling_fault(ceiling: i64) -> u32
@@ -65,7 +66,7 @@ pub(crate) fn judge<'a>(
     let m = sizes.m;
     let later = ceiling_fault(ceiling);
     let mut c = [0u32; MAX_EDGES];
-    let mut rep = [0u8; 21];
+    let mut rep = [0u8; MAX_LABELS];
     let f = least(
         sizes,
         a,

@@ -23,8 +23,7 @@ use Rattle.tree_theory.specs.Inputs.{multiplier, multipliersFit, ceilingFits, i
 use Rattle.tree_theory.specs.Enumeration.{Tree, noTree, aTree, leastTree, ruling}
 use Rattle.onetree.specs.declared.RuleAnswer.{RuleAnswer}
 use Rattle.onetree.specs.declared.RuleAnswer.the-variants as answer
-use Rattle.onetree.specs.Answers.{Reply, refused, none, bounded, ruleMeaning, ruleFault, ruleSays, ruleReply, rulingByte, padded, passTree, passRulings}
-use Rattle.onetree.specs.Looks.{HintAfter}
+use Rattle.onetree.specs.Answers.{Reply, refused, none, bounded, ruleMeaning, ruleFault, ruleSays, ruleReply, rulingByte, padded, passTree, passRulings, HintAfter}
 use Rattle.machine.specs.Machine.{shut, pass}
 use Rattle.search.specs.Record.{bestBytes}
 use Rattle.search.specs.Judging.{treeBytes, pass-none, pass-above}

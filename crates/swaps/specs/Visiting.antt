@@ -281,8 +281,8 @@ pub record Visited (a b row : List ℕ) (x : ℕ) (r : Rooting) (queue : List �
   pub kept : (t : List (List ℕ)) (n : ℕ) → rowOf t x ≡ row → Leading a b n x row → Hung a b t n r → Hung a b t n s
 
 -- at the end
-abbrev pub Left : List ℕ → List ℕ → List ℕ → ℕ → Rooting → List ℕ → ℕ → Rooting → List ℕ → ℕ → Type 0
-Left a b row x r queue count s queue′ count′ =
+abbrev pub NeighboursHung : List ℕ → List ℕ → List ℕ → ℕ → Rooting → List ℕ → ℕ → Rooting → List ℕ → ℕ → Type 0
+NeighboursHung a b row x r queue count s queue′ count′ =
     (i : ℕ) × (getD row i 0 ≡ 0) × Visited a b row x r queue count s queue′ count′ i
 
 module _ (a b row : List ℕ) (x : ℕ) (r : Rooting) (queue : List ℕ) (count : ℕ) (l : Leaving a b row x r queue count) where
@@ -360,7 +360,7 @@ Closed a b t depth queue i = (p j : ℕ) → p < i → ((q : ℕ) → q ≤ j �
 
 pub closed-more : (a b : List ℕ) (t : List (List ℕ)) (x : ℕ) (r : Rooting) (queue : List ℕ) (count : ℕ) (s : Rooting) (queue′ : List ℕ)
     (count′ i : ℕ) → i < count → x ≡ getD queue i 0 → Closed a b t (r .depth) queue i
-    → Left a b (rowOf t x) x r queue count s queue′ count′ → Closed a b t (s .depth) queue′ (i + 1)
+    → NeighboursHung a b (rowOf t x) x r queue count s queue′ count′ → Closed a b t (s .depth) queue′ (i + 1)
 unfolding cell
 closed-more a b t x r queue count s queue′ count′ i li ex c (k, stop, w) p j h full = go (ℕ-discrete p i)
   where

@@ -12,7 +12,7 @@ use Rattle.tree_theory.specs.Inputs.{inputFault}
 use Rattle.tree_theory.specs.Arrays.{blank}
 use Rattle.tree_theory.specs.Accepted.{no-fault}
 use Rattle.onetree.specs.Answers.{treeMeaning}
-use Rattle.onetree.specs.Least.{Lists, lists, TreeFound, LeastOrRefused, by-refused, by-found}
+use Rattle.greedy.specs.Least.{Lists, lists, TreeFound, LeastOrRefused, by-refused, by-found}
 use Rattle.onetree.specs.TreeCall.{tree-refused, tree-none, tree-some}
 use Rattle.onetree.proofs.tree.Statement.{statement}
 use Rattle.onetree.proofs.tree.Tie as tie

@@ -14,7 +14,7 @@ use Rattle.tree_theory.specs.Inputs.{inputFault}
 use Rattle.tree_theory.specs.Arrays.{blank}
 use Rattle.tree_theory.specs.Spans.{Spans}
 use Rattle.onetree.specs.Answers.{ruleFault}
-use Rattle.onetree.specs.Least.{Lists, lists, TreeFound, by-refused, by-found}
+use Rattle.greedy.specs.Least.{Lists, lists, TreeFound, by-refused, by-found}
 use Rattle.onetree.specs.Ceiling.{
   PassLists,
   passLists,

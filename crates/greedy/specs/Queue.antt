@@ -45,8 +45,20 @@ unfoldable key : Graph → List ℕ → ℕ → ℕ
 key g c zero = 0
 key g c (suc k) = keyAt (g .mark) c k
 
-module _ (g : Graph) (v : value.Valid g) (c : List ℕ) (low : (k : ℕ) → k < g .m → 1 ≤ getD c k 0) (ks : List ℕ) (f : ℕ)
-    (y : Keyed (g .mark) c (g .m) ks f) (asc : Ascending f ks) where
+-- c are the charges of a graph value's edges, and ks the f keys of those that are not excluded, in ascending order
+pub record InKeyOrder (g : Graph) (c ks : List ℕ) (f : ℕ) : Type 0 where
+  pub valid : value.Valid g
+  pub low : (k : ℕ) → k < g .m → 1 ≤ getD c k 0
+  pub keyed : Keyed (g .mark) c (g .m) ks f
+  pub ascending : Ascending f ks
+
+module _ (g : Graph) (c ks : List ℕ) (f : ℕ) (o : InKeyOrder g c ks f) where
+  abbrev v : value.Valid g
+  v = o .valid
+
+  abbrev y : Keyed (g .mark) c (g .m) ks f
+  y = o .keyed
+
   -- the edges looked at are those that are not excluded
   pub placed : (e : ℕ) → e ∈ queued ks f → Placed g e
   placed e m =
@@ -63,7 +75,7 @@ module _ (g : Graph) (v : value.Valid g) (c : List ℕ) (low : (k : ℕ) → k <
 
   fall : Falls (key g c) (queued ks f)
   unfolding key
-  fall = queued-falls (key g c) ks f at asc (y .once) f (omega arith)
+  fall = queued-falls (key g c) ks f at (o .ascending) (y .once) f (omega arith)
     where
       at : (i : ℕ) → i < f → key g c (suc (getD ks i 0 % 256)) ≡ getD ks i 0
       at i h =
@@ -102,7 +114,7 @@ module _ (g : Graph) (v : value.Valid g) (c : List ℕ) (low : (k : ℕ) → k <
 
     pub splits : freeOf g (select t (queued ks f)) ++ requiredOf g (select t (queued ks f)) ≡ select t (queued ks f)
     splits = falls-split (key g c) (needed (network g)) 256 (select t (queued ks f)) falls key-small
-        (λ e m q. let r = kind e m in omega (arith, key-at e r q, low (r .0) (r .1)))
+        (λ e m q. let r = kind e m in omega (arith, key-at e r q, o .low (r .0) (r .1)))
 
     lists : Listing all (select t (queued ks f))
     lists = record {

@@ -21,11 +21,10 @@ use Rattle.spanning.specs.Held.{Holds}
 use Rattle.tree_theory.specs.OneTree.{Edges}
 use Rattle.tree_theory.specs.Valid.{needed, isNear, far, others-in, far-within}
 use Rattle.tree_theory.specs.Arrays.{needed-at, network-valid}
-use Rattle.greedy.specs.Sorting.{Ascending}
 use Rattle.greedy.specs.Keys.{keyAt, key-low, key-required, key-free, Keyed, queued, queued-in}
 use Rattle.greedy.specs.Growth.{nearOf, farOf}
 use Rattle.greedy.specs.ChoiceSoFar.{maxLabels}
-use Rattle.greedy.specs.Queue.{requiredOf, freeOf, listed, Queued, in-order}
+use Rattle.greedy.specs.Queue.{InKeyOrder, requiredOf, freeOf, listed, Queued, in-order}
 use Rattle.tree_theory.specs.Merges.{Merges}
 
 -- of the first f keys the first r are below 256, and the next is not
@@ -62,8 +61,13 @@ first-of t s ks r (suc f) h on off = go (ℕ-discrete r (suc f)) (λ l. first-of
     go (no e) below =
         fails (s (turned ks f)) (turned ks f) (select s (queued ks f)) (off f (omega arith) (omega arith)) ∙ below (omega arith)
 
-module _ (g : Graph) (v : value.Valid g) (c : List ℕ) (low : (k : ℕ) → k < g .m → 1 ≤ getD c k 0) (ks : List ℕ) (f : ℕ)
-    (y : Keyed (g .mark) c (g .m) ks f) (asc : Ascending f ks) (r : ℕ) (s : Small ks f r) where
+module _ (g : Graph) (c ks : List ℕ) (f : ℕ) (o : InKeyOrder g c ks f) (r : ℕ) (s : Small ks f r) where
+  abbrev v : value.Valid g
+  v = o .valid
+
+  abbrev y : Keyed (g .mark) c (g .m) ks f
+  y = o .keyed
+
   -- whether the edge looked at in turn i is required, by its key
   marked : (i : ℕ) → i < f
       → ((getD ks i 0 < 256) → needed (network g) (turned ks i) ≡ true)
@@ -86,7 +90,7 @@ module _ (g : Graph) (v : value.Valid g) (c : List ℕ) (low : (k : ℕ) → k <
         λ l. absurd (omega (arith, x .3, key-required (getD (g .mark) k 0) (getD c k 0) k e, x .1, v .few)),
       )
       go (no e) = (
-        λ l. absurd (omega (arith, x .3, key-free (getD (g .mark) k 0) (getD c k 0) k e, low k (x .1))),
+        λ l. absurd (omega (arith, x .3, key-free (getD (g .mark) k 0) (getD c k 0) k e, o .low k (x .1))),
         λ l. ne-eqb _ 1 e,
       )
 
@@ -98,7 +102,7 @@ module _ (g : Graph) (v : value.Valid g) (c : List ℕ) (low : (k : ℕ) → k <
     where
       go : Dec (r ≡ i) → 256 ≤ getD ks i 0
       go (yes e) = rw (← e) (s .2 (omega arith))
-      go (no e) = omega (arith, s .2 (omega arith), asc r i (omega arith) h)
+      go (no e) = omega (arith, s .2 (omega arith), o .ascending r i (omega arith) h)
 
   pub required-near : requiredOf g (nearOf (network g) (queued ks f)) ≡ nearOf (network g) (queued ks r)
   required-near = first-of (needed (network g)) (isNear (network g)) ks r f (s .0) on off
@@ -114,8 +118,8 @@ module _ (g : Graph) (v : value.Valid g) (c : List ℕ) (low : (k : ℕ) → k <
   abbrev joining : List ℕ
   joining = farOf (network g) (queued ks r)
 
-  q : Queued g v c low ks f y asc
-  q = in-order g v c low ks f y asc
+  q : Queued g c ks f o
+  q = in-order g c ks f o
 
   of-far : (e : ℕ) → e ∈ joining → (e ∈ far (network g)) × (needed (network g) e ≡ true)
   of-far e m =
@@ -129,7 +133,7 @@ module _ (g : Graph) (v : value.Valid g) (c : List ℕ) (low : (k : ℕ) → k <
       rw required-far at
       (in-select (needed G) (farOf G (queued ks f)) (suc k)
       (in-select (λ j. not (isNear G j)) (queued ks f) (suc k)
-      (listed g v c low ks f y asc k h (λ z. omega arith))
+      (listed g c ks f o k h (λ z. omega arith))
       (ap not (ne-eqb _ 1 (λ z. n (sym (network-a g k h) ∙ z)))))
       (needed-at g k h ∙ eq-eqb _ 1 e))
 

@@ -16,11 +16,12 @@ use Rattle.graph.specs.Network.{network}
 use Rattle.graph.specs.Places.{network-a, network-b}
 use Rattle.graph.specs.Valid.{graphOf}
 use Rattle.greedy.specs.Charged.{maxCharge, highBound, lowBound}
+use Rattle.greedy.specs.Found.{FoundIs}
 use Rattle.greedy.specs.Keys.{keyed-small}
 use Rattle.greedy.specs.Hint.{keyed-hinted}
 use Rattle.greedy.specs.ChoiceSoFar.{Joins, Reads, ChoiceSoFar, choice-none}
 use Rattle.greedy.specs.Required.{merges}
-use Rattle.greedy.specs.Kruskal.{found, missing, weighs, bit-at, past-none}
+use Rattle.greedy.specs.Kruskal.{Choice, found, missing, weighs, bit-at, past-none}
 use Rattle.greedy.specs.Charging.{Raised, chargeable, charged-of, bound-is}
 use Rattle.greedy.proofs.find.Statement.{statement}
 use Rattle.greedy.proofs.find.Tie as tie
@@ -37,14 +38,26 @@ from-charges c = c .before .before .before
 abbrev from-order : tie.After-order → tie.After-charges
 from-order c = c .before .before .before
 
+abbrev from-places : tie.After-places → tie.After-order
+from-places c = c .before .before .before
+
+abbrev to-places : tie.After-required → tie.After-places
+to-places c = c .before .before
+
 abbrev from-required : tie.After-required → tie.After-order
-from-required c = c .before .before .before .before .before
+from-required c = from-places (to-places c)
+
+abbrev from-first-args : tie.After-grow-arg2 → tie.After-labels
+from-first-args c = let at-ks4 = c .before .before in at-ks4 .before .before
 
 abbrev from-first : tie.After-grow → tie.After-required
-from-first c = c .before .before .before .before .before .before
+from-first c = from-first-args (c .before) .before
+
+abbrev from-grow-args : tie.After-grow-arg4 → tie.After-grow
+from-grow-args c = let at-ks5 = c .before .before in at-ks5 .before .before
 
 abbrev from-grow : tie.After-grow2 → tie.After-grow
-from-grow c = c .before .before .before .before .before
+from-grow c = from-grow-args (c .before)
 
 -- where the order was found, and the start
 abbrev ordered : tie.After-grow → tie.After-order
@@ -59,6 +72,10 @@ charges c = from-order c .charges .last .1 .1 .1 .1 .1 .0
 
 abbrev keys : tie.After-order → List ℕ
 keys c = c .order .last .1 .1 .1 .1 .0
+
+-- the set that was taken
+abbrev tree : tie.After-grow2 → List ℕ
+tree c = c .grow2 .last .1 .1 .1 .1 .1 .1 .1 .1 .0
 
 charges-requires : tie.Need-charges-requires
 charges-requires c κs =
@@ -77,7 +94,7 @@ places-requires c κs =
     (o .order .ensures .2, start o .pre .5)
 
 required-requires : tie.Need-required-requires
-required-requires c κs = c .before .before .before .before .order .ensures .2
+required-requires c κs = from-places (c .before) .order .ensures .2
 
 labels-requires : tie.Need-labels-requires
 labels-requires c κs = tt
@@ -104,7 +121,7 @@ reads c i h = (network-a (lent (start c)) _ (looked c i h), network-b (lent (sta
 
 grow-requires : tie.Need-grow-requires
 grow-requires c κs =
-    let l = c .before .before .before .before in
+    let l = from-first-args c in
     let r = l .before in
     let o = from-required r in
     let p = start o .pre in (
@@ -116,7 +133,7 @@ grow-requires c κs =
 
 grow-requires-2 : tie.Need-grow-requires-2
 grow-requires-2 c κs =
-    let t = c .before .before .before .before in
+    let t = from-grow-args c in
     let o = ordered t in
     let r = from-first t .required .ensures in (
       r .0,
@@ -162,55 +179,82 @@ range c =
     let d = diff-range (c .bound .result) _ _ (c .bound .ensures) in
     (omega (arith, d .0, light s), omega (arith, d .1, c .before .total .ensures .1, p .2, p .0 .high))
 
+-- what the greedy choice took
+abbrev made : (c : tie.After-grow2) → Choice (lent (start (ordered (from-grow c))))
+made c =
+    let one = from-grow c in
+    let at = ordered one in
+    let r = from-first one .required in record {
+      charges = charges at;
+      keys = keys at;
+      count = at .order .result;
+      order = record {
+        valid = start at .pre .0;
+        low = λ k h. from-order at .charges .ensures .0 k h .1;
+        keyed = at .order .ensures .0;
+        ascending = at .order .ensures .1;
+      };
+      tree = tree c;
+      near = c .grow2 .result .near;
+      far = c .grow2 .result .far;
+      sum = c .grow2 .result .sum;
+      all = last c .grew;
+      required = r .result;
+      small = r .ensures;
+      tree₀ = one .grow .last .1 .1 .1 .1 .1 .1 .1 .1 .0;
+      near₀ = one .grow .result .near;
+      far₀ = one .grow .result .far;
+      sum₀ = one .grow .result .sum;
+      first = first one .grew;
+    }
+
+-- and so what was found
+is : (c : tie.After-bound) → let s = c .before .before .before in
+    let at = ordered (from-grow s) in
+    FoundIs (lent (start at)) (start at .args .multipliers .now) (c .before .before .whole .result) (c .bound .result) (tree s) (charges at)
+is c =
+    let s = c .before .before .before in
+    let at = ordered (from-grow s) in
+    let begin = start at in
+    let g = lent begin in
+    let d = begin .args .multipliers .now in
+    let charged = charged-of g d (charges at) (from-order at .charges .ensures .0) in
+    let said = c .before .before .whole in
+    let all = c .before .total in
+    let h : Raised d (g .n) (all .result) = rw (begin .pre .2) at (all .ensures) in
+    record {
+      charged = charged;
+      fits = c .bound .ok;
+      high = range c .0;
+      low = range c .1;
+      some = λ e.
+          let l = found g (made s) d charged (says-yes (said .result) (said .ensures) e) in (
+            l,
+            bound-is g (begin .pre .0) d (charges at) (tree s) (c .bound .result) (s .grow2 .result .sum) (all .result) charged (l .tree)
+                (weighs g (made s)) h (c .bound .ensures),
+          );
+      none = λ e. missing g (made s) (says-no (said .result) (said .ensures) e);
+      bits = bit-at g (made s);
+      past = past-none g (made s);
+    }
+
 returns : tie.Need-returns
 returns c =
     let s = c .before .before .before in
     let one = from-grow s in
     let at = ordered one in
     let begin = start at in
-    let g = lent begin in
-    let d = begin .args .multipliers .now in
-    let v = begin .pre .0 in
-    let x = from-order at .charges in
-    let cs = charges at in
-    let charged = charged-of g d cs (x .ensures .0) in
-    let low : (k : ℕ) → k < g .m → 1 ≤ getD cs k 0 = λ k h. x .ensures .0 k h .1 in
-    let o = at .order in
-    let ks = keys at in
-    let t = s .grow2 .result in
-    let t₀ = one .grow .result in
-    let tree = s .grow2 .last .1 .1 .1 .1 .1 .1 .1 .1 .0 in
-    let grew = last s .grew in
-    let r = from-first one .required in
-    let said = c .before .before .whole in
-    let all = c .before .total in
-    let h : Raised d (g .n) (all .result) = rw (begin .pre .2) at (all .ensures) in
-    let places = from-first one .before .before .places .ensures in
+    let charged = from-order at .charges .ensures in
+    let places = to-places (from-first one) .places .ensures in
     rw (back64 (c .bound .result) (c .bound .ok)) (record {
       faultless = refl;
-      found = record {
-        charged = charged;
-        fits = c .bound .ok;
-        high = range c .0;
-        low = range c .1;
-        some = λ e.
-            let k = says-yes (said .result) (said .ensures) e in
-            let l = found g v cs low ks (o .result) (o .ensures .0) (o .ensures .1) tree (t .near) (t .far) (t .sum) grew
-            (r .result) (r .ensures) _ (t₀ .near) (t₀ .far) (t₀ .sum) (first one .grew) d charged (k .0) (k .1) (k .2) (k .3) in (
-              l,
-              bound-is g v d cs tree (c .bound .result) (t .sum) (all .result) charged (l .tree)
-                  (weighs g v cs low ks (o .result) (o .ensures .0) (o .ensures .1) tree (t .near) (t .far) (t .sum) grew)
-                  h (c .bound .ensures),
-            );
-        none = λ e. missing g v cs low ks (o .result) (o .ensures .0) (o .ensures .1) tree (t .near) (t .far) (t .sum) grew
-            (r .result) (r .ensures) _ (t₀ .near) (t₀ .far) (t₀ .sum) (first one .grew) (says-no (said .result) (said .ensures) e);
-        bits = bit-at g v cs low ks (o .result) (o .ensures .0) (o .ensures .1) tree (t .near) (t .far) (t .sum) grew;
-        past = past-none g v cs low ks (o .result) (o .ensures .0) (o .ensures .1) tree (t .near) (t .far) (t .sum) grew;
-      };
-      long = (last s .wide, x .ensures .2);
-      rest = λ k h. x .ensures .1 k h ∙ rw (begin .pre .4) (zeros 190 k);
-      merges = merges g v cs low ks (o .result) (o .ensures .0) (o .ensures .1) (r .result) (r .ensures) _ (first one .long) (first one .holds);
-      hinted = keyed-hinted _ _ _ _ _ _ (omega (arith, v .few)) (o .ensures .0) (o .ensures .2) (places .0) (places .1);
+      found = is c;
+      long = (last s .wide, charged .2);
+      rest = λ k h. charged .1 k h ∙ rw (begin .pre .4) (zeros 190 k);
+      merges = merges (lent begin) (charges at) (keys at) (at .order .result) (made s .order) (from-first one .required .result)
+          (from-first one .required .ensures) _ (first one .long) (first one .holds);
+      hinted = keyed-hinted _ _ _ _ _ _ (omega (arith, begin .pre .0 .few)) (at .order .ensures .0) (at .order .ensures .2) (places .0)
+          (places .1);
     })
 
 pub find-spec : {M : Type 1} → statement M

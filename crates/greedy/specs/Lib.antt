@@ -1,11 +1,11 @@
--- The least 1-tree by the greedy choice. No contract of a call that others make cites these files, so nothing here need be believed but `Hint`,
--- what a pass promises of the order that it hands on.
+-- The least 1-tree by the greedy choice. What a reader must believe of `least`: every byte that it leaves; of these the calls of `onetree` promise
+-- only what `Hint` says
 pub mod Hint
--- what the search for the tree answers and leaves: THE ENTRY'S PROMISE
+pub mod Charged
 pub mod Found
 pub mod Least
--- charges, moved up so that they are unsigned; the bound that a sum of them stands for
-pub mod Charged
+-- What follows is proved, or says what code knows.
+-- the array of charges, and the bound that a sum of them stands for
 pub mod Charging
 -- the order of the edges: keys, made from a hint or without, and sorted
 pub mod Sorting

@@ -1,6 +1,7 @@
 -- Code's sums over charges: the array of charges place by place, the sum of the multipliers, and the bound that these stand for. Assumes
 -- nothing.
 use mathlib.Core.Path.{_≡_, refl}
+use mathlib.Core.Logic.{⊎-elim}
 use mathlib.Core.List.{List}
 use Prim.Native.Nat.{ℕ, _+_, _*_, _<_, _≤_}
 use native.Mathlib.Omega.{arith}
@@ -8,11 +9,11 @@ use native.Mathlib.Numerals.{add-one}
 use native.Mathlib.Decide.{ℕ-discrete}
 use lib.ListN.{length, getD, set}
 use lib.Seq.{getD-set-same, getD-set-other}
-use lib.IntN.{ℤ, pos, _+ℤ_, _*ℤ_}
+use lib.IntN.{ℤ, pos, natAbs, _+ℤ_, _*ℤ_}
 use Rattle.lists.specs.Select.{select}
 use Rattle.lists.specs.Numbers.{upTo}
 use Rattle.lists.specs.Weights.{weight}
-use Rattle.integers.specs.Parts.{IsDiff, up, dn, add-parts, diff-one, diff-add}
+use Rattle.integers.specs.Parts.{IsDiff, up, dn, one-side, add-parts, add-up, abs-parts, diff-one, diff-add}
 use Rattle.integers.specs.Range.{InRange, within-range}
 use Rattle.integers.specs.Sums.{sumZ, twice}
 use Rattle.graph.specs.declared.Graph.{Graph}
@@ -26,6 +27,18 @@ use Rattle.tree_theory.specs.Link.{to-parts}
 use Rattle.tree_theory.specs.Bound.{bound-diff}
 use Rattle.tree_theory.specs.Arrays.{entry, bytes, network-valid}
 use Rattle.greedy.specs.Charged.{offset, maxCharge, Charged, offs}
+
+-- ---- a number of a range, moved up by the range's limit, is not negative
+
+module _ (limit : ℕ) (x : ℤ) (h : InRange limit x) where
+  pub raise-low : dn (x +ℤ pos limit) ≡ 0
+  raise-low = ⊎-elim (λ w. omega (arith, add-parts x (pos limit), h .low)) (λ w. omega arith) (one-side (x +ℤ pos limit))
+
+  pub raise-high : natAbs (x +ℤ pos limit) ≤ 2 * limit
+  raise-high = omega (arith, abs-parts (x +ℤ pos limit), raise-low, add-up x (pos limit), h .high)
+
+  pub raise-is : IsDiff x (natAbs (x +ℤ pos limit)) limit
+  raise-is = omega (arith, abs-parts (x +ℤ pos limit), raise-low, add-parts x (pos limit))
 
 -- ---- the array of charges
 

@@ -11,10 +11,22 @@ ghost use Rattle.tree_theory.specs.Multipliers.{Ranged};
 ghost use Rattle.greedy.specs.Charged.{offset, maxCharge, highBound, lowBound};
 ghost use Rattle.greedy.specs.Charging.{Chargeable, ChargesOf, Raised};
 use crate::MAX_MULTIPLIER;
+use graph::MAX_COST;
 use graph::MAX_EDGES;
 use graph::wide;
 
-// A cost or a multiplier, moved up by its limit.
+// What a charge is moved up by for its cost: one more than the limit, so that no charge is 0.
+const COST_OFFSET: u64 = MAX_COST as u64 + 1;
+
+// A cost, moved up by its limit.
+fn raised_cost(x: i32) -> u32
+    requires { ⌜ InRange maxCost x ⌝ }
+    ensures { λ r. ⌜ IsDiff x r maxCost × (r ≤ 2 * maxCost) ⌝ }
+{
+    (x + MAX_COST) as u32
+}
+
+// A multiplier likewise.
 fn raised(x: i32) -> u32
     requires { ⌜ InRange maxMultiplier x ⌝ }
     ensures { λ r. ⌜ IsDiff x r maxMultiplier × (r ≤ 2 * maxMultiplier) ⌝ }
@@ -26,7 +38,7 @@ fn charge(cost: i32, x: i32, y: i32) -> u32
     requires { ⌜ InRange maxCost cost × InRange maxMultiplier x × InRange maxMultiplier y ⌝ }
     ensures { λ r. ⌜ IsDiff ((cost +ℤ x) +ℤ y) r offset × (1 ≤ r) × (r ≤ maxCharge) ⌝ }
 {
-    raised(cost) + raised(x) + raised(y) + 1
+    raised_cost(cost) + raised(x) + raised(y) + 1
 }
 
 // The multiplier of vertex v.
@@ -92,5 +104,5 @@ pub(crate) fn bound(sum: u64, n: usize, t: u64) -> i64
     requires { ⌜ (sum ≤ maxCharge * maxEdges) × (n ≤ maxVertices) × (t ≤ 2 * maxMultiplier * maxVertices) ⌝ }
     ensures { λ r. ⌜ IsDiff r sum (2 * t + (maxCost + 1) * n) ⌝ }
 {
-    minus(sum, 2 * t + 1_000_001 * (n as u64))
+    minus(sum, 2 * t + COST_OFFSET * (n as u64))
 }

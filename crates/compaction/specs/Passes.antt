@@ -20,12 +20,12 @@ use Rattle.lists.specs.Rows.{row, row-same}
 use Rattle.integers.specs.Range.{clamp}
 use Rattle.graph.specs.Limits.{maxMultiplier}
 use Rattle.graph.specs.Network.{Network, free, excluded}
-use Rattle.onetree.specs.OneTree.{Edges, others, bound}
-use Rattle.onetree.specs.Agree.{Agree}
-use Rattle.onetree.specs.Inputs.{multiplier}
-use Rattle.onetree.specs.Enumeration.{Tree, noTree, aTree, leastTree, ruling}
-use Rattle.onetree.specs.LeastTree.{Right, tree-right, tree-found, tree-missing}
-use Rattle.onetree.specs.Rulings.{rules-excluded}
+use Rattle.tree_theory.specs.OneTree.{Edges, others, bound}
+use Rattle.tree_theory.specs.Agree.{Agree}
+use Rattle.tree_theory.specs.Inputs.{multiplier}
+use Rattle.tree_theory.specs.Enumeration.{Tree, noTree, aTree, leastTree, ruling}
+use Rattle.tree_theory.specs.LeastTree.{Right, tree-right, tree-found, tree-missing}
+use Rattle.tree_theory.specs.Rulings.{rules-excluded}
 use Rattle.tours.specs.Orders.{distinct, words}
 use Rattle.tours.specs.Tours.{degree, isJoined, isTrip, isTour}
 use Rattle.machine.specs.Machine.{Marks, Opened, withMarks, applied, markBy, shut, found, unclosed, passBy, pass, gained, branch}

@@ -14,7 +14,7 @@ use Rattle.lists.specs.Members.{_∈_}
 use Rattle.lists.specs.All.{someOf}
 use Rattle.lists.specs.Select.{keep, select}
 use Rattle.lists.specs.Numbers.{upTo, upTo-in, in-upTo}
-use Rattle.onetree.specs.OneTree.{Edges, lacksFirst, unless}
+use Rattle.tree_theory.specs.OneTree.{Edges, lacksFirst, unless}
 
 -- one more where the test says so
 abbrev more : Bool → ℕ → ℕ

@@ -7,9 +7,9 @@ use lib.Signed.{_<ℤ_}
 use Rattle.lists.specs.Members.{_∈_}
 use Rattle.lists.specs.Numbers.{upTo}
 use Rattle.graph.specs.Network.{Network}
-use Rattle.onetree.specs.OneTree.{Edges, OneTree, bound, Barred, Forced}
-use Rattle.onetree.specs.Enumeration.{barredB, forcedB, ruling}
-use Rattle.onetree.specs.Decide.{barred-test, forced-test}
+use Rattle.tree_theory.specs.OneTree.{Edges, OneTree, bound, Barred, Forced}
+use Rattle.tree_theory.specs.Enumeration.{barredB, forcedB, ruling}
+use Rattle.tree_theory.specs.Decide.{barred-test, forced-test}
 use Rattle.compaction.specs.Ranks.{rank, nth, nth-in, down}
 use Rattle.compaction.specs.Thinned.{thin, spread, RestExcluded, tree-only, tree-down, bound-thin, spread-down, spread-tree, spread-bound}
 

@@ -14,7 +14,7 @@ use Rattle.lists.specs.Members.{_∈_}
 use Rattle.lists.specs.Numbers.{upTo, upTo-in}
 use Rattle.lists.specs.Rows.{row, row-size, row-at}
 use Rattle.graph.specs.Network.{Mark, free, required, excluded}
-use Rattle.onetree.specs.OneTree.{Edges}
+use Rattle.tree_theory.specs.OneTree.{Edges}
 use Rattle.machine.specs.Outcomes.{closes, finds, splits}
 use Rattle.machine.specs.Machine.{Marks, Opened, isFree, firstFree, branch}
 use Rattle.machine.specs.Branching.{first-free, first-before, first-is}

@@ -16,8 +16,8 @@ use Rattle.lists.specs.Numbers.{upTo}
 use Rattle.integers.specs.Sums.{sumZ, sum-map}
 use Rattle.graph.specs.Network.{Network, required, excluded}
 use Rattle.spanning.specs.Walks.{Walk, stay, along, back}
-use Rattle.onetree.specs.OneTree.{Edges, OneTree, Least, others, atOne, away, charge, bound, lacksFirst}
-use Rattle.onetree.specs.Agree.{Agree, tree-agree, bound-agree}
+use Rattle.tree_theory.specs.OneTree.{Edges, OneTree, Least, others, atOne, away, charge, bound, lacksFirst}
+use Rattle.tree_theory.specs.Agree.{Agree, tree-agree, bound-agree}
 use Rattle.compaction.specs.Ranks.{rank, nth, rank-in, nth-of, nth-in, nth-kept, rank-back, Only, down, select-thin, lacks-thin}
 
 -- the kept edges and no other, in their order

@@ -13,8 +13,8 @@ use Rattle.graph.specs.declared.Graph.{Graph}
 use Rattle.graph.specs.Limits.{maxEdges}
 use Rattle.graph.specs.Network.{markOf, network}
 use Rattle.graph.specs.Valid.{valid, edgesOk, edgeOk, endsOk, pairMet}
-use Rattle.onetree.specs.Inputs.{multipliersFit, ceilingFits}
-use Rattle.onetree.specs.Enumeration.{edgeSets, leastTree, ruling}
+use Rattle.tree_theory.specs.Inputs.{multipliersFit, ceilingFits}
+use Rattle.tree_theory.specs.Enumeration.{edgeSets, leastTree, ruling}
 use Rattle.onetree.specs.Answers.{Reply, bounded, treeReply, treeLeaves, ruleReply, ruleLeaves}
 use Rattle.onetree.specs.Answers as tree
 use Rattle.tours.specs.Tours.{cost, isTour}

@@ -8,5 +8,6 @@ pub mod Rows
 pub mod Weights
 pub mod Same
 pub mod Fill
+pub mod Filled
 pub mod Hits
 pub mod Sets

@@ -10,7 +10,7 @@ use Rattle.lists.specs.Bools.{bit}
 use Rattle.graph.specs.Limits.{maxSweeps, maxStep}
 use Rattle.graph.specs.Valid.{valid}
 use Rattle.graph.specs.Network.{Network, network}
-use Rattle.onetree.specs.Inputs.{multipliersFit, ceilingFits}
+use Rattle.tree_theory.specs.Inputs.{multipliersFit, ceilingFits}
 use Rattle.machine.specs.Outcomes.{Incumbent, noTour, aTour}
 use Rattle.machine.specs.Machine.{marksOf, frees, Opening, Progress, State, noSearch, searching, held, begin, costOf, finished, ran}
 

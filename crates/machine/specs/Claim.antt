@@ -21,8 +21,8 @@ use Rattle.graph.specs.Limits.{maxEdges}
 use Rattle.graph.specs.Network.{Network, Mark, free, network}
 use Rattle.graph.specs.Places.{network-a, network-b}
 use Rattle.graph.specs.Valid as value
-use Rattle.onetree.specs.OneTree.{Edges}
-use Rattle.onetree.specs.Arrays.{edge-of}
+use Rattle.tree_theory.specs.OneTree.{Edges}
+use Rattle.tree_theory.specs.Arrays.{edge-of}
 use Rattle.tours.specs.Tours.{Tour, Allowed, cost, Feasible}
 use Rattle.machine.specs.Outcomes.{Incumbent, noTour, aTour}
 use Rattle.machine.specs.Machine.{Marks, withMarks, marksOf, Opening, trimmed, held, Progress, State, noSearch, searching, edgesOf}

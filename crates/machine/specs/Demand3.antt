@@ -15,7 +15,7 @@ use Rattle.lists.specs.Members.{_∈_}
 use Rattle.lists.specs.Numbers.{upTo}
 use Rattle.lists.specs.Rows.{row}
 use Rattle.graph.specs.Network.{Network, network}
-use Rattle.onetree.specs.OneTree.{Edges}
+use Rattle.tree_theory.specs.OneTree.{Edges}
 use Rattle.tours.specs.Tours.{cost, Feasible}
 use Rattle.tours.specs.OneNetwork.{OneNetwork}
 use Rattle.machine.specs.Machine.{Opening, State, noSearch, searching, finished}

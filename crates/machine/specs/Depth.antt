@@ -16,11 +16,11 @@ use Rattle.lists.specs.Select.{select, split-length}
 use Rattle.lists.specs.Numbers.{upTo}
 use Rattle.integers.specs.Order.{test-not-lt}
 use Rattle.graph.specs.Network.{Network, required, excluded}
-use Rattle.onetree.specs.OneTree.{Edges, OneTree, atOne, away}
-use Rattle.onetree.specs.Inputs.{multiplier}
-use Rattle.onetree.specs.Enumeration.{Tree, noTree, aTree, leastTree}
-use Rattle.onetree.specs.LeastTree.{Right, tree-right}
-use Rattle.onetree.specs.Valid.{Valid}
+use Rattle.tree_theory.specs.OneTree.{Edges, OneTree, atOne, away}
+use Rattle.tree_theory.specs.Inputs.{multiplier}
+use Rattle.tree_theory.specs.Enumeration.{Tree, noTree, aTree, leastTree}
+use Rattle.tree_theory.specs.LeastTree.{Right, tree-right}
+use Rattle.tree_theory.specs.Valid.{Valid}
 use Rattle.tours.specs.Tours.{Allowed, isTour}
 use Rattle.machine.specs.Outcomes.{closes, finds, splits}
 use Rattle.machine.specs.Machine.{Marks, withMarks, applied, Pass, shut, found, unclosed, passBy, pass, gained, Opened, firstFree}

@@ -11,7 +11,7 @@ use lib.ListN.{length}
 use Rattle.integers.specs.Range.{InRange}
 use Rattle.graph.specs.Limits.{maxVertices, maxCeiling, maxSweeps, maxStep, maxCount}
 use Rattle.graph.specs.Valid.{Valid}
-use Rattle.onetree.specs.Inputs.{multipliersFit}
+use Rattle.tree_theory.specs.Inputs.{multipliersFit}
 use Rattle.machine.specs.Outcomes.{Incumbent, noTour, aTour}
 use Rattle.machine.specs.Machine.{Marks, Opening, Progress, State, noSearch, searching}
 use Rattle.machine.specs.Requireds.{requireds}

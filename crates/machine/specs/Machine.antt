@@ -17,9 +17,9 @@ use Rattle.integers.specs.Range.{clamp}
 use Rattle.graph.specs.declared.Graph.{Graph}
 use Rattle.graph.specs.Limits.{maxEdges, maxMultiplier, maxCount}
 use Rattle.graph.specs.Network.{Network, Mark, free, required, excluded, place, network}
-use Rattle.onetree.specs.OneTree.{Edges}
-use Rattle.onetree.specs.Inputs.{multiplier}
-use Rattle.onetree.specs.Enumeration.{Tree, noTree, aTree, leastTree, Ruling, keeps, forces, bars, wasRequired, wasExcluded, ruling}
+use Rattle.tree_theory.specs.OneTree.{Edges}
+use Rattle.tree_theory.specs.Inputs.{multiplier}
+use Rattle.tree_theory.specs.Enumeration.{Tree, noTree, aTree, leastTree, Ruling, keeps, forces, bars, wasRequired, wasExcluded, ruling}
 use Rattle.machine.specs.declared.Settings.{Settings}
 use Rattle.tours.specs.Tours.{degree, cost, isTour}
 use Rattle.machine.specs.Outcomes.{Outcome, closes, finds, splits, Incumbent, noTour, nextStack, nextIncumbent, nextUpper}

@@ -15,12 +15,12 @@ use Rattle.lists.specs.Rows.{row-size, row-at}
 use Rattle.integers.specs.Order.{le-trans, less-one-le, le-lt-clash}
 use Rattle.integers.specs.Sums.{sumZ}
 use Rattle.graph.specs.Network.{Network, Mark, free, required, excluded}
-use Rattle.onetree.specs.OneTree.{Edges, others, OneTree, Barred, Forced, bound}
-use Rattle.onetree.specs.Enumeration.{barredB, forcedB, ruled, ruling}
-use Rattle.onetree.specs.Agree.{Agree}
-use Rattle.onetree.specs.Decide.{barred-test, forced-test}
-use Rattle.onetree.specs.Valid.{Valid}
-use Rattle.onetree.specs.Arrays.{edge-of, of-edge}
+use Rattle.tree_theory.specs.OneTree.{Edges, others, OneTree, Barred, Forced, bound}
+use Rattle.tree_theory.specs.Enumeration.{barredB, forcedB, ruled, ruling}
+use Rattle.tree_theory.specs.Agree.{Agree}
+use Rattle.tree_theory.specs.Decide.{barred-test, forced-test}
+use Rattle.tree_theory.specs.Valid.{Valid}
+use Rattle.tree_theory.specs.Arrays.{edge-of, of-edge}
 use Rattle.tours.specs.Tours.{Joined, Trip, Tour, Allowed, cost}
 use Rattle.machine.specs.Machine.{Marks, withMarks, frees, markBy, applied, edgesOf, costOf, lowered}
 use Rattle.machine.specs.BranchAndBound.{Problem}

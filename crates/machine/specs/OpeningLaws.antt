@@ -16,13 +16,13 @@ use Rattle.lists.specs.Bools.{by-cases}
 use Rattle.lists.specs.Rows.{row, row-at}
 use Rattle.integers.specs.Order.{le-lt-clash, below-less-one, test-lt, test-not-lt}
 use Rattle.graph.specs.Network.{Network, Mark, free, required, excluded}
-use Rattle.onetree.specs.OneTree.{Edges, Least, bound}
-use Rattle.onetree.specs.Agree.{Agree}
-use Rattle.onetree.specs.Inputs.{multiplier}
-use Rattle.onetree.specs.Enumeration.{Tree, noTree, aTree, leastTree}
-use Rattle.onetree.specs.LeastTree.{Right, tree-right}
-use Rattle.onetree.specs.Valid.{Valid}
-use Rattle.onetree.specs.Arrays.{edge-of}
+use Rattle.tree_theory.specs.OneTree.{Edges, Least, bound}
+use Rattle.tree_theory.specs.Agree.{Agree}
+use Rattle.tree_theory.specs.Inputs.{multiplier}
+use Rattle.tree_theory.specs.Enumeration.{Tree, noTree, aTree, leastTree}
+use Rattle.tree_theory.specs.LeastTree.{Right, tree-right}
+use Rattle.tree_theory.specs.Valid.{Valid}
+use Rattle.tree_theory.specs.Arrays.{edge-of}
 use Rattle.tours.specs.Tours.{Tour, Allowed, cost, isTour}
 use Rattle.machine.specs.Outcomes.{closes, finds, splits}
 use Rattle.machine.specs.Machine.{Marks, withMarks, isFree, applied, Pass, shut, found, unclosed, passBy, pass, Opened, firstFree}

@@ -24,10 +24,10 @@ use Rattle.graph.specs.Network.{Network, required, excluded, network}
 use Rattle.graph.specs.Places.{network-cost}
 use Rattle.graph.specs.Valid as value
 use Rattle.graph.specs.Meaning.{valid-true}
-use Rattle.onetree.specs.OneTree.{Edges}
-use Rattle.onetree.specs.Inputs.{multiplier, multipliersFit, ceilingFits}
-use Rattle.onetree.specs.Enumeration.{Tree, noTree, aTree, leastTree}
-use Rattle.onetree.specs.Arrays.{edge-of, network-valid}
+use Rattle.tree_theory.specs.OneTree.{Edges}
+use Rattle.tree_theory.specs.Inputs.{multiplier, multipliersFit, ceilingFits}
+use Rattle.tree_theory.specs.Enumeration.{Tree, noTree, aTree, leastTree}
+use Rattle.tree_theory.specs.Arrays.{edge-of, network-valid}
 use Rattle.tours.specs.Tours.{Tour, cost, isTour}
 use Rattle.machine.specs.Outcomes.{closes, finds, splits, Incumbent, noTour, aTour}
 use Rattle.machine.specs.Machine.{Marks, withMarks, marksOf, applied, Pass, shut, found, unclosed, passBy, pass, gained, Opened}

@@ -11,7 +11,7 @@ use lib.ListN.{length}
 use Rattle.lists.specs.Members.{_∈_, in-right}
 use Rattle.graph.specs.Limits.{maxSweeps, maxStep}
 use Rattle.graph.specs.Valid.{valid}
-use Rattle.onetree.specs.Inputs.{multipliersFit, ceilingFits}
+use Rattle.tree_theory.specs.Inputs.{multipliersFit, ceilingFits}
 use Rattle.machine.specs.Outcomes.{Incumbent, noTour, aTour}
 use Rattle.machine.specs.Machine.{Opening, Progress, State, noSearch, searching, finished}
 use Rattle.machine.specs.Calls.{Call, opens, run, tell, show, close, refused, accepted, Reply, lentBy, refuses, fault, openedBy}

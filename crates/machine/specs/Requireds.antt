@@ -11,9 +11,9 @@ use Rattle.lists.specs.Select.{select, keep}
 use Rattle.lists.specs.Numbers.{upTo}
 use Rattle.lists.specs.Rows.{row}
 use Rattle.graph.specs.Network.{Network, Mark, free, required, excluded}
-use Rattle.onetree.specs.OneTree.{Edges}
-use Rattle.onetree.specs.Valid.{isRequired, required-is}
-use Rattle.onetree.specs.Arrays.{of-edge}
+use Rattle.tree_theory.specs.OneTree.{Edges}
+use Rattle.tree_theory.specs.Valid.{isRequired, required-is}
+use Rattle.tree_theory.specs.Arrays.{of-edge}
 use Rattle.tours.specs.Tours.{Allowed}
 use Rattle.machine.specs.Machine.{Marks, withMarks}
 use Rattle.machine.specs.Branching.{row-marks}

@@ -1,10 +1,11 @@
 -- What the tree call and the rule call answer, and what they leave in the lent list, for every input: refusals first, in document 01's
 -- order, then by the least 1-tree. The contracts cite these. Definitions only.
-use mathlib.Core.Bool.{not, cond, _&&_}
+use mathlib.Core.Path.{_≡_}
+use mathlib.Core.Bool.{not, cond}
 use mathlib.Core.List.{List}
 use Prim.Native.Nat.{ℕ, zero, suc}
-use lib.Dec.{eqb, leb}
-use lib.ListN.{length, replicate}
+use lib.Dec.{leb}
+use lib.ListN.{length}
 use lib.IntN.{ℤ}
 use lib.Signed.{ltZ}
 use Rattle.lists.specs.Bools.{bit}
@@ -12,10 +13,11 @@ use Rattle.lists.specs.Rows.{row}
 use Rattle.graph.specs.declared.Graph.{Graph}
 use Rattle.graph.specs.Limits.{maxEdges}
 use Rattle.graph.specs.Network.{network}
-use Rattle.graph.specs.Valid.{valid}
-use Rattle.onetree.specs.OneTree.{Edges}
-use Rattle.onetree.specs.Inputs.{multiplier, multipliersFit, ceilingFits}
-use Rattle.onetree.specs.Enumeration.{Tree, noTree, aTree, leastTree, Ruling, keeps, forces, bars, wasRequired, wasExcluded, ruling}
+use Rattle.tree_theory.specs.OneTree.{Edges}
+use Rattle.tree_theory.specs.Inputs.{multiplier, ceilingFits, inputFault}
+use Rattle.tree_theory.specs.Arrays.{blank}
+use Rattle.tree_theory.specs.Enumeration.{Tree, noTree, aTree, leastTree, Ruling, keeps, forces, bars, wasRequired, wasExcluded, ruling}
+use Rattle.greedy.specs.Hint.{Hinted}
 use Rattle.onetree.specs.declared.TreeAnswer.{TreeAnswer}
 use Rattle.onetree.specs.declared.TreeAnswer.the-variants as tree
 use Rattle.onetree.specs.declared.RuleAnswer.{RuleAnswer}
@@ -40,15 +42,6 @@ ruleMeaning (rule.Bound b) = bounded b
 ruleMeaning (rule.Refused number place) = refused number place
 
 -- ---- refusals
-
--- "Other calls, those that apply, in this order: 15 a chart value that breaks 'Legs and marks'; 11 a list of wrong length (dues n, tree,
--- rulings and round m, ..); 12 a due out of range or d(1) not 0"; then what is left to test. 0 is no fault; len is the lent list's length
-unfoldable pub inputFault : Graph → List ℤ → ℕ → ℕ → ℕ
-inputFault g d len left =
-    cond (not (valid g)) 15
-    (cond (not (eqb (length d) (g .n) && eqb len (g .m))) 11
-    (cond (not (multipliersFit d)) 12
-    left))
 
 unfoldable pub treeFault : Graph → List ℤ → ℕ → ℕ
 unfolding inputFault
@@ -125,9 +118,6 @@ ruleLeaves g d ceiling out =
 unfoldable pub padded : ℕ → (ℕ → ℕ) → List ℕ
 padded m f = row maxEdges (λ k. cond (leb k m) (f k) 0)
 
-abbrev pub blank : List ℕ
-blank = replicate maxEdges 0
-
 -- 'no tree' and 'dead' leave it blank
 abbrev pub passWrites : ℕ → ℤ → (Edges → ℕ → ℕ) → Tree → List ℕ
 passWrites m ceiling f noTree = blank
@@ -146,3 +136,9 @@ unfolding ruleFault
 passRulings g d ceiling out =
     leaves (ruleFault g d ceiling (g .m)) out
     (passWrites (g .m) ceiling (λ t k. rulingByte (ruling (network g) (multiplier d) ceiling k)) (leastTree (network g) (multiplier d)))
+
+-- what a pass leaves in the list that it is lent for it: a refusal leaves it as it was
+abbrev pub HintAfter : Reply → List ℕ → ℕ → List ℕ → List ℕ → ℕ → Type 0
+HintAfter (refused number place) marks m out order live = (order ≡ out) × (live ≡ 0)
+HintAfter none marks m out order live = (order ≡ blank) × (live ≡ 0)
+HintAfter (bounded b) marks m out order live = Hinted marks m order live

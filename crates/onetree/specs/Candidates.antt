@@ -11,9 +11,9 @@ use lib.Seq.{getD-set-same, getD-set-other}
 use Rattle.graph.specs.declared.Graph.{Graph}
 use Rattle.graph.specs.Network.{network}
 use Rattle.graph.specs.Valid as value
-use Rattle.onetree.specs.OneTree.{OneTree}
-use Rattle.onetree.specs.Arrays.{bytes}
-use Rattle.onetree.specs.Extremes.{
+use Rattle.tree_theory.specs.OneTree.{OneTree}
+use Rattle.tree_theory.specs.Arrays.{bytes}
+use Rattle.swaps.specs.Extremes.{
   Largest,
   Least,
   Taken,
@@ -26,10 +26,10 @@ use Rattle.onetree.specs.Extremes.{
   largest-as,
   least-as,
 }
-use Rattle.onetree.specs.Visiting.{Rooting, depthAt, edgeAt, Lined}
-use Rattle.onetree.specs.Climbing.{Climbed, Reached}
-use Rattle.onetree.specs.RootedTree.{RootedIn, shape, labelOf}
-use Rattle.onetree.specs.Swaps.{Swaps, SamePlace, aAt, bAt, markAt, Through, Below, over-in, over-once}
+use Rattle.swaps.specs.Visiting.{Rooting, depthAt, edgeAt, Lined}
+use Rattle.swaps.specs.Climbing.{Climbed, Reached}
+use Rattle.swaps.specs.RootedTree.{RootedIn, shape, labelOf}
+use Rattle.swaps.specs.Swaps.{Swaps, SamePlace, aAt, bAt, markAt, Through, Below, over-in, over-once}
 use Rattle.onetree.specs.Verdicts.{noCharge, chargeAt, Gives, Comes}
 
 -- ---- at vertex 1

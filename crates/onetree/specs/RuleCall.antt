@@ -16,29 +16,14 @@ use Rattle.integers.specs.Range.{InRange, within, within-range}
 use Rattle.graph.specs.declared.Graph.{Graph}
 use Rattle.graph.specs.Limits.{maxEdges, maxCeiling}
 use Rattle.graph.specs.Network.{network}
-use Rattle.onetree.specs.OneTree.{Edges}
-use Rattle.onetree.specs.Inputs.{multiplier, ceilingFits}
-use Rattle.onetree.specs.Enumeration.{Tree, noTree, aTree, leastTree, Ruling, ruling}
-use Rattle.onetree.specs.Answers.{
-  Reply,
-  refused,
-  none,
-  bounded,
-  ruleFault,
-  ruleReply,
-  ruleLeaves,
-  ruleSays,
-  ruleWrites,
-  rulingByte,
-  padded,
-  blank,
-  passWrites,
-  passTree,
-  passRulings,
-}
-use Rattle.onetree.specs.Arrays.{entry}
-use Rattle.onetree.specs.TreeCall.{Accepted, passed, no-fault, fault-replies, fault-leaves}
-use Rattle.onetree.specs.Judged.{Over, Within}
+use Rattle.tree_theory.specs.OneTree.{Edges}
+use Rattle.tree_theory.specs.Inputs.{multiplier, ceilingFits}
+use Rattle.tree_theory.specs.Enumeration.{Tree, noTree, aTree, leastTree, Ruling, ruling}
+use Rattle.onetree.specs.Answers.{Reply, refused, none, bounded, ruleFault, ruleReply, ruleLeaves, ruleSays, ruleWrites, rulingByte, padded, passWrites, passTree, passRulings}
+use Rattle.tree_theory.specs.Arrays.{blank, entry}
+use Rattle.tree_theory.specs.Accepted.{Accepted, passed, no-fault}
+use Rattle.onetree.specs.TreeCall.{fault-replies, fault-leaves}
+use Rattle.onetree.specs.Ceiling.{Over, Within}
 
 pub rule-no-fault : (g : Graph) (d : List ℤ) (ceiling : ℤ) (len : ℕ) → ruleFault g d ceiling len ≡ 0
     → Accepted g d len × InRange maxCeiling ceiling

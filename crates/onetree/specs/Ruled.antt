@@ -15,20 +15,20 @@ use Rattle.lists.specs.Members.{_∈_}
 use Rattle.graph.specs.declared.Graph.{Graph}
 use Rattle.graph.specs.Network.{network}
 use Rattle.graph.specs.Valid.{Valid}
-use Rattle.onetree.specs.OneTree.{OneTree}
-use Rattle.onetree.specs.Enumeration.{ruling}
-use Rattle.onetree.specs.Rulings.{rules-required, rules-excluded}
-use Rattle.onetree.specs.Inputs.{multiplier}
+use Rattle.tree_theory.specs.OneTree.{OneTree}
+use Rattle.tree_theory.specs.Enumeration.{ruling}
+use Rattle.tree_theory.specs.Rulings.{rules-required, rules-excluded}
+use Rattle.tree_theory.specs.Inputs.{multiplier}
 use Rattle.onetree.specs.Answers.{rulingByte}
-use Rattle.onetree.specs.Arrays.{bytes, of-edge, mark-required, mark-excluded}
-use Rattle.onetree.specs.Extremes.{Least}
-use Rattle.onetree.specs.Filled.{Updated}
-use Rattle.onetree.specs.Visiting.{Rooting, edgeAt}
-use Rattle.onetree.specs.RootedTree.{RootedIn}
-use Rattle.onetree.specs.Swaps.{aAt, markAt, Below, over-in, over-once, over-all}
+use Rattle.tree_theory.specs.Arrays.{bytes, of-edge, mark-required, mark-excluded}
+use Rattle.swaps.specs.Extremes.{Least}
+use Rattle.lists.specs.Filled.{Updated}
+use Rattle.swaps.specs.Visiting.{Rooting, edgeAt}
+use Rattle.swaps.specs.RootedTree.{RootedIn}
+use Rattle.swaps.specs.Swaps.{aAt, markAt, Below, over-in, over-once, over-all}
 use Rattle.onetree.specs.Verdicts.{noCharge, chargeAt, Comes, forceByte, Judgement, out-byte, in-byte}
 use Rattle.onetree.specs.Candidates.{near-comes, far-comes}
-use Rattle.onetree.specs.Judging.{Ready, Judged, Barring}
+use Rattle.onetree.specs.Outside.{Ready, RuledOutside, Barring}
 use Rattle.onetree.specs.Forcing.{OneEach, Forcing}
 
 -- "3 already required, 4 already struck"; else what stands there
@@ -61,7 +61,7 @@ one-each g v w o rep r t = record {
 }
 
 module _ (g : Graph) (w c rep : List ℕ) (r : Rooting) (weight : List ℕ) (dearest near : ℕ) (ready : Ready g w c rep r weight dearest near)
-    (slack : ℕ) (out lows : List ℕ) (h : Judged g w c rep r near slack out lows (g .m)) where
+    (slack : ℕ) (out lows : List ℕ) (h : RuledOutside g w c rep r near slack out lows (g .m)) where
   -- the edge above a label
   over : (v : ℕ) → Below r v → (edgeAt r v < g .m) × (getD w (edgeAt r v) 0 ≡ 1) × (aAt g (edgeAt r v) ≢ 1) × (markAt g (edgeAt r v) ≡ 0)
   over = over-in g (ready .valid) w (ready .tree) rep r (ready .rooted)

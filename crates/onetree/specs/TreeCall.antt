@@ -1,72 +1,27 @@
--- From what code knows to what the tree call promises: what no fault means, and the call's reply and lent list in each of its cases.
--- Assumes nothing.
+-- From what code knows to what the tree call promises: its reply and lent list in each of its cases. Assumes nothing.
 use mathlib.Core.Path.{_≡_, refl, _∙_, sym, ap}
 use mathlib.Core.Logic.{_≢_, _⊎_, inl, inr}
-use mathlib.Core.Bool.{Bool, true, false, not, cond, _&&_}
+use mathlib.Core.Bool.{Bool, true, false}
 use mathlib.Core.List.{List}
 use Prim.Native.Nat.{ℕ, zero, suc, _<_}
-use native.Mathlib.Omega.{arith}
 use lib.ListN.{length, getD}
 use lib.Dec.{eqb}
 use lib.IntN.{ℤ}
-use borrow.Author.Tests.{eqb-true}
-use Rattle.lists.specs.Bools.{and-both, bit}
+use Rattle.lists.specs.Bools.{bit}
 use Rattle.lists.specs.Members.{_∈_}
 use Rattle.lists.specs.Numbers.{upTo}
 use Rattle.lists.specs.Rows.{row, row-same}
 use Rattle.graph.specs.declared.Graph.{Graph}
 use Rattle.graph.specs.Network.{network}
 use Rattle.graph.specs.Valid as value
-use Rattle.graph.specs.Meaning.{valid-true}
-use Rattle.onetree.specs.OneTree.{Edges, bound}
-use Rattle.onetree.specs.Inputs.{multiplier, multipliersFit}
-use Rattle.onetree.specs.Enumeration.{Tree, noTree, aTree, leastTree}
-use Rattle.onetree.specs.LeastTree.{tree-found, tree-missing}
-use Rattle.onetree.specs.Answers.{
-  Reply,
-  refused,
-  none,
-  bounded,
-  inputFault,
-  treeFault,
-  treeReply,
-  treeLeaves,
-  treeSays,
-  treeWrites,
-  unlessFault,
-  leaves,
-}
-use Rattle.onetree.specs.Arrays.{entry, bytes, in-edge}
-use Rattle.onetree.specs.Multipliers.{Ranged, fit-ranged}
-use Rattle.onetree.specs.Found.{FoundIs}
-
--- what a call may rely on where its input has no fault
-pub record Accepted (g : Graph) (d : List ℤ) (len : ℕ) : Type 0 where
-  pub valid : value.Valid g
-  pub multipliers : length d ≡ g .n
-  pub lent : len ≡ g .m
-  pub ranged : Ranged d
-
--- a test passed, or its number was the fault
-pub passed : (t : Bool) (e x : ℕ) → e ≢ 0 → cond (not t) e x ≡ 0 → (t ≡ true) × (x ≡ 0)
-passed true e x n h = (refl, h)
-passed false e x n h = absurd (n h)
-
-pub no-fault : (g : Graph) (d : List ℤ) (len left : ℕ) → inputFault g d len left ≡ 0 → Accepted g d len × (left ≡ 0)
-unfolding inputFault
-no-fault g d len left h =
-    let p = passed (value.valid g) 15 _ (omega arith) h in
-    let q = passed (eqb (length d) (g .n) && eqb len (g .m)) 11 _ (omega arith) (p .1) in
-    let r = passed (multipliersFit d) 12 left (omega arith) (q .1) in
-    let lengths = and-both (eqb (length d) (g .n)) (eqb len (g .m)) (q .0) in (
-      record {
-        valid = valid-true g (p .0);
-        multipliers = eqb-true (length d) (g .n) (lengths .0);
-        lent = eqb-true len (g .m) (lengths .1);
-        ranged = fit-ranged d (r .0);
-      },
-      r .1,
-    )
+use Rattle.tree_theory.specs.OneTree.{Edges, bound}
+use Rattle.tree_theory.specs.Inputs.{multiplier, inputFault}
+use Rattle.tree_theory.specs.Enumeration.{Tree, noTree, aTree, leastTree}
+use Rattle.tree_theory.specs.LeastTree.{tree-found, tree-missing}
+use Rattle.onetree.specs.Answers.{Reply, refused, none, bounded, treeFault, treeReply, treeLeaves, treeSays, treeWrites, unlessFault, leaves}
+use Rattle.tree_theory.specs.Arrays.{entry, bytes, in-edge}
+use Rattle.tree_theory.specs.Accepted.{no-fault}
+use Rattle.greedy.specs.Found.{FoundIs}
 
 -- ---- the calls' answers, by the fault
 

@@ -16,20 +16,20 @@ use Rattle.lists.specs.Numbers.{upTo}
 use Rattle.graph.specs.declared.Graph.{Graph}
 use Rattle.graph.specs.Network.{network}
 use Rattle.graph.specs.Valid as value
-use Rattle.onetree.specs.OneTree as one
-use Rattle.onetree.specs.OneTree.{bound, Barred, Forced}
-use Rattle.onetree.specs.Enumeration.{ruling}
-use Rattle.onetree.specs.Rulings.{rules-out, rules-in, rules-nothing}
-use Rattle.onetree.specs.Criteria.{MaySwap}
-use Rattle.onetree.specs.Inputs.{multiplier}
+use Rattle.tree_theory.specs.OneTree as one
+use Rattle.tree_theory.specs.OneTree.{bound, Barred, Forced}
+use Rattle.tree_theory.specs.Enumeration.{ruling}
+use Rattle.tree_theory.specs.Rulings.{rules-out, rules-in, rules-nothing}
+use Rattle.tree_theory.specs.Criteria.{MaySwap}
+use Rattle.tree_theory.specs.Inputs.{multiplier}
 use Rattle.onetree.specs.Answers.{rulingByte}
-use Rattle.onetree.specs.Arrays.{entry, bytes, edge-of, of-edge, mark-free, network-valid}
-use Rattle.onetree.specs.Charged.{Charged, offset, maxSlack, offs}
-use Rattle.onetree.specs.Extremes.{Largest, Least, Taken}
-use Rattle.onetree.specs.Slack.{SlackIs, barred-slack, forced-slack, not-barred-in, not-forced-out}
-use Rattle.onetree.specs.Visiting.{Rooting}
-use Rattle.onetree.specs.RootedTree.{RootedIn}
-use Rattle.onetree.specs.Swaps.{Swaps, markAt, swaps-may, may-swaps}
+use Rattle.tree_theory.specs.Arrays.{entry, bytes, edge-of, of-edge, mark-free, network-valid}
+use Rattle.greedy.specs.Charged.{Charged, offset, maxSlack, offs}
+use Rattle.swaps.specs.Extremes.{Largest, Least, Taken}
+use Rattle.swaps.specs.Slack.{SlackIs, barred-slack, forced-slack, not-barred-in, not-forced-out}
+use Rattle.swaps.specs.Visiting.{Rooting}
+use Rattle.swaps.specs.RootedTree.{RootedIn}
+use Rattle.swaps.specs.Swaps.{Swaps, markAt, swaps-may, may-swaps}
 
 -- a charge that no edge has, for 'there is none'
 abbrev pub noCharge : ℕ

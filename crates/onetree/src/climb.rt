@@ -3,10 +3,11 @@ ghost use mathlib.Core.Path.{_≡_};
 ghost use mathlib.Core.Logic.{_⊎_};
 ghost use Prim.Native.Nat.{_<_, _≤_};
 ghost use lib.ListN.{length, getD};
-ghost use Rattle.onetree.specs.Hanging.{Hangs, Vertex};
-ghost use Rattle.onetree.specs.RootedTree.{shape};
-ghost use Rattle.onetree.specs.Climbing.{Offered, Climbed};
+ghost use Rattle.swaps.specs.Hanging.{Hangs, Vertex};
+ghost use Rattle.swaps.specs.RootedTree.{shape};
+ghost use Rattle.swaps.specs.Climbing.{Offered, Climbed};
 use graph::wide;
+use greedy::MAX_LABELS;
 
 pub(crate) fn greater(x: u32, y: u32) -> u32
     ensures { λ r. ⌜ (x ≤ r) × (y ≤ r) × ((r ≡ x) ⊎ (r ≡ y)) ⌝ }
@@ -27,7 +28,7 @@ pub(crate) fn lesser(x: u32, y: u32) -> u32
 }
 
 // A replacement at c is offered to the edge above x: it keeps the cheapest.
-fn offer(cheapest: &mut [u32; 21], x: usize, c: u32)
+fn offer(cheapest: &mut [u32; MAX_LABELS], x: usize, c: u32)
     requires { ⌜ (x < 21) × (length (now cheapest) ≡ 21) ⌝ }
     ensures { λ _. ⌜ Offered (now (cheapest .entry)) c x (now (cheapest .exit)) ⌝ }
 {
@@ -37,10 +38,10 @@ fn offer(cheapest: &mut [u32; 21], x: usize, c: u32)
 // The deeper of the two climbs, until they meet: the largest weight on the circle, and every edge on it is offered c.
 // Ruled out: an edge above the meeting counted, or one below it left out.
 pub(crate) fn climb<'a>(
-    parent: &'a [u8; 21],
-    depth: &'a [u8; 21],
-    weight: &'a [u32; 21],
-    cheapest: &mut [u32; 21],
+    parent: &'a [u8; MAX_LABELS],
+    depth: &'a [u8; MAX_LABELS],
+    weight: &'a [u32; MAX_LABELS],
+    cheapest: &mut [u32; MAX_LABELS],
     from: usize,
     to: usize,
     c: u32,

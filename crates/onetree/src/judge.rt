@@ -1,49 +1,32 @@
 // The least 1-tree against a ceiling: whether any is within it, and then the rulings.
 ghost use mathlib.Core.Path.{_≡_};
-ghost use mathlib.Core.Bool.{false};
+ghost use mathlib.Core.Bool.{false, not, cond};
 ghost use Prim.Native.Nat.{_≤_};
-ghost use lib.ListN.{length};
 ghost use lib.Signed.{ltZ};
 ghost use Rattle.integers.specs.Range.{InRange};
 ghost use Rattle.graph.specs.Limits.{maxCeiling};
-ghost use Rattle.graph.specs.Valid.{Valid, graphOf};
-ghost use Rattle.onetree.specs.Multipliers.{Ranged};
-ghost use Rattle.onetree.specs.Answers.{ruleFault, blank};
-ghost use Rattle.onetree.specs.Looks.{Handed};
-ghost use Rattle.onetree.specs.Slack.{SlackIs};
-ghost use Rattle.onetree.specs.Charged.{maxSlack};
-ghost use Rattle.onetree.specs.Judged.{BoundFits, JudgedIs};
-use crate::find;
-use crate::refusals::ceiling_fits;
-use crate::refusals::input_fault;
+ghost use Rattle.graph.specs.Valid.{graphOf};
+ghost use Rattle.tree_theory.specs.Inputs.{ceilingFits};
+ghost use Rattle.swaps.specs.Slack.{SlackIs};
+ghost use Rattle.greedy.specs.Charged.{maxSlack};
+ghost use Rattle.onetree.specs.Ceiling.{BoundFits, passLists, RuledOrRefused};
 use crate::rulings::rulings;
+use graph::MAX_EDGES;
+use greedy::Found;
+use greedy::MAX_LABELS;
+use greedy::Sizes;
+use greedy::ceiling_fits;
+use greedy::least;
+use greedy::nothing;
 
-// Whether a 1-tree is within the ceiling, and then the bound of the least and how many edges were looked at.
-pub(crate) struct Judged {
-    pub any: bool,
-    pub bound: i64,
-    pub live: usize,
-}
-
-// The first fault of a rule call's input; 0 where there is none.
-pub(crate) fn rule_fault<'a>(
-    n: usize,
-    m: usize,
-    a: &'a [u8; 190],
-    b: &'a [u8; 190],
-    cost: &'a [i32; 190],
-    mark: &'a [u8; 190],
-    multipliers: &'a [i32],
-    ceiling: i64,
-    len: usize,
-) -> u32
-    ensures { λ r. ⌜ r ≡ ruleFault (graphOf n m (now (a .entry)) (now (b .entry)) (now (cost .entry)) (now (mark .entry)))
-        (now (multipliers .entry)) ceiling len ⌝ }
+// Refusal 13, 0 where the ceiling fits.
+fn ceiling_fault(ceiling: i64) -> u32
+    ensures { λ r. ⌜ r ≡ cond (not (ceilingFits ceiling)) 13 0 ⌝ }
 {
     if ceiling_fits(ceiling) {
-        return input_fault(n, m, a, b, cost, mark, multipliers, len, 0);
+        return 0;
     }
-    input_fault(n, m, a, b, cost, mark, multipliers, len, 13)
+    13
 }
 
 fn below(x: i64, y: i64) -> bool
@@ -60,58 +43,50 @@ fn slack_of(ceiling: i64, bound: i64) -> u32
     (ceiling - bound) as u32
 }
 
-// No 1-tree is within the ceiling: what was written of one is wiped out.
-fn nothing(tree: &mut [u8; 190], order: &mut [u8; 190]) -> Judged
-    ensures { λ r. ⌜ (r .any ≡ false) × (r .live ≡ 0) × (now (tree .exit) ≡ blank) × (now (order .exit) ≡ blank) ⌝ }
-{
-    *tree = [0; 190];
-    *order = [0; 190];
-    Judged {
-        any: false,
-        bound: 0,
-        live: 0,
-    }
-}
-
-// One tree, and from it everything, into blank arrays; they stay blank where no 1-tree is within the ceiling.
+// The first fault of the input; or else one tree, and from it everything: a byte for each edge and 0 past them, all 0 where no 1-tree is
+// within the ceiling.
 pub(crate) fn judge<'a>(
-    n: usize,
-    m: usize,
-    a: &'a [u8; 190],
-    b: &'a [u8; 190],
-    cost: &'a [i32; 190],
-    mark: &'a [u8; 190],
+    sizes: Sizes,
+    a: &'a [u8; MAX_EDGES],
+    b: &'a [u8; MAX_EDGES],
+    cost: &'a [i32; MAX_EDGES],
+    mark: &'a [u8; MAX_EDGES],
     multipliers: &'a [i32],
     ceiling: i64,
     hint: &'a [u8],
-    tree: &mut [u8; 190],
-    res: &mut [u8; 190],
-    order: &mut [u8; 190],
-) -> Judged
-    requires { ⌜ Valid (graphOf n m (now a) (now b) (now cost) (now mark)) × Ranged (now multipliers) × (length (now multipliers) ≡ n)
-        × InRange maxCeiling ceiling × (now tree ≡ blank) × (now res ≡ blank) × (now order ≡ blank) ⌝ }
-    ensures { λ r. ⌜ JudgedIs (graphOf n m (now (a .entry)) (now (b .entry)) (now (cost .entry)) (now (mark .entry)))
-        (now (multipliers .entry)) ceiling (r .any) (r .bound) (now (tree .exit)) (now (res .exit))
-        × Handed (r .any) (now (mark .entry)) m (now (order .exit)) (r .live) ⌝ }
+    tree: &mut [u8; MAX_EDGES],
+    res: &mut [u8; MAX_EDGES],
+    order: &mut [u8; MAX_EDGES],
+) -> Found
+    ensures { λ r. ⌜ RuledOrRefused (graphOf (sizes .n) (sizes .m) (now (a .entry)) (now (b .entry)) (now (cost .entry)) (now (mark .entry)))
+        (now (multipliers .entry)) ceiling (sizes .lent) (passLists (now (tree .entry)) (now (res .entry)) (now (order .entry))) r
+        (passLists (now (tree .exit)) (now (res .exit)) (now (order .exit))) ⌝ }
 {
-    let mut c = [0u32; 190];
-    let mut rep = [0u8; 21];
-    let f = find(
-        n,
-        m,
+    let n = sizes.n;
+    let m = sizes.m;
+    let later = ceiling_fault(ceiling);
+    let mut c = [0u32; MAX_EDGES];
+    let mut rep = [0u8; MAX_LABELS];
+    let f = least(
+        sizes,
         a,
         b,
         cost,
         mark,
         multipliers,
+        later,
         hint,
         tree,
         &mut c,
         order,
         &mut rep,
     );
+    if f.fault != 0 {
+        return f;
+    }
+    *res = [0; MAX_EDGES];
     if !f.any {
-        return nothing(tree, order);
+        return f;
     }
     let lowest = f.bound;
     if below(ceiling, lowest) {
@@ -119,9 +94,5 @@ pub(crate) fn judge<'a>(
     }
     let slack = slack_of(ceiling, lowest);
     rulings(n, m, a, b, mark, tree, &c, &rep, slack, res);
-    Judged {
-        any: true,
-        bound: lowest,
-        live: f.live,
-    }
+    f
 }

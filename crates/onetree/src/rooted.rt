@@ -9,10 +9,13 @@ ghost use lib.IntN.{ℤ};
 ghost use lib.ListN.{replicate};
 ghost use Rattle.graph.specs.Limits.{maxVertices};
 ghost use Rattle.graph.specs.Valid.{graphOf};
-ghost use Rattle.onetree.specs.Spans.{Spans};
-ghost use Rattle.onetree.specs.TreeTable.{Ends, Lists, emptyTable};
-ghost use Rattle.onetree.specs.Visiting.{rooting, rowOf, Hung, Complete, Lined, Leaving, Left, Rows};
+ghost use Rattle.tree_theory.specs.Spans.{Spans};
+ghost use Rattle.swaps.specs.TreeTable.{Ends, Lists, emptyTable};
+ghost use Rattle.swaps.specs.Visiting.{rooting, rowOf, Hung, Complete, Lined, Leaving, NeighboursHung, Rows};
+use graph::MAX_EDGES;
+use graph::MAX_VERTICES;
 use graph::wide;
+use greedy::MAX_LABELS;
 
 // Whether an edge is one of the tree that may give way to another on its circle: it is free, which is the mark 0, and not at vertex 1.
 fn swappable(a: u8, mark: u8, w: u8) -> bool
@@ -29,13 +32,13 @@ fn swappable(a: u8, mark: u8, w: u8) -> bool
 // vertex 1 have no part in it. An edge's ends are what from and to say, and never the same.
 // Ruled out: a required edge listed, which then could be swapped out.
 pub(crate) fn table<'a>(
-    a: &'a [u8; 190],
-    from: &'a [u8; 190],
-    to: &'a [u8; 190],
-    mark: &'a [u8; 190],
-    w: &'a [u8; 190],
+    a: &'a [u8; MAX_EDGES],
+    from: &'a [u8; MAX_EDGES],
+    to: &'a [u8; MAX_EDGES],
+    mark: &'a [u8; MAX_EDGES],
+    w: &'a [u8; MAX_EDGES],
     m: usize,
-    t: &mut [[u8; 20]; 20],
+    t: &mut [[u8; MAX_VERTICES]; MAX_VERTICES],
 )
     requires { ⌜ ((n : ℕ) × (b : List ℕ) × (cost : List ℤ) × Spans (graphOf n m (now a) b cost (now mark)) (now w)
         × Ends (graphOf n m (now a) b cost (now mark)) (now w) (now from) (now to)) × (now t ≡ emptyTable) ⌝ }
@@ -45,7 +48,7 @@ pub(crate) fn table<'a>(
         → Lists (graphOf n m (now (a .entry)) b cost (now (mark .entry))) (now (w .entry)) (now (from .entry)) (now (to .entry))
         (now (t .exit))) ⌝ }
 {
-    let mut count = [0u8; 21];
+    let mut count = [0u8; MAX_LABELS];
     for k in 0..m {
         if swappable(a[k], mark[k], w[k]) {
             let x = wide(from[k]);
@@ -65,18 +68,18 @@ pub(crate) fn table<'a>(
 
 // Every neighbour of x that hangs nowhere yet is hung on x, and put at the end of the queue, whose length is handed on.
 fn visit<'a>(
-    a: &'a [u8; 190],
-    b: &'a [u8; 190],
-    t: &'a [[u8; 20]; 20],
+    a: &'a [u8; MAX_EDGES],
+    b: &'a [u8; MAX_EDGES],
+    t: &'a [[u8; MAX_VERTICES]; MAX_VERTICES],
     x: usize,
-    parent: &mut [u8; 21],
-    depth: &mut [u8; 21],
-    edge: &mut [u8; 21],
-    queue: &mut [u8; 21],
+    parent: &mut [u8; MAX_LABELS],
+    depth: &mut [u8; MAX_LABELS],
+    edge: &mut [u8; MAX_LABELS],
+    queue: &mut [u8; MAX_LABELS],
     count: usize,
 ) -> usize
     requires { ⌜ Leaving (now a) (now b) (rowOf (now t) x) x (rooting (now parent) (now depth) (now edge)) (now queue) count ⌝ }
-    ensures { λ r. ⌜ Left (now (a .entry)) (now (b .entry)) (rowOf (now (t .entry)) x) x
+    ensures { λ r. ⌜ NeighboursHung (now (a .entry)) (now (b .entry)) (rowOf (now (t .entry)) x) x
         (rooting (now (parent .entry)) (now (depth .entry)) (now (edge .entry))) (now (queue .entry)) count
         (rooting (now (parent .exit)) (now (depth .exit)) (now (edge .exit))) (now (queue .exit)) r ⌝ }
 {
@@ -103,13 +106,13 @@ fn visit<'a>(
 // deep it hangs (0: nowhere), the place of the edge to the vertex above, and the queue, whose length is handed on: the vertices that hang,
 // in the order of hanging.
 pub(crate) fn hang<'a>(
-    a: &'a [u8; 190],
-    b: &'a [u8; 190],
-    t: &'a [[u8; 20]; 20],
-    parent: &mut [u8; 21],
-    depth: &mut [u8; 21],
-    edge: &mut [u8; 21],
-    queue: &mut [u8; 21],
+    a: &'a [u8; MAX_EDGES],
+    b: &'a [u8; MAX_EDGES],
+    t: &'a [[u8; MAX_VERTICES]; MAX_VERTICES],
+    parent: &mut [u8; MAX_LABELS],
+    depth: &mut [u8; MAX_LABELS],
+    edge: &mut [u8; MAX_LABELS],
+    queue: &mut [u8; MAX_LABELS],
 ) -> usize
     requires { ⌜ ((n : ℕ) × (2 ≤ n) × (n ≤ maxVertices) × Rows (now a) (now b) n (now t)) × (now parent ≡ replicate 21 0)
         × (now depth ≡ replicate 21 0) × (now edge ≡ replicate 21 0) × (now queue ≡ replicate 21 0) ⌝ }

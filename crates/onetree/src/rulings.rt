@@ -10,14 +10,14 @@ ghost use lib.IntN.{ℤ};
 ghost use lib.ListN.{length, getD, replicate};
 ghost use Rattle.graph.specs.Limits.{maxEdges};
 ghost use Rattle.graph.specs.Valid.{graphOf};
-ghost use Rattle.onetree.specs.Answers.{blank};
-ghost use Rattle.onetree.specs.Spans.{Spans};
-ghost use Rattle.onetree.specs.Merges.{Merges};
-ghost use Rattle.onetree.specs.Filled.{Updated};
-ghost use Rattle.onetree.specs.RootedTree.{labelOf};
+ghost use Rattle.tree_theory.specs.Arrays.{blank};
+ghost use Rattle.tree_theory.specs.Spans.{Spans};
+ghost use Rattle.tree_theory.specs.Merges.{Merges};
+ghost use Rattle.lists.specs.Filled.{Updated};
+ghost use Rattle.swaps.specs.RootedTree.{labelOf};
 ghost use Rattle.onetree.specs.Verdicts.{noCharge, barByte, forceByte};
 ghost use Rattle.onetree.specs.Candidates.{BelowRoot, Weighed, NearIs};
-ghost use Rattle.onetree.specs.Judging.{Prepared, graphIn, rootingIn, nearByte, Judged};
+ghost use Rattle.onetree.specs.Outside.{Prepared, graphIn, rootingIn, nearByte, RuledOutside};
 ghost use Rattle.onetree.specs.Forcing.{OneEach, Forcing};
 ghost use Rattle.onetree.specs.Ruled.{rulingOf, finalAt, RuledBy};
 use crate::climb::climb;
@@ -27,8 +27,11 @@ use crate::rooted::hang;
 use crate::rooted::table;
 use graph::EXCLUDED;
 use graph::FREE;
+use graph::MAX_EDGES;
+use graph::MAX_VERTICES;
 use graph::REQUIRED;
 use graph::wide;
+use greedy::MAX_LABELS;
 
 // Rulings.
 pub const KEEP: u8 = 0;
@@ -60,10 +63,10 @@ fn free_at_one(a: u8, mark: u8) -> bool
 }
 
 fn near_one<'a>(
-    a: &'a [u8; 190],
-    mark: &'a [u8; 190],
-    w: &'a [u8; 190],
-    c: &'a [u32; 190],
+    a: &'a [u8; MAX_EDGES],
+    mark: &'a [u8; MAX_EDGES],
+    w: &'a [u8; MAX_EDGES],
+    c: &'a [u32; MAX_EDGES],
     m: usize,
 ) -> Near
     requires { ⌜ m ≤ maxEdges ⌝ }
@@ -87,7 +90,7 @@ fn near_one<'a>(
 }
 
 // The label of one end of each edge, into r.
-fn labels<'a>(x: &'a [u8; 190], rep: &'a [u8; 21], m: usize, r: &mut [u8; 190])
+fn labels<'a>(x: &'a [u8; MAX_EDGES], rep: &'a [u8; MAX_LABELS], m: usize, r: &mut [u8; MAX_EDGES])
     requires { ⌜ (m ≤ maxEdges) × ((k : ℕ) → k < m → getD (now x) k 0 < 21) × (length (now r) ≡ maxEdges) ⌝ }
     ensures { λ _. ⌜ Updated (λ k. labelOf (now (rep .entry)) (getD (now (x .entry)) k 0)) (now (r .entry)) (now (r .exit)) m ⌝ }
 {
@@ -98,15 +101,15 @@ fn labels<'a>(x: &'a [u8; 190], rep: &'a [u8; 21], m: usize, r: &mut [u8; 190])
 
 // What the edge above each label of the queue is charged: there is none above the first, the root.
 fn weights<'a>(
-    c: &'a [u32; 190],
-    edge: &'a [u8; 21],
-    queue: &'a [u8; 21],
+    c: &'a [u32; MAX_EDGES],
+    edge: &'a [u8; MAX_LABELS],
+    queue: &'a [u8; MAX_LABELS],
     count: usize,
-) -> [u32; 21]
+) -> [u32; MAX_LABELS]
     requires { ⌜ (1 ≤ count) × (count ≤ 21) × OneEach (BelowRoot (now queue) count) (now edge) ⌝ }
     ensures { λ r. ⌜ Weighed (BelowRoot (now (queue .entry)) count) (now (c .entry)) (now (edge .entry)) r ⌝ }
 {
-    let mut weight = [0u32; 21];
+    let mut weight = [0u32; MAX_LABELS];
     for i in 1..count {
         let v = wide(queue[i]);
         weight[v] = c[wide(edge[v])];
@@ -148,27 +151,27 @@ fn at_one(w: u8, dearest: u32, near: u32, c: u32, slack: u32) -> u8
 // Every free edge at vertex 1 or outside the tree, its ruling into res: elsewhere than at vertex 1 against the dearest on its circle, from
 // the label of one end to that of the other. And for each label the cheapest edge that can take the place of the one above it.
 fn judge_outside<'a>(
-    a: &'a [u8; 190],
-    from: &'a [u8; 190],
-    to: &'a [u8; 190],
-    mark: &'a [u8; 190],
-    w: &'a [u8; 190],
-    c: &'a [u32; 190],
-    parent: &'a [u8; 21],
-    depth: &'a [u8; 21],
-    weight: &'a [u32; 21],
+    a: &'a [u8; MAX_EDGES],
+    from: &'a [u8; MAX_EDGES],
+    to: &'a [u8; MAX_EDGES],
+    mark: &'a [u8; MAX_EDGES],
+    w: &'a [u8; MAX_EDGES],
+    c: &'a [u32; MAX_EDGES],
+    parent: &'a [u8; MAX_LABELS],
+    depth: &'a [u8; MAX_LABELS],
+    weight: &'a [u32; MAX_LABELS],
     m: usize,
     dearest: u32,
     near: u32,
     slack: u32,
-    res: &mut [u8; 190],
-    cheapest: &mut [u32; 21],
+    res: &mut [u8; MAX_EDGES],
+    cheapest: &mut [u32; MAX_LABELS],
 )
     requires { ⌜ Prepared m (now a) (now from) (now to) (now mark) (now w) (now c) (now parent) (now depth) (now weight) dearest near
         × (now res ≡ blank) × (now cheapest ≡ replicate 21 noCharge) ⌝ }
     ensures { λ _. ⌜ ((p : Prepared m (now (a .entry)) (now (from .entry)) (now (to .entry)) (now (mark .entry)) (now (w .entry))
         (now (c .entry)) (now (parent .entry)) (now (depth .entry)) (now (weight .entry)) dearest near)
-        → Judged (graphIn p) (now (w .entry)) (now (c .entry)) (p .rep) (rootingIn p) near slack (now (res .exit)) (now (cheapest .exit))
+        → RuledOutside (graphIn p) (now (w .entry)) (now (c .entry)) (p .rep) (rootingIn p) near slack (now (res .exit)) (now (cheapest .exit))
         m) ⌝ }
 {
     for k in 0..m {
@@ -193,13 +196,13 @@ fn judge_outside<'a>(
 
 // The edge above each label of the queue but the root, its ruling into res: it is free and in the tree.
 fn inside<'a>(
-    c: &'a [u32; 190],
-    edge: &'a [u8; 21],
-    cheapest: &'a [u32; 21],
-    queue: &'a [u8; 21],
+    c: &'a [u32; MAX_EDGES],
+    edge: &'a [u8; MAX_LABELS],
+    cheapest: &'a [u32; MAX_LABELS],
+    queue: &'a [u8; MAX_LABELS],
     count: usize,
     slack: u32,
-    res: &mut [u8; 190],
+    res: &mut [u8; MAX_EDGES],
 )
     requires { ⌜ (1 ≤ count) × (count ≤ 21) × OneEach (BelowRoot (now queue) count) (now edge) × (length (now res) ≡ maxEdges) ⌝ }
     ensures { λ _. ⌜ Forcing (BelowRoot (now (queue .entry)) count) (now (c .entry)) (now (edge .entry)) (now (cheapest .entry)) slack
@@ -225,7 +228,7 @@ fn ruling_of(mark: u8, old: u8) -> u8
 }
 
 // Edge by edge, in res: what its mark says, or for a free edge what was found.
-fn finish<'a>(mark: &'a [u8; 190], m: usize, res: &mut [u8; 190])
+fn finish<'a>(mark: &'a [u8; MAX_EDGES], m: usize, res: &mut [u8; MAX_EDGES])
     requires { ⌜ (m ≤ maxEdges) × (length (now res) ≡ maxEdges) ⌝ }
     ensures { λ _. ⌜ Updated (finalAt (now (mark .entry)) (now (res .entry))) (now (res .entry)) (now (res .exit)) m ⌝ }
 {
@@ -240,14 +243,14 @@ fn finish<'a>(mark: &'a [u8; 190], m: usize, res: &mut [u8; 190])
 pub(crate) fn rulings<'a>(
     n: usize,
     m: usize,
-    a: &'a [u8; 190],
-    b: &'a [u8; 190],
-    mark: &'a [u8; 190],
-    w: &'a [u8; 190],
-    c: &'a [u32; 190],
-    rep: &'a [u8; 21],
+    a: &'a [u8; MAX_EDGES],
+    b: &'a [u8; MAX_EDGES],
+    mark: &'a [u8; MAX_EDGES],
+    w: &'a [u8; MAX_EDGES],
+    c: &'a [u32; MAX_EDGES],
+    rep: &'a [u8; MAX_LABELS],
     slack: u32,
-    res: &mut [u8; 190],
+    res: &mut [u8; MAX_EDGES],
 )
     requires { ⌜ ((cost : List ℤ) × Spans (graphOf n m (now a) (now b) cost (now mark)) (now w)
         × Merges (graphOf n m (now a) (now b) cost (now mark)) (now rep)) × (now res ≡ blank) ⌝ }
@@ -256,16 +259,16 @@ pub(crate) fn rulings<'a>(
         → RuledBy (graphOf n m (now (a .entry)) (now (b .entry)) cost (now (mark .entry))) (now (w .entry)) (now (c .entry)) slack
         (now (res .exit))) × (length (now (res .exit)) ≡ maxEdges) ⌝ }
 {
-    let mut from = [0u8; 190];
-    let mut to = [0u8; 190];
+    let mut from = [0u8; MAX_EDGES];
+    let mut to = [0u8; MAX_EDGES];
     labels(a, rep, m, &mut from);
     labels(b, rep, m, &mut to);
-    let mut t = [[0u8; 20]; 20];
+    let mut t = [[0u8; MAX_VERTICES]; MAX_VERTICES];
     table(a, &from, &to, mark, w, m, &mut t);
-    let mut parent = [0u8; 21];
-    let mut depth = [0u8; 21];
-    let mut edge = [0u8; 21];
-    let mut queue = [0u8; 21];
+    let mut parent = [0u8; MAX_LABELS];
+    let mut depth = [0u8; MAX_LABELS];
+    let mut edge = [0u8; MAX_LABELS];
+    let mut queue = [0u8; MAX_LABELS];
     let count = hang(
         &from,
         &to,
@@ -278,7 +281,7 @@ pub(crate) fn rulings<'a>(
     let weight = weights(c, &edge, &queue, count);
     let one = near_one(a, mark, w, c, m);
     let near = one.cheapest;
-    let mut cheapest = [NONE; 21];
+    let mut cheapest = [NONE; MAX_LABELS];
     judge_outside(
         a,
         &from,

@@ -13,10 +13,10 @@ use Rattle.lists.specs.Numbers.{upTo}
 use Rattle.lists.specs.Rows.{row, row-at}
 use Rattle.graph.specs.declared.Graph.{Graph}
 use Rattle.graph.specs.Network.{Mark, free, required, excluded, network}
-use Rattle.onetree.specs.OneTree.{Infeasible, Barred, Forced}
-use Rattle.onetree.specs.Inputs.{multiplier}
-use Rattle.onetree.specs.Enumeration.{Ruling, keeps, forces, bars, wasRequired, wasExcluded, barredB, forcedB, ruled, ruling}
-use Rattle.onetree.specs.Rulings.{rules-nothing, rules-required, rules-excluded, rules-exactly, both-infeasible}
+use Rattle.tree_theory.specs.OneTree.{Infeasible, Barred, Forced}
+use Rattle.tree_theory.specs.Inputs.{multiplier}
+use Rattle.tree_theory.specs.Enumeration.{Ruling, keeps, forces, bars, wasRequired, wasExcluded, barredB, forcedB, ruled, ruling}
+use Rattle.tree_theory.specs.Rulings.{rules-nothing, rules-required, rules-excluded, rules-exactly, both-infeasible}
 use Rattle.onetree.specs.Answers.{rulingByte}
 use Rattle.onetree_theorems.specs.Calls.{RuledExactly}
 

@@ -17,8 +17,8 @@ use Rattle.graph.specs.declared.Graph.{Graph}
 use Rattle.graph.specs.Limits.{maxMultiplier, maxCeiling, maxSweeps, maxStep}
 use Rattle.graph.specs.Network.{free, required, excluded, network}
 use Rattle.graph.specs.Valid.{Valid}
-use Rattle.onetree.specs.OneTree.{Edges, OneTree, Least, Infeasible, Barred, Forced, bound}
-use Rattle.onetree.specs.Inputs.{multiplier}
+use Rattle.tree_theory.specs.OneTree.{Edges, OneTree, Least, Infeasible, Barred, Forced, bound}
+use Rattle.tree_theory.specs.Inputs.{multiplier}
 use Rattle.onetree.specs.Answers.{Reply, refused, none, bounded, treeReply, treeLeaves, ruleReply, ruleLeaves}
 use Rattle.machine.specs.declared.Settings.{Settings}
 use Rattle.machine.specs.Machine.{Opening, State, noSearch}

@@ -18,9 +18,9 @@ use Rattle.graph.specs.declared.Graph.{Graph}
 use Rattle.graph.specs.Limits.{maxMultiplier, maxCeiling, maxSweeps, maxStep}
 use Rattle.graph.specs.Valid.{Valid, valid}
 use Rattle.graph.specs.Meaning.{valid-true, true-valid}
-use Rattle.onetree.specs.Inputs.{multiplier, multipliersFit, ceilingFits}
-use Rattle.onetree.specs.Multipliers.{fit-ranged, ranged-fit, multiplier-range}
-use Rattle.onetree.specs.Answers.{inputFault, treeFault, ruleFault}
+use Rattle.tree_theory.specs.Inputs.{multiplier, multipliersFit, ceilingFits, inputFault}
+use Rattle.tree_theory.specs.Multipliers.{fit-ranged, ranged-fit, multiplier-range}
+use Rattle.onetree.specs.Answers.{treeFault, ruleFault}
 use Rattle.machine.specs.Machine.{Opening}
 use Rattle.machine.specs.Calls.{fault}
 use Rattle.onetree_theorems.specs.Calls.{Asked, First, Fine, LengthsFit, MultipliersFit, treeAsks, ruleAsks, openingAsks}

@@ -18,23 +18,9 @@ use Rattle.graph.specs.Places.{place-at, place-zero, place-past}
 use Rattle.graph.specs.Valid.{Valid, EdgeValid, EdgeAt, valid}
 use Rattle.graph.specs.Meaning.{valid-true, true-valid}
 use Rattle.graph.specs.Same.{SameGraph}
-use Rattle.onetree.specs.Inputs.{multiplier, multipliersFit, ceilingFits}
-use Rattle.onetree.specs.Enumeration.{leastTree, ruling}
-use Rattle.onetree.specs.Answers.{
-  unlessFault,
-  leaves,
-  inputFault,
-  treeFault,
-  treeSays,
-  treeWrites,
-  treeReply,
-  treeLeaves,
-  ruleFault,
-  ruleSays,
-  ruleWrites,
-  ruleReply,
-  ruleLeaves,
-}
+use Rattle.tree_theory.specs.Inputs.{multiplier, multipliersFit, ceilingFits, inputFault}
+use Rattle.tree_theory.specs.Enumeration.{leastTree, ruling}
+use Rattle.onetree.specs.Answers.{unlessFault, leaves, treeFault, treeSays, treeWrites, treeReply, treeLeaves, ruleFault, ruleSays, ruleWrites, ruleReply, ruleLeaves}
 use Rattle.machine.specs.declared.Settings.{Settings}
 use Rattle.machine.specs.Machine.{Opening, State, noSearch, searching, trimmed, held, begin}
 use Rattle.machine.specs.Calls.{opens, accepted, accepts, fault, openedBy, step}

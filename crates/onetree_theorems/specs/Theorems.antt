@@ -15,11 +15,11 @@ use Rattle.lists.specs.Rows.{row, row-size}
 use Rattle.integers.specs.Order.{le-trans, test-lt, test-not-lt, le-lt-clash}
 use Rattle.graph.specs.declared.Graph.{Graph}
 use Rattle.graph.specs.Network.{network}
-use Rattle.onetree.specs.OneTree.{Edges, OneTree, Least, Infeasible, bound}
-use Rattle.onetree.specs.Inputs.{multiplier}
-use Rattle.onetree.specs.Enumeration.{Tree, noTree, aTree, leastTree, ruling}
-use Rattle.onetree.specs.Agree.{least-unique}
-use Rattle.onetree.specs.LeastTree.{Right, tree-right, Above, infeasible-tree}
+use Rattle.tree_theory.specs.OneTree.{Edges, OneTree, Least, Infeasible, bound}
+use Rattle.tree_theory.specs.Inputs.{multiplier}
+use Rattle.tree_theory.specs.Enumeration.{Tree, noTree, aTree, leastTree, ruling}
+use Rattle.tree_theory.specs.Agree.{least-unique}
+use Rattle.tree_theory.specs.LeastTree.{Right, tree-right, Above, infeasible-tree}
 use Rattle.onetree.specs.Answers.{
   Reply,
   refused,

@@ -8,7 +8,7 @@ use borrow.Author.Tests.{eq-eqb, le-leb}
 use Rattle.integers.specs.Range.{InRange, within-range, range-within}
 use Rattle.graph.specs.Limits.{maxCeiling, maxSweeps, maxStep}
 use Rattle.graph.specs.Meaning.{true-valid}
-use Rattle.onetree.specs.Inputs.{ceilingFits}
+use Rattle.tree_theory.specs.Inputs.{ceilingFits}
 use Rattle.machine.specs.Machine.{Opening, held}
 use Rattle.machine.specs.Calls.{fault}
 use Rattle.machine.specs.Trimmed.{Trim, trim-trimmed}

@@ -10,7 +10,7 @@ use lib.ListN.{getD}
 use lib.IntN.{pos}
 use Rattle.graph.specs.Limits.{maxVertices, maxEdges, maxMark, maxCount}
 use Rattle.graph.specs.declared.Graph.{Graph}
-use Rattle.onetree.specs.Inputs.{ceilingFits}
+use Rattle.tree_theory.specs.Inputs.{ceilingFits}
 use Rattle.machine.specs.Requireds.{requireds}
 use Rattle.machine.specs.Calls.{fault}
 use Rattle.search.specs.Record.{maxNodes, noSettings, node, isOpen, hasTour, openingIn}

@@ -10,7 +10,7 @@ use lib.ListN.{getD}
 use lib.IntN.{ℤ, pos, ℤ-discrete}
 use Rattle.graph.specs.Limits.{maxVertices, maxEdges, maxMark, maxCount}
 use Rattle.graph.specs.declared.Graph.{Graph}
-use Rattle.onetree.specs.Inputs.{ceilingFits}
+use Rattle.tree_theory.specs.Inputs.{ceilingFits}
 use Rattle.machine.specs.declared.Settings.{Settings}
 use Rattle.machine.specs.Requireds.{requireds}
 use Rattle.machine.specs.Calls.{fault}

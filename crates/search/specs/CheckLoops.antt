@@ -19,7 +19,7 @@ use Rattle.lists.specs.Fill.{fill, fit, fill-is}
 use Rattle.integers.specs.Words.{back32, back64}
 use Rattle.graph.specs.Limits.{maxEdges}
 use Rattle.graph.specs.Network.{markOf}
-use Rattle.onetree.specs.Valid.{isRequired}
+use Rattle.tree_theory.specs.Valid.{isRequired}
 use Rattle.machine.specs.Requireds.{requireds, requireds-last}
 use Rattle.search.specs.Record.{node, isOpen}
 use Rattle.search.specs.Canonical.{Flags, Tidy, Stands, Canonical}

@@ -16,7 +16,7 @@ use Rattle.lists.specs.Bools.{Says}
 use Rattle.lists.specs.Fill.{fit}
 use Rattle.graph.specs.Limits.{maxVertices, maxEdges, maxCount}
 use Rattle.graph.specs.declared.Graph.{Graph}
-use Rattle.onetree.specs.Inputs.{ceilingFits}
+use Rattle.tree_theory.specs.Inputs.{ceilingFits}
 use Rattle.machine.specs.declared.Settings.{Settings}
 use Rattle.machine.specs.Machine.{Opening}
 use Rattle.machine.specs.Calls.{fault}

@@ -17,7 +17,7 @@ use Rattle.graph.specs.Limits.{maxEdges, maxCost}
 use Rattle.graph.specs.Network.{Network, free, excluded, markOf, place, network}
 use Rattle.graph.specs.Places.{place-at, place-zero, place-past}
 use Rattle.graph.specs.Valid.{Valid}
-use Rattle.onetree.specs.OneTree.{Edges}
+use Rattle.tree_theory.specs.OneTree.{Edges}
 use Rattle.machine.specs.Machine.{Marks, passes}
 use Rattle.compaction.specs.Ranks.{rank, nth, Kept, rank-yes, rank-most, rank-mono, rank-less, rank-nth, nth-rank, nth-zero, nth-past}
 use Rattle.compaction.specs.Thinned.{thin}

@@ -14,8 +14,8 @@ use lib.IntN.{pos}
 use Rattle.lists.specs.Bools.{by-cases, bit}
 use Rattle.graph.specs.declared.Graph.{Graph}
 use Rattle.graph.specs.Limits.{maxEdges}
-use Rattle.onetree.specs.OneTree.{Edges}
-use Rattle.onetree.specs.Arrays.{entry}
+use Rattle.tree_theory.specs.OneTree.{Edges}
+use Rattle.tree_theory.specs.Arrays.{entry}
 use Rattle.compaction.specs.Ranks.{rank, rank-yes, rank-no, rank-most, rank-less}
 use Rattle.search.specs.Filling.{Filling}
 

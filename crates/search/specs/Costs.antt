@@ -21,7 +21,7 @@ use Rattle.graph.specs.declared.Graph.{Graph}
 use Rattle.graph.specs.Limits.{maxCost}
 use Rattle.graph.specs.Network.{network}
 use Rattle.graph.specs.Places.{network-cost}
-use Rattle.onetree.specs.Arrays.{bytes, edge-in}
+use Rattle.tree_theory.specs.Arrays.{bytes, edge-in}
 use Rattle.tours.specs.Tours.{cost}
 use Rattle.machine.specs.Machine.{edgesOf}
 use Rattle.search.specs.Record.{bits}

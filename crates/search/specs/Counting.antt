@@ -21,8 +21,8 @@ use Rattle.graph.specs.declared.Graph.{Graph}
 use Rattle.graph.specs.Network.{network}
 use Rattle.graph.specs.Places.{network-a, network-b}
 use Rattle.graph.specs.Valid.{Valid}
-use Rattle.onetree.specs.OneTree.{Edges}
-use Rattle.onetree.specs.Arrays.{bytes}
+use Rattle.tree_theory.specs.OneTree.{Edges}
+use Rattle.tree_theory.specs.Arrays.{bytes}
 use Rattle.tours.specs.Tours.{degree}
 
 -- "the number of the tree's legs that touch buoy i", of the first k edges

@@ -8,7 +8,7 @@ use borrow.Author.Tests.{eq-eqb, ne-eqb, le-leb, lt-leb}
 use Rattle.graph.specs.Limits.{maxVertices, maxSweeps, maxStep}
 use Rattle.graph.specs.Valid.{valid}
 use Rattle.graph.specs.Meaning.{not-valid}
-use Rattle.onetree.specs.Inputs.{multipliersFit, ceilingFits}
+use Rattle.tree_theory.specs.Inputs.{multipliersFit, ceilingFits}
 use Rattle.machine.specs.Machine.{Opening}
 use Rattle.machine.specs.Calls.{fault}
 

@@ -16,7 +16,7 @@ use Rattle.graph.specs.declared.Graph.{Graph}
 use Rattle.graph.specs.Limits.{maxVertices, maxEdges, maxCount}
 use Rattle.graph.specs.Network.{network}
 use Rattle.graph.specs.Valid.{Valid}
-use Rattle.onetree.specs.Arrays.{bytes}
+use Rattle.tree_theory.specs.Arrays.{bytes}
 use Rattle.tours.specs.Tours.{cost}
 use Rattle.machine.specs.Outcomes.{closes, finds, splits, aTour}
 use Rattle.machine.specs.Machine as M

@@ -24,9 +24,9 @@ use Rattle.integers.specs.Parts.{up, dn, mag-of-parts, add-up, add-dn, neg-up, 
 use Rattle.integers.specs.Range.{within, within-range, InRange, clamp, clamp-range}
 use Rattle.graph.specs.Limits.{maxVertices, maxMultiplier, maxStep}
 use Rattle.graph.specs.Network.{Network}
-use Rattle.onetree.specs.OneTree.{Edges}
-use Rattle.onetree.specs.Inputs.{multiplier, multipliersFit}
-use Rattle.onetree.specs.Multipliers.{fit-ranged, ranged-fit}
+use Rattle.tree_theory.specs.OneTree.{Edges}
+use Rattle.tree_theory.specs.Inputs.{multiplier, multipliersFit}
+use Rattle.tree_theory.specs.Multipliers.{fit-ranged, ranged-fit}
 use Rattle.tours.specs.Tours.{degree}
 use Rattle.machine.specs.Machine.{gained}
 

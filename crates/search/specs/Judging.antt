@@ -19,12 +19,12 @@ use Rattle.graph.specs.declared.Graph.{Graph}
 use Rattle.graph.specs.Limits.{maxEdges}
 use Rattle.graph.specs.Network.{Network, free, network}
 use Rattle.graph.specs.Valid as value
-use Rattle.onetree.specs.OneTree.{Edges, OneTree}
-use Rattle.onetree.specs.Agree.{Agree}
-use Rattle.onetree.specs.Arrays.{bytes, edge-in, network-valid, network-n}
-use Rattle.onetree.specs.Inputs.{multiplier}
-use Rattle.onetree.specs.Enumeration.{noTree, aTree, leastTree, ruling}
-use Rattle.onetree.specs.LeastTree.{Right, tree-right}
+use Rattle.tree_theory.specs.OneTree.{Edges, OneTree}
+use Rattle.tree_theory.specs.Agree.{Agree}
+use Rattle.tree_theory.specs.Arrays.{bytes, edge-in, network-valid, network-n}
+use Rattle.tree_theory.specs.Inputs.{multiplier}
+use Rattle.tree_theory.specs.Enumeration.{noTree, aTree, leastTree, ruling}
+use Rattle.tree_theory.specs.LeastTree.{Right, tree-right}
 use Rattle.onetree.specs.Answers.{rulingByte}
 use Rattle.tours.specs.Tours.{degree, isTour}
 use Rattle.machine.specs.Outcomes.{aTour}

@@ -12,7 +12,7 @@ use lib.Seq.{getD-set-same, getD-set-other}
 use Rattle.lists.specs.Fill.{fill, fill-is, fill-at, fill-size}
 use Rattle.graph.specs.Limits.{maxEdges}
 use Rattle.graph.specs.Network.{Mark, free, required, excluded}
-use Rattle.onetree.specs.Enumeration.{Ruling, keeps, forces, bars, wasRequired, wasExcluded}
+use Rattle.tree_theory.specs.Enumeration.{Ruling, keeps, forces, bars, wasRequired, wasExcluded}
 use Rattle.onetree.specs.Answers.{rulingByte}
 use Rattle.machine.specs.Machine.{Marks, isFree, markBy}
 use Rattle.search.specs.Record.{byteOf}

@@ -18,13 +18,12 @@ use Rattle.graph.specs.Limits.{maxEdges}
 use Rattle.graph.specs.Network.{network}
 use Rattle.graph.specs.Valid as value
 use Rattle.graph.specs.Meaning.{true-valid}
-use Rattle.onetree.specs.OneTree.{Edges}
-use Rattle.onetree.specs.Inputs.{multiplier, multipliersFit, ceilingFits}
-use Rattle.onetree.specs.Enumeration.{Tree, noTree, aTree, leastTree, ruling}
+use Rattle.tree_theory.specs.OneTree.{Edges}
+use Rattle.tree_theory.specs.Inputs.{multiplier, multipliersFit, ceilingFits, inputFault}
+use Rattle.tree_theory.specs.Enumeration.{Tree, noTree, aTree, leastTree, ruling}
 use Rattle.onetree.specs.declared.RuleAnswer.{RuleAnswer}
 use Rattle.onetree.specs.declared.RuleAnswer.the-variants as answer
-use Rattle.onetree.specs.Answers.{Reply, refused, none, bounded, ruleMeaning, inputFault, ruleFault, ruleSays, ruleReply, rulingByte, padded, passTree, passRulings}
-use Rattle.onetree.specs.Looks.{HintAfter}
+use Rattle.onetree.specs.Answers.{Reply, refused, none, bounded, ruleMeaning, ruleFault, ruleSays, ruleReply, rulingByte, padded, passTree, passRulings, HintAfter}
 use Rattle.machine.specs.Machine.{shut, pass}
 use Rattle.search.specs.Record.{bestBytes}
 use Rattle.search.specs.Judging.{treeBytes, pass-none, pass-above}

@@ -14,7 +14,7 @@ use Rattle.lists.specs.Fill.{fit, fit-size, fit-at}
 use Rattle.graph.specs.Limits.{maxEdges}
 use Rattle.graph.specs.Valid.{Valid}
 use Rattle.graph.specs.Network.{network}
-use Rattle.onetree.specs.Arrays as onetree
+use Rattle.tree_theory.specs.Arrays as onetree
 use Rattle.tours.specs.Tours.{cost}
 use Rattle.machine.specs.Outcomes.{noTour, aTour}
 use Rattle.machine.specs.Machine.{Opening, State, noSearch, searching, held, begin, costOf, finished}

@@ -12,8 +12,8 @@ use Rattle.lists.specs.Fill.{fit}
 use Rattle.graph.specs.declared.Graph.{Graph}
 use Rattle.graph.specs.Limits.{maxEdges, maxStep, maxCount}
 use Rattle.graph.specs.Network.{network}
-use Rattle.onetree.specs.Arrays.{bytes}
-use Rattle.onetree.specs.Inputs.{multipliersFit, ceilingFits}
+use Rattle.tree_theory.specs.Arrays.{bytes}
+use Rattle.tree_theory.specs.Inputs.{multipliersFit, ceilingFits}
 use Rattle.machine.specs.declared.Settings.{Settings}
 use Rattle.machine.specs.Machine.{Marks, passes, Progress, openNode, settled, openTop, ran}
 use Rattle.machine.specs.Kept.{Nodes}

@@ -14,8 +14,8 @@ use Rattle.graph.specs.Limits.{maxEdges}
 use Rattle.graph.specs.Network.{Network, free, markOf, place, network}
 use Rattle.graph.specs.Places.{place-at, place-zero, place-past}
 use Rattle.graph.specs.Valid.{Valid}
-use Rattle.onetree.specs.OneTree.{Edges}
-use Rattle.onetree.specs.Inputs.{multiplier, multipliersFit}
+use Rattle.tree_theory.specs.OneTree.{Edges}
+use Rattle.tree_theory.specs.Inputs.{multiplier, multipliersFit}
 use Rattle.machine.specs.Outcomes.{closes}
 use Rattle.tours.specs.Tours as T
 use Rattle.machine.specs.Machine as M

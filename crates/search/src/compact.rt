@@ -10,7 +10,7 @@ ghost use Rattle.lists.specs.Fill.{fit};
 ghost use Rattle.graph.specs.Limits.{maxEdges, maxStep};
 ghost use Rattle.graph.specs.Network.{network};
 ghost use Rattle.graph.specs.Valid.{Valid, graphOf};
-ghost use Rattle.onetree.specs.Inputs.{multipliersFit, ceilingFits};
+ghost use Rattle.tree_theory.specs.Inputs.{multipliersFit, ceilingFits};
 ghost use Rattle.machine.specs.Machine.{passes};
 ghost use Rattle.search.specs.Record.{marksIn};
 ghost use Rattle.search.specs.Pushing.{bytesOf};

@@ -5,7 +5,7 @@ ghost use Rattle.integers.specs.Range.{InRange};
 ghost use Rattle.graph.specs.Limits.{maxCost, maxEdges};
 ghost use Rattle.graph.specs.Network.{network};
 ghost use Rattle.graph.specs.Valid.{Valid};
-ghost use Rattle.onetree.specs.Arrays.{bytes};
+ghost use Rattle.tree_theory.specs.Arrays.{bytes};
 ghost use Rattle.tours.specs.Tours.{cost};
 ghost use Rattle.search.specs.Costs.{Ticked};
 use graph::Graph;

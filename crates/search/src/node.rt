@@ -8,7 +8,7 @@ ghost use Rattle.lists.specs.Fill.{fit};
 ghost use Rattle.integers.specs.Range.{InRange, clamp};
 ghost use Rattle.graph.specs.Limits.{maxVertices, maxEdges, maxMultiplier, maxStep};
 ghost use Rattle.graph.specs.Valid.{Valid, graphOf};
-ghost use Rattle.onetree.specs.Inputs.{multipliersFit, ceilingFits};
+ghost use Rattle.tree_theory.specs.Inputs.{multipliersFit, ceilingFits};
 ghost use Rattle.machine.specs.Outcomes.{closes};
 ghost use Rattle.graph.specs.Network.{network};
 ghost use Rattle.machine.specs.Machine.{branch, passes};

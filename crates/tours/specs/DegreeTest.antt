@@ -7,8 +7,8 @@ use Rattle.lists.specs.Bools.{by-cases}
 use Rattle.lists.specs.Members.{_∈_}
 use Rattle.lists.specs.Numbers.{upTo}
 use Rattle.graph.specs.Network.{Network}
-use Rattle.onetree.specs.OneTree.{Edges, OneTree}
-use Rattle.onetree.specs.Valid.{Valid}
+use Rattle.tree_theory.specs.OneTree.{Edges, OneTree}
+use Rattle.tree_theory.specs.Valid.{Valid}
 use Rattle.tours.specs.Tours.{degree, isTour}
 use Rattle.tours.specs.TourTest.{test-tour, tour-test}
 use Rattle.tours.specs.Degrees.{tour-degree}

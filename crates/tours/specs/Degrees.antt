@@ -14,9 +14,9 @@ use Rattle.lists.specs.Select.{keep, select, select-cong}
 use Rattle.lists.specs.Numbers.{upTo, in-upTo}
 use Rattle.integers.specs.Sums.{sumZ}
 use Rattle.graph.specs.Network.{Network}
-use Rattle.onetree.specs.OneTree.{Edges}
-use Rattle.onetree.specs.Agree.{Agree}
-use Rattle.onetree.specs.Valid.{Valid}
+use Rattle.tree_theory.specs.OneTree.{Edges}
+use Rattle.tree_theory.specs.Agree.{Agree}
+use Rattle.tree_theory.specs.Valid.{Valid}
 use Rattle.tours.specs.Tours.{degree, Tour}
 use Rattle.tours.specs.Trips.{atEnds}
 use Rattle.tours.specs.TourTree.{twice-each}

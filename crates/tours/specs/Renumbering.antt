@@ -16,8 +16,8 @@ use Rattle.lists.specs.Distinct.{Distinct, distinct-select}
 use Rattle.lists.specs.Numbers.{upTo, upTo-in, in-upTo, distinct-upTo, length-upTo}
 use Rattle.integers.specs.Sums.{Whole, fills, same-members, sum-map, sum-same}
 use Rattle.graph.specs.Network.{Network, required, excluded}
-use Rattle.onetree.specs.OneTree.{Edges, others}
-use Rattle.onetree.specs.Valid.{others-in, in-others}
+use Rattle.tree_theory.specs.OneTree.{Edges, others}
+use Rattle.tree_theory.specs.Valid.{others-in, in-others}
 use Rattle.tours.specs.Orders.{elem, elem-in, in-elem}
 use Rattle.tours.specs.Tours.{Ends, Joined, Trip, Tour, Allowed, cost, Feasible}
 use Rattle.tours.specs.OneNetwork.{SameEdge, OneNetwork}

@@ -17,8 +17,8 @@ use Rattle.lists.specs.Numbers.{upTo}
 use Rattle.lists.specs.Same.{shuffle-same, shuffle-length}
 use Rattle.integers.specs.Sums.{Whole, fills}
 use Rattle.graph.specs.Network.{Network}
-use Rattle.onetree.specs.OneTree.{Edges, others}
-use Rattle.onetree.specs.Valid.{length-others, distinct-others}
+use Rattle.tree_theory.specs.OneTree.{Edges, others}
+use Rattle.tree_theory.specs.Valid.{length-others, distinct-others}
 use Rattle.tours.specs.Orders.{distinct, distinct-is, is-distinct, words, words-in, in-words}
 use Rattle.tours.specs.Tours.{Ends, Joined, Trip, Tour, isJoined, isTrip, isTour}
 

@@ -21,8 +21,8 @@ use Rattle.graph.specs.Network.{Network}
 use Rattle.spanning.specs.Walks.{Walk, stay, along as forth, back, walk-trans, walk-sym}
 use Rattle.spanning.specs.Components.{rank-le}
 use Rattle.spanning.specs.Connected.{joined-rank}
-use Rattle.onetree.specs.OneTree.{Edges, others, OneTree, atOne, away, charge, bound}
-use Rattle.onetree.specs.Valid.{Valid, others-in, in-others, distinct-others, length-others, far-ends}
+use Rattle.tree_theory.specs.OneTree.{Edges, others, OneTree, atOne, away, charge, bound}
+use Rattle.tree_theory.specs.Valid.{Valid, others-in, in-others, distinct-others, length-others, far-ends}
 use Rattle.tours.specs.Tours.{Ends, Joined, Trip, Tour, Allowed, cost}
 use Rattle.tours.specs.Trips.{ends-turned, distinct-end, along, along-length, along-in, closed-once, atEnds, along-sum}
 

@@ -16,7 +16,7 @@ use Rattle.lists.specs.Distinct.{Distinct}
 use Rattle.lists.specs.Numbers.{upTo}
 use Rattle.integers.specs.Sums.{sumZ}
 use Rattle.graph.specs.Network.{Network, required, excluded}
-use Rattle.onetree.specs.OneTree.{Edges, others}
+use Rattle.tree_theory.specs.OneTree.{Edges, others}
 use Rattle.tours.specs.Orders.{distinct, words}
 
 -- ---- as statements

@@ -12,7 +12,7 @@ use Rattle.lists.specs.Distinct.{Distinct}
 use Rattle.lists.specs.Numbers.{upTo}
 use Rattle.integers.specs.Sums.{sumZ, left-comm}
 use Rattle.graph.specs.Network.{Network}
-use Rattle.onetree.specs.OneTree.{Edges}
+use Rattle.tree_theory.specs.OneTree.{Edges}
 use Rattle.tours.specs.Tours.{Ends, Joined, Trip}
 
 pub ends-turned : (g : Network) (k u v : ℕ) → Ends g k u v → Ends g k v u

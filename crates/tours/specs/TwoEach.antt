@@ -18,8 +18,8 @@ use Rattle.lists.specs.Numbers.{upTo, upTo-in, distinct-upTo}
 use Rattle.integers.specs.Sums.{more}
 use Rattle.graph.specs.Network.{Network}
 use Rattle.spanning.specs.Walks.{Walk, stay, along as forth, back as backwards}
-use Rattle.onetree.specs.OneTree.{Edges, others, OneTree, atOne, away}
-use Rattle.onetree.specs.Valid.{Valid, others-in, in-others, length-others}
+use Rattle.tree_theory.specs.OneTree.{Edges, others, OneTree, atOne, away}
+use Rattle.tree_theory.specs.Valid.{Valid, others-in, in-others, length-others}
 use Rattle.tours.specs.Tours.{degree, Ends, Joined, Trip, Tour}
 use Rattle.tours.specs.Trips.{ends-turned, among-ends, distinct-end, along, along-in, along-ends, open-once}
 

@@ -1,93 +1,86 @@
 -- Each way out is one case of the pass: pass-refused, pass-none, pass-some.
+use mathlib.Core.Path.{_≡_, refl, _∙_, ap}
 use borrow.Author.Needs.{needs}
-use mathlib.Core.Path.{_≡_, refl, sym, _∙_}
-use mathlib.Core.List.{List}
-use Prim.Native.Nat.{ℕ}
 use borrow.Author.Tests.{not-true, not-false}
 use mir.Facts.{toZ-ofZ}
 use Rattle.integers.specs.Words.{back64}
 use Rattle.graph.specs.declared.Graph.{Graph}
 use Rattle.graph.specs.Valid.{graphOf}
 use Rattle.onetree.specs.Answers.{ruleMeaning, ruleFault}
-use Rattle.onetree.specs.RuleCall.{rule-no-fault, pass-refused, pass-none, pass-some}
-use Rattle.onetree.specs.Judged.{JudgedIs}
+use Rattle.onetree.specs.Ceiling.{PassLists, passLists, AgainstCeiling, RuledOrRefused, ruled-refused, ruled-accepted}
+use Rattle.onetree.specs.RuleCall.{pass-refused, pass-none, pass-some}
 use Rattle.onetree.proofs.pass.Statement.{statement}
 use Rattle.onetree.proofs.pass.Tie as tie
 
-abbrev at-start : tie.After-rule-fault → tie.Start
-at-start c = c .before .before
-
+-- the graph and the lists that were lent
 abbrev of : tie.Start → Graph
 of c = let a = c .args in graphOf (a .n) (a .m) (a .a .now) (a .b .now) (a .cost .now) (a .mark .now)
 
-fault : (c : tie.After-rule-fault) → let a = at-start c .args in c .rule-fault .result ≡ ruleFault (of (at-start c)) (a .multipliers .now)
-    (a .ceiling) (a .m)
-fault c = rw (toZ-ofZ (at-start c .fits .ceiling)) at (c .rule-fault .ensures)
+abbrev lent : tie.Start → PassLists
+lent c = let a = c .args in passLists (a .tree .now) (a .rulings .now) (a .order .now)
 
--- the input has no fault
-faultless : (c : tie.Else1)
-    → let start = at-start (c .before) in
-    let a = start .args in ruleFault (of start) (a .multipliers .now) (a .ceiling) (a .m) ≡ 0
-faultless c = sym (fault (c .before)) ∙ c .if1 .left
+abbrev start : tie.After-judge → tie.Start
+start c = let at-judge-arg = c .before .before .before in at-judge-arg .before .before
 
-abbrev at-if1 : tie.After-judge → tie.Else1
-at-if1 c = c .before .before .before .before .before .before .before
+-- what judge left in the lists
+abbrev left : tie.After-judge → PassLists
+left c = let l = c .judge .last .1 .1 .1 .1 .1 .1 .1 .1 in passLists (l .0) (l .1 .0) (l .1 .1 .0)
 
--- what was written
-abbrev tree : tie.After-judge → List ℕ
-tree c = c .judge .last .1 .1 .1 .1 .1 .1 .1 .1 .1 .0
+judged : (c : tie.After-judge) → let s = start c in
+    RuledOrRefused (of s) (s .args .multipliers .now) (s .args .ceiling) (s .args .m) (lent s) (c .judge .result) (left c)
+judged c = rw (toZ-ofZ (start c .fits .ceiling)) at (c .judge .ensures)
 
-abbrev rulings : tie.After-judge → List ℕ
-rulings c = c .judge .last .1 .1 .1 .1 .1 .1 .1 .1 .1 .1 .0
+-- the input has no fault, and so the least 1-tree stands against the ceiling
+accepted : (c : tie.Else1) → let at = c .before .before in let s = start at in
+    (ruleFault (of s) (s .args .multipliers .now) (s .args .ceiling) (s .args .m) ≡ 0)
+    × AgainstCeiling (of s) (s .args .multipliers .now) (s .args .ceiling) (at .judge .result) (left at)
+accepted c =
+    let at = c .before .before in
+    let s = start at in
+    ruled-accepted _ (of s) (s .args .multipliers .now) (s .args .ceiling) (lent s) (at .judge .result) (left at) (judged at) (c .if1 .left)
 
-judged : (c : tie.After-judge)
-    → let start = at-start (at-if1 c .before) in
-    let a = start .args in let j = c .judge .result in
-    JudgedIs (of start) (a .multipliers .now) (a .ceiling) (j .any) (j .bound) (tree c) (rulings c)
-judged c = rw (toZ-ofZ (at-start (at-if1 c .before) .fits .ceiling)) at (c .judge .ensures .0)
-
-rule-fault-requires : tie.Need-rule-fault-requires
-rule-fault-requires c κs = search needs
+judge-requires : tie.Need-judge-requires
+judge-requires c κs = search needs
 
 returns : tie.Need-returns
 unfolding ruleMeaning
 returns c =
-    let start = at-start (c .before) in
-    let a = start .args in
-    let r = pass-refused (of start) (a .multipliers .now) (a .ceiling) _ _ (c .before .rule-fault .result) (fault (c .before))
-    (c .if1 .taken) in
-    (r .reply, r .chosen, r .ruled, (refl, refl))
-
-judge-requires : tie.Need-judge-requires
-judge-requires c κs =
-    let at-if1 = c .before .before .before .before .before .before in
-    let ok = rule-no-fault _ _ _ _ (faultless at-if1) in
-    rw (toZ-ofZ (at-start (at-if1 .before) .fits .ceiling)) (ok .0 .valid, ok .0 .ranged, ok .0 .multipliers, ok .1, refl, refl, refl)
+    let at = c .before .before in
+    let s = start at in
+    let x =
+    ruled-refused _ (of s) (s .args .multipliers .now) (s .args .ceiling) (lent s) (at .judge .result) (left at) (judged at) (c .if1 .taken) in
+    let r = pass-refused (of s) (s .args .multipliers .now) (s .args .ceiling) _ _ (at .judge .result .fault) (x .0) (c .if1 .taken) in (
+      r .reply,
+      ap (λ (l : PassLists). l .tree) (x .1) ∙ r .chosen,
+      ap (λ (l : PassLists). l .rulings) (x .1) ∙ r .ruled,
+      (ap (λ (l : PassLists). l .order) (x .1), refl),
+    )
 
 returns-2 : tie.Need-returns-2
 unfolding ruleMeaning
 returns-2 c =
-    let at-judge = c .before .before in
-    let start = at-start (at-if1 at-judge .before) in
-    let a = start .args in
-    let no = not-true _ (c .if2 .taken) in
-    let none = judged at-judge .none no in
-    let r = pass-none (of start) (a .multipliers .now) (a .ceiling) _ _ (faultless (at-if1 at-judge)) (none .0) in
-    (r .reply, none .1 ∙ r .chosen, none .2 ∙ r .ruled, (at-judge .judge .ensures .1 .none no .0, refl))
+    let at-if1 = c .before .before in
+    let s = start (at-if1 .before .before) in
+    let ok = accepted at-if1 in
+    let none = ok .1 .none (not-true _ (c .if2 .taken)) in
+    let r = pass-none (of s) (s .args .multipliers .now) (s .args .ceiling) _ _ (ok .0) (none .0) in (
+      r .reply,
+      ap (λ (l : PassLists). l .tree) (none .2) ∙ r .chosen,
+      ap (λ (l : PassLists). l .rulings) (none .2) ∙ r .ruled,
+      (ap (λ (l : PassLists). l .order) (none .2), refl),
+    )
 
 returns-3 : tie.Need-returns-3
 unfolding ruleMeaning
 returns-3 c =
-    let at-if2 = c .before in
-    let at-judge = at-if2 .before .before in
-    let start = at-start (at-if1 at-judge .before) in
-    let a = start .args in
-    let j = at-judge .judge .result in
-    let yes = not-false _ (at-if2 .if2 .left) in
-    let r = pass-some (of start) (a .multipliers .now) (a .ceiling) _ _ (faultless (at-if1 at-judge)) (j .bound) (tree at-judge)
-    (rulings at-judge) (judged at-judge .some yes) in
-    rw (back64 (j .bound) (judged at-judge .fits yes))
-    (r .reply, r .chosen, r .ruled, at-judge .judge .ensures .1 .some yes)
+    let at-if1 = c .before .before .before in
+    let at = at-if1 .before .before in
+    let s = start at in
+    let ok = accepted at-if1 in
+    let some = ok .1 .some (not-false _ (c .before .if2 .left)) in
+    let r = pass-some (of s) (s .args .multipliers .now) (s .args .ceiling) _ _ (ok .0) (at .judge .result .bound) (left at .tree)
+    (left at .rulings) (some .0) in
+    rw (back64 (at .judge .result .bound) (ok .1 .fits)) (r .reply, r .chosen, r .ruled, some .1)
 
 pub pass-spec : {M : Type 1} → statement M
-pass-spec = tie.close (tie.spec rule-fault-requires returns judge-requires returns-2 returns-3)
+pass-spec = tie.close (tie.spec judge-requires returns returns-2 returns-3)

@@ -1,65 +1,60 @@
 -- Each way out is one case of the call: rule-refused, rule-none, rule-some.
+use mathlib.Core.Path.{_≡_, _∙_, subst}
 use native.Mathlib.Omega.{arith}
 use borrow.Author.Needs.{needs}
-use mathlib.Core.Path.{_≡_, refl, sym, _∙_, ap, subst}
-use mathlib.Core.List.{List}
-use Prim.Native.Nat.{ℕ}
 use borrow.Author.Tests.{not-true, not-false}
 use lib.ListN.{length}
 use mir.Facts.{toZ-ofZ}
 use Rattle.integers.specs.Words.{back64}
 use Rattle.graph.specs.declared.Graph.{Graph}
-use Rattle.graph.specs.Valid.{Valid, graphOf}
+use Rattle.graph.specs.Valid.{graphOf}
 use Rattle.graph.specs.Parts.{own-parts}
+use Rattle.tree_theory.specs.Arrays.{blank}
 use Rattle.onetree.specs.Answers.{ruleMeaning, ruleFault}
+use Rattle.onetree.specs.Ceiling.{PassLists, passLists, AgainstCeiling, RuledOrRefused, ruled-refused, ruled-accepted}
 use Rattle.onetree.specs.RuleCall.{rule-no-fault, rule-refused, rule-none, rule-some}
-use Rattle.onetree.specs.Judged.{JudgedIs}
 use Rattle.onetree.proofs.rule.Statement.{statement}
 use Rattle.onetree.proofs.rule.Tie as tie
 
-abbrev at-size : tie.After-rule-fault → tie.After-wide2
-at-size c = c .before .before .before .before .before .before
+-- from one place back to an earlier one
+abbrev at-wide2 : tie.After-judge → tie.After-wide2
+at-wide2 c =
+    let at-w = c .before .before .before in
+    let at-judge-arg3 = at-w .before .before .before in
+    let at-judge-arg = at-judge-arg3 .before .before in
+    at-judge-arg .before .before
 
-abbrev at-start : tie.After-rule-fault → tie.Start
-at-start c = at-size c .before .before .before
+abbrev start : tie.After-wide2 → tie.Start
+start c = c .before .before .before
 
 -- the parts that are lent are the graph's
-parts : (c : tie.After-wide2)
-    → let g = c .before .before .before .args .t1 in
+parts : (c : tie.After-wide2) → let g = start c .args .t1 in
     graphOf (c .before .wide .result) (c .wide2 .result) (g .a) (g .b) (g .cost) (g .mark) ≡ g
-parts c = own-parts (c .before .before .before .args .t1) _ _ (c .before .wide .ensures .0) (c .wide2 .ensures .0)
+parts c = own-parts (start c .args .t1) _ _ (c .before .wide .ensures .0) (c .wide2 .ensures .0)
 
-fault : (c : tie.After-rule-fault) → let a = at-start c .args in c .rule-fault .result ≡ ruleFault (a .t1)
-    (a .multipliers .now) (a .ceiling) (length (a .out .now))
-fault c =
-    let a = at-start c .args in
-    (rw (toZ-ofZ (at-start c .fits .ceiling)) at (c .rule-fault .ensures))
-    ∙ ap (λ (g : Graph). ruleFault g (a .multipliers .now) (a .ceiling) (length (a .out .now))) (parts (at-size c))
+-- what judge had, and what it left in the lists
+abbrev had : PassLists
+had = passLists blank blank blank
 
--- the input has no fault
-faultless : (c : tie.Else1)
-    → let a = at-start (c .before) .args in ruleFault (a .t1) (a .multipliers .now) (a .ceiling) (length (a .out .now)) ≡ 0
-faultless c = sym (fault (c .before)) ∙ c .if1 .left
+abbrev left : tie.After-judge → PassLists
+left c = let l = c .judge .last .1 .1 .1 .1 .1 .1 .1 .1 in passLists (l .0) (l .1 .0) (l .1 .1 .0)
 
-abbrev at-if1 : tie.After-judge → tie.Else1
-at-if1 c = c .before .before .before .before .before .before .before .before .before .before
-
--- what was written
-abbrev tree : tie.After-judge → List ℕ
-tree c = c .judge .last .1 .1 .1 .1 .1 .1 .1 .1 .1 .0
-
-abbrev rulings : tie.After-judge → List ℕ
-rulings c = c .judge .last .1 .1 .1 .1 .1 .1 .1 .1 .1 .1 .0
-
-judged : (c : tie.After-judge)
-    → let a = at-start (at-if1 c .before) .args in let j = c .judge .result in
-    JudgedIs (a .t1) (a .multipliers .now) (a .ceiling) (j .any) (j .bound) (tree c) (rulings c)
+judged : (c : tie.After-judge) → let a = start (at-wide2 c) .args in
+    RuledOrRefused (a .t1) (a .multipliers .now) (a .ceiling) (length (a .out .now)) had (c .judge .result) (left c)
 judged c =
-    let at-fault = at-if1 c .before in
-    let a = at-start at-fault .args in
-    let j = c .judge .result in
-    subst (λ (g : Graph). JudgedIs g (a .multipliers .now) (a .ceiling) (j .any) (j .bound) (tree c) (rulings c)) (parts (at-size at-fault))
-    (rw (toZ-ofZ (at-start at-fault .fits .ceiling)) at (c .judge .ensures .0))
+    let s = start (at-wide2 c) in
+    let a = s .args in
+    subst (λ (g : Graph). RuledOrRefused g (a .multipliers .now) (a .ceiling) (length (a .out .now)) had (c .judge .result) (left c))
+    (parts (at-wide2 c)) (rw (toZ-ofZ (s .fits .ceiling)) at (c .judge .ensures))
+
+-- the input has no fault, and so the least 1-tree stands against the ceiling
+accepted : (c : tie.Else1) → let at = c .before .before in let a = start (at-wide2 at) .args in
+    (ruleFault (a .t1) (a .multipliers .now) (a .ceiling) (length (a .out .now)) ≡ 0)
+    × AgainstCeiling (a .t1) (a .multipliers .now) (a .ceiling) (at .judge .result) (left at)
+accepted c =
+    let at = c .before .before in
+    let a = start (at-wide2 at) .args in
+    ruled-accepted _ (a .t1) (a .multipliers .now) (a .ceiling) had (at .judge .result) (left at) (judged at) (c .if1 .left)
 
 wide-requires : tie.Need-wide-requires
 wide-requires c κs = search needs
@@ -67,40 +62,36 @@ wide-requires c κs = search needs
 wide-requires-2 : tie.Need-wide-requires-2
 wide-requires-2 c κs = search needs
 
-rule-fault-requires : tie.Need-rule-fault-requires
-rule-fault-requires c κs = search needs
-
-returns : tie.Need-returns
-unfolding ruleMeaning
-returns c =
-    let a = at-start (c .before) .args in
-    let r = rule-refused (a .t1) (a .multipliers .now) (a .ceiling) (a .out .now) (c .before .rule-fault .result) (fault (c .before))
-    (c .if1 .taken) in
-    (r .reply, r .left)
-
 slice-aggregate-judge : tie.Need-slice-aggregate-judge
 slice-aggregate-judge c = search needs
 
 judge-requires : tie.Need-judge-requires
-judge-requires c κs =
-    let at-if1 = c .before .before .before .before .before .before .before .before .before in
-    let ok = rule-no-fault _ _ _ _ (faultless at-if1) in
-    let sized = at-size (at-if1 .before) in
-    rw (toZ-ofZ (at-start (at-if1 .before) .fits .ceiling)) (subst Valid (sym (parts sized)) (ok .0 .valid), ok .0 .ranged, ok .0 .multipliers ∙ sym (sized .before .wide .ensures .0), ok .1, refl, refl, refl)
+judge-requires c κs = search needs
+
+returns : tie.Need-returns
+unfolding ruleMeaning
+returns c =
+    let at = c .before .before in
+    let a = start (at-wide2 at) .args in
+    let x =
+    ruled-refused _ (a .t1) (a .multipliers .now) (a .ceiling) had (at .judge .result) (left at) (judged at) (c .if1 .taken) in
+    let r = rule-refused (a .t1) (a .multipliers .now) (a .ceiling) (a .out .now) (at .judge .result .fault) (x .0) (c .if1 .taken) in
+    (r .reply, r .left)
 
 returns-2 : tie.Need-returns-2
 unfolding ruleMeaning
 returns-2 c =
-    let at-judge = c .before .before in
-    let a = at-start (at-if1 at-judge .before) .args in
-    let r = rule-none (a .t1) (a .multipliers .now) (a .ceiling) (a .out .now) (faultless (at-if1 at-judge))
-    (judged at-judge .none (not-true _ (c .if2 .taken)) .0) in
+    let at-if1 = c .before .before in
+    let a = start (at-wide2 (at-if1 .before .before)) .args in
+    let ok = accepted at-if1 in
+    let r = rule-none (a .t1) (a .multipliers .now) (a .ceiling) (a .out .now) (ok .0) (ok .1 .none (not-true _ (c .if2 .taken)) .0) in
     (r .reply, r .left)
 
 write-requires : tie.Need-write-requires
 write-requires c κs =
-    let at-judge = c .before .before .before .before in
-    let ok = rule-no-fault _ _ _ _ (faultless (at-if1 at-judge)) .0 in omega (arith, ok .lent, ok .valid .few)
+    let at-if2 = c .before .before in
+    let ok = rule-no-fault _ _ _ _ (accepted (at-if2 .before .before) .0) .0 in
+    omega (arith, ok .lent, ok .valid .few)
 
 same-length : tie.Need-same-length
 same-length c = search needs
@@ -110,13 +101,13 @@ unfolding ruleMeaning
 returns-3 c =
     let at-write = c .before .before .before in
     let at-if2 = at-write .before .before .before in
-    let at-judge = at-if2 .before .before in
-    let a = at-start (at-if1 at-judge .before) .args in
-    let j = at-judge .judge .result in
-    let yes = not-false _ (at-if2 .if2 .left) in
-    let r = rule-some (a .t1) (a .multipliers .now) (a .ceiling) (a .out .now) (faultless (at-if1 at-judge)) (j .bound) (tree at-judge)
-    (rulings at-judge) (judged at-judge .some yes) in
-    rw (back64 (j .bound) (judged at-judge .fits yes)) (r .reply, at-write .write .ensures ∙ r .left)
+    let at-if1 = at-if2 .before .before in
+    let at = at-if1 .before .before in
+    let a = start (at-wide2 at) .args in
+    let ok = accepted at-if1 in
+    let r = rule-some (a .t1) (a .multipliers .now) (a .ceiling) (a .out .now) (ok .0) (at .judge .result .bound) (left at .tree)
+    (left at .rulings) (ok .1 .some (not-false _ (at-if2 .if2 .left)) .0) in
+    rw (back64 (at .judge .result .bound) (ok .1 .fits)) (r .reply, at-write .write .ensures ∙ r .left)
 
 pub rule-spec : {M : Type 1} → statement M
 rule-spec =
@@ -124,10 +115,9 @@ rule-spec =
     (tie.spec
     wide-requires
     wide-requires-2
-    rule-fault-requires
-    returns
     slice-aggregate-judge
     judge-requires
+    returns
     returns-2
     write-requires
     same-length

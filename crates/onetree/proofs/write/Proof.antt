@@ -7,7 +7,7 @@ use lib.Seq.{getD-set-same, getD-set-other}
 use borrow.Author.Needs.{needs}
 use native.Mathlib.Omega.{arith}
 use Rattle.lists.specs.Rows.{row, row-is}
-use Rattle.onetree.specs.Arrays.{entry}
+use Rattle.tree_theory.specs.Arrays.{entry}
 use Rattle.onetree.proofs.write.Statement.{statement}
 use Rattle.onetree.proofs.write.Tie as tie
 

@@ -9,9 +9,9 @@ use borrow.Author.Tests.{lt-ltb, le-ltb}
 use lib.ListN.{length, getD}
 use lib.Dec.{ltb}
 use Rattle.lists.specs.Bools.{bit}
-use Rattle.onetree.specs.Hanging.{Hangs}
-use Rattle.onetree.specs.RootedTree.{shape}
-use Rattle.onetree.specs.Climbing.{Climbing, climb-start, climb-swap, climb-met, climb-child, climb-step}
+use Rattle.swaps.specs.Hanging.{Hangs}
+use Rattle.swaps.specs.RootedTree.{shape}
+use Rattle.swaps.specs.Climbing.{Climbing, climb-start, climb-swap, climb-met, climb-child, climb-step}
 use Rattle.onetree.proofs.climb.climb.Statement.{statement}
 use Rattle.onetree.proofs.climb.climb.Tie as tie
 

@@ -1,7 +1,7 @@
 -- The list with the lesser of the two at x.
 use native.Mathlib.Omega.{arith}
 use borrow.Author.Needs.{needs}
-use Rattle.onetree.specs.Climbing.{offered-lesser}
+use Rattle.swaps.specs.Climbing.{offered-lesser}
 use Rattle.onetree.proofs.climb.offer.Statement.{statement}
 use Rattle.onetree.proofs.climb.offer.Tie as tie
 

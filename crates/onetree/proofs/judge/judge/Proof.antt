@@ -1,148 +1,200 @@
--- Each way out is one case of specs/Judged.antt: no 1-tree, the least one above the ceiling, and within it.
-use borrow.Author.Needs.{needs}
-use mathlib.Core.Path.{_≡_, sym, _∙_}
-use mathlib.Core.Bool.{true≢false}
-use mathlib.Core.List.{List}
+-- Each way out is one case of specs/Ceiling.antt: a fault, no 1-tree, the least one above the ceiling, and within it.
+use mathlib.Core.Path.{_≡_, refl, sym, _∙_, ap}
 use mathlib.Core.Logic.{⊎-elim}
 use native.Mathlib.Omega.{arith}
-use Prim.Native.Nat.{ℕ}
+use borrow.Author.Needs.{needs}
 use borrow.Author.Tests.{not-true, not-false}
+use lib.ListN.{replicate}
 use lib.Signed.{ltZ}
 use mir.Facts.{toZ-ofZ}
 use Rattle.integers.specs.Words.{back64}
 use Rattle.graph.specs.declared.Graph.{Graph}
 use Rattle.graph.specs.Valid.{graphOf}
-use Rattle.onetree.specs.Spans.{Spans}
-use Rattle.onetree.specs.Looks.{handed-some, handed-none}
-use Rattle.onetree.specs.Judged.{judged-nothing, judged-missing, judged-over, judged-within, found-fits}
+use Rattle.tree_theory.specs.Inputs.{inputFault}
+use Rattle.tree_theory.specs.Arrays.{blank}
+use Rattle.tree_theory.specs.Spans.{Spans}
+use Rattle.onetree.specs.Answers.{ruleFault}
+use Rattle.greedy.specs.Least.{Lists, lists, TreeFound, by-refused, by-found}
+use Rattle.onetree.specs.Ceiling.{
+  PassLists,
+  passLists,
+  by-fault,
+  by-none,
+  found-fits,
+  ceiling-missing,
+  ceiling-over,
+  ceiling-within,
+}
+use Rattle.onetree.specs.RuleCall.{rule-no-fault}
 use Rattle.onetree.proofs.judge.judge.Statement.{statement}
 use Rattle.onetree.proofs.judge.judge.Tie as tie
 
-abbrev at-start : tie.After-find → tie.Start
-at-start c = c .before .before .before .before .before .before
-
+-- the graph and the lists that were lent
 abbrev of : tie.Start → Graph
-of c = let a = c .args in graphOf (a .n) (a .m) (a .a .now) (a .b .now) (a .cost .now) (a .mark .now)
+of c =
+    let a = c .args in
+    graphOf (a .sizes .n) (a .sizes .m) (a .a .now) (a .b .now) (a .cost .now) (a .mark .now)
 
--- the tree and the charges that were found
-abbrev tree : tie.After-find → List ℕ
-tree c = c .find .last .1 .1 .1 .1 .1 .1 .1 .1 .0
+abbrev lent : tie.Start → PassLists
+lent c = let a = c .args in passLists (a .tree .now) (a .res .now) (a .order .now)
 
-abbrev charges : tie.After-find → List ℕ
-charges c = c .find .last .1 .1 .1 .1 .1 .1 .1 .1 .1 .0
+-- from one place back to an earlier one
+abbrev at-ceiling-fault : tie.After-least → tie.After-ceiling-fault
+at-ceiling-fault c = let at-c = c .before .before .before in at-c .before .before
+
+abbrev start : tie.After-least → tie.Start
+start c = at-ceiling-fault c .before .before
+
+abbrev at-least : tie.Else1 → tie.After-least
+at-least c = c .before .before
+
+abbrev at-if1 : tie.Else2 → tie.Else1
+at-if1 c = c .before .before .before
+
+-- what least had, and what it left
+abbrev had : tie.After-least → Lists
+had c =
+    let a = start c .args in
+    lists (a .tree .now) blank (a .order .now) (replicate 21 0)
+
+abbrev found : tie.After-least → Lists
+found c = let l = c .least .last .1 .1 .1 .1 .1 .1 .1 .1 in lists (l .0) (l .1 .0) (l .1 .1 .0) (l .1 .1 .1 .0)
+
+-- refusal 13 is told last
+fault : (c : tie.After-least) → let a = start c .args in
+    inputFault (of (start c)) (a .multipliers .now) (a .sizes .lent) (at-ceiling-fault c .ceiling-fault .result)
+    ≡ ruleFault (of (start c)) (a .multipliers .now) (a .ceiling) (a .sizes .lent)
+unfolding ruleFault
+fault c =
+    let a = start c .args in
+    ap (inputFault (of (start c)) (a .multipliers .now) (a .sizes .lent))
+    (rw (toZ-ofZ (start c .fits .ceiling)) at (at-ceiling-fault c .ceiling-fault .ensures))
+
+-- the input has no fault, and this was found
+faultless : (c : tie.Else1) → let at = at-least c in let a = start at .args in
+    (ruleFault (of (start at)) (a .multipliers .now) (a .ceiling) (a .sizes .lent) ≡ 0)
+    × TreeFound (of (start at)) (a .multipliers .now) (at .least .result) (found at)
+faultless c =
+    let at = at-least c in
+    let a = start at .args in
+    let r = by-found _ (of (start at)) (a .multipliers .now) (had at) (at .least .result) (found at) (at .least .ensures) (c .if1 .left) in
+    (sym (fault at) ∙ r .0, r .1)
 
 -- the test of the bound against the ceiling
-compared : (c : tie.After-below)
-    → let at-find = c .before .before .before .before in
-    c .below .result ≡ ltZ (at-start at-find .args .ceiling) (at-find .find .result .bound)
+abbrev at-if2 : tie.After-below → tie.Else2
+at-if2 c = c .before .before
+
+compared : (c : tie.After-below) → let at = at-least (at-if1 (at-if2 c)) in
+    c .below .result ≡ ltZ (start at .args .ceiling) (at .least .result .bound)
 compared c =
-    let at-find = c .before .before .before .before in
-    let f = at-find .find in
-    rw (toZ-ofZ (at-start at-find .fits .ceiling), back64 (f .result .bound) (f .ensures .0 .fits)) at (c .below .ensures)
+    let at = at-least (at-if1 (at-if2 c)) in
+    let b = faultless (at-if1 (at-if2 c)) .1 .found .fits in
+    rw (toZ-ofZ (start at .fits .ceiling), back64 (at .least .result .bound) b) at (c .below .ensures)
 
 -- it is a 1-tree
-spans : (c : tie.Else1) → let at-find = c .before .before in Spans (of (at-start at-find)) (tree at-find)
+spans : (c : tie.Else2) → let at = at-least (at-if1 c) in Spans (of (start at)) (found at .tree)
 spans c =
-    let at-find = c .before .before in
-    let f = at-find .find .ensures .0 in record {
-      valid = at-start at-find .pre .0;
-      tree = f .some (not-false _ (c .if1 .left)) .0 .tree;
+    let r = faultless (at-if1 c) in
+    let f = r .1 .found in record {
+      valid = rule-no-fault _ _ _ _ (r .0) .0 .valid;
+      tree = f .some (not-false _ (c .if2 .left)) .0 .tree;
       bits = λ k. ⊎-elim (λ e. omega arith) (λ e. omega arith) (f .bits k);
     }
 
-find-requires : tie.Need-find-requires
-find-requires c κs = search needs
+ceiling-fault-requires : tie.Need-ceiling-fault-requires
+ceiling-fault-requires c κs = search needs
 
-nothing-requires : tie.Need-nothing-requires
-nothing-requires c κs = search needs
+least-requires : tie.Need-least-requires
+least-requires c κs = search needs
 
 returns : tie.Need-returns
 returns c =
+    let at = c .before .before in
+    let a = start at .args in
+    let r = by-refused _ (of (start at)) (a .multipliers .now) (had at) (at .least .result) (found at) (at .least .ensures) (c .if1 .taken) in
+    by-fault _ (of (start at)) (a .multipliers .now) (a .ceiling) (lent (start at)) (at .least .result) _ (r .0 ∙ fault at) (c .if1 .taken)
+    (ap (λ (l : Lists). passLists (l .tree) (a .res .now) (l .order)) (r .1))
+
+returns-2 : tie.Need-returns-2
+returns-2 c =
     let at-if1 = c .before .before .before in
-    let at-find = at-if1 .before .before in
-    let start = at-start at-find in
-    let f = at-find .find in
-    let none = c .nothing .ensures in (
-      judged-nothing _ _ _ _ _ _ _ (none .0) (judged-missing (of start) (start .args .multipliers .now) (start .args .ceiling)
-          (f .result .any) (f .result .bound) (tree at-find) (charges at-find) (f .ensures .0) (not-true _ (at-if1 .if1 .taken)))
-          (none .2) (start .pre .5),
-      handed-none _ _ _ _ _ (none .0) (none .3) (none .1),
-    )
+    let at = at-least at-if1 in
+    let a = start at .args in
+    let r = faultless at-if1 in
+    by-none _ (of (start at)) (a .multipliers .now) (a .ceiling) (lent (start at)) (at .least .result) _ (r .0)
+    (ceiling-missing (of (start at)) (a .multipliers .now) (a .ceiling) (at .least .result) (found at) (r .1)
+    (not-true _ (c .if2 .taken)))
 
 below-requires : tie.Need-below-requires
 below-requires c κs = search needs
 
-nothing-requires-2 : tie.Need-nothing-requires-2
-nothing-requires-2 c κs = search needs
-
-returns-2 : tie.Need-returns-2
-returns-2 c =
-    let at-if2 = c .before .before .before in
-    let at-below = at-if2 .before in
-    let at-if1 = at-below .before .before in
-    let at-find = at-if1 .before .before in
-    let start = at-start at-find in
-    let f = at-find .find in
-    let none = c .nothing2 .ensures in (
-      judged-nothing _ _ _ _ _ _ _ (none .0) (judged-over (of start) (start .args .multipliers .now) (start .args .ceiling)
-          (f .result .any) (f .result .bound) (tree at-find) (charges at-find) (f .ensures .0) (not-false _ (at-if1 .if1 .left))
-          (sym (compared at-below) ∙ at-if2 .if2 .taken)) (none .2) (start .pre .5),
-      handed-none _ _ _ _ _ (none .0) (none .3) (none .1),
-    )
-
-slack-of-requires : tie.Need-slack-of-requires
-slack-of-requires c κs =
-    let at-find = c .before .before .before .before .before in
-    let start = at-start at-find in
-    let f = at-find .find in
-    rw (toZ-ofZ (start .fits .ceiling), back64 (f .result .bound) (f .ensures .0 .fits)) (
-      start .pre .3,
-      found-fits _ _ _ _ _ _ (f .ensures .0),
-      sym (compared (c .before)) ∙ c .if2 .left,
-    )
-
-rulings-requires : tie.Need-rulings-requires
-rulings-requires c κs =
-    let at-if1 = c .before .before .before .before .before .before .before .before in
-    let at-find = at-if1 .before .before in
-    let start = at-start at-find in
-    ((start .args .cost .now, spans at-if1, at-find .find .ensures .3), start .pre .5)
+nothing-requires : tie.Need-nothing-requires
+nothing-requires c κs = search needs
 
 returns-3 : tie.Need-returns-3
 returns-3 c =
-    let at-slack-of = c .before .before .before .before .before in
-    let at-if2 = at-slack-of .before in
-    let at-below = at-if2 .before in
-    let at-if1 = at-below .before .before in
-    let at-find = at-if1 .before .before in
-    let start = at-start at-find in
-    let a = start .args in
-    let f = at-find .find in
-    let b = back64 (f .result .bound) (f .ensures .0 .fits) in
-    let slack = rw (toZ-ofZ (start .fits .ceiling), b) at (at-slack-of .slack-of .ensures) in
-    let r = c .rulings .ensures in
-    rw b (
-      record {
-        none = λ e. absurd (true≢false e);
-        some = λ e. judged-within (of start) (a .multipliers .now) (a .ceiling) (f .result .any) (f .result .bound) (tree at-find)
-            (charges at-find) (f .ensures .0) (not-false _ (at-if1 .if1 .left)) (sym (compared at-below) ∙ at-if2 .if2 .left)
-            (at-slack-of .slack-of .result) (slack .0) (slack .1) _ (r .0 (a .cost .now) (spans at-if1) (f .ensures .3))
-            (f .ensures .1) (r .1);
-        fits = λ e. f .ensures .0 .fits;
-      },
-      handed-some _ _ _ _ (f .ensures .2),
+    let at-if3 = c .before .before .before in
+    let tested = at-if2 (at-if3 .before) in
+    let at = at-least (at-if1 tested) in
+    let a = start at .args in
+    let r = faultless (at-if1 tested) in
+    let none = c .nothing .ensures in
+    by-none _ (of (start at)) (a .multipliers .now) (a .ceiling) (lent (start at)) (c .nothing .result) _ (r .0)
+    (ceiling-over (of (start at)) (a .multipliers .now) (a .ceiling) (at .least .result) (found at) (r .1)
+    (not-false _ (tested .if2 .left)) (sym (compared (at-if3 .before)) ∙ at-if3 .if3 .taken) (c .nothing .result) _ _
+    (none .0) (none .1) (none .2))
+
+slack-of-requires : tie.Need-slack-of-requires
+slack-of-requires c κs =
+    let tested = at-if2 (c .before) in
+    let at = at-least (at-if1 tested) in
+    let r = faultless (at-if1 tested) in
+    rw (toZ-ofZ (start at .fits .ceiling), back64 (at .least .result .bound) (r .1 .found .fits)) (
+      rule-no-fault _ _ _ _ (r .0) .1,
+      found-fits _ _ (start at .args .ceiling) _ _ (r .1),
+      sym (compared (c .before)) ∙ c .if3 .left,
     )
+
+-- from the call of rulings back to the slack, and to the test before it
+abbrev at-slack-of : tie.After-rulings-arg2 → tie.After-slack-of
+at-slack-of c = let at-c2 = c .before .before in at-c2 .before .before
+
+abbrev at-if3 : tie.After-rulings-arg2 → tie.Else3
+at-if3 c = at-slack-of c .before
+
+rulings-requires : tie.Need-rulings-requires
+rulings-requires c κs =
+    let tested = at-if2 (at-if3 c .before) in
+    let at = at-least (at-if1 tested) in
+    ((start at .args .cost .now, spans tested, faultless (at-if1 tested) .1 .merges), refl)
+
+returns-4 : tie.Need-returns-4
+returns-4 c =
+    let at-slack = at-slack-of (c .before) in
+    let compares = at-slack .before .before in
+    let tested = at-if2 compares in
+    let at = at-least (at-if1 tested) in
+    let a = start at .args in
+    let r = faultless (at-if1 tested) in
+    let slack =
+    rw (toZ-ofZ (start at .fits .ceiling), back64 (at .least .result .bound) (r .1 .found .fits)) at (at-slack .slack-of .ensures) in
+    let ruled = c .rulings .ensures in
+    by-none _ (of (start at)) (a .multipliers .now) (a .ceiling) (lent (start at)) (at .least .result) _ (r .0)
+    (ceiling-within (of (start at)) (a .multipliers .now) (a .ceiling) (at .least .result) (found at) (r .1)
+    (not-false _ (tested .if2 .left)) (sym (compared compares) ∙ at-slack .before .if3 .left)
+    (at-slack .slack-of .result) (slack .0) (slack .1) _ (ruled .0 (a .cost .now) (spans tested) (r .1 .merges)) (ruled .1))
 
 pub judge-spec : {M : Type 1} → statement M
 judge-spec =
     tie.close
     (tie.spec
-    find-requires
-    nothing-requires
+    ceiling-fault-requires
+    least-requires
     returns
-    below-requires
-    nothing-requires-2
     returns-2
+    below-requires
+    nothing-requires
+    returns-3
     slack-of-requires
     rulings-requires
-    returns-3)
+    returns-4)

@@ -4,9 +4,9 @@ use borrow.Author.Needs.{needs}
 use Prim.Native.Nat.{ℕ, _≤_, _-_}
 use mathlib.Core.Path.{_≡_, refl, subst}
 use lib.ListN.{getD}
-use Rattle.onetree.specs.Grid.{cell}
-use Rattle.onetree.specs.Visiting.{rooting, Among, Rows, leads-more, Hung, hung-root, Lined, lined-root}
-use Rattle.onetree.specs.Visiting.{Closed, closed-more, closed-all}
+use Rattle.swaps.specs.Grid.{cell}
+use Rattle.swaps.specs.Visiting.{rooting, Among, Rows, leads-more, Hung, hung-root, Lined, lined-root}
+use Rattle.swaps.specs.Visiting.{Closed, closed-more, closed-all}
 use Rattle.onetree.proofs.rooted.hang.Statement.{statement}
 use Rattle.onetree.proofs.rooted.hang.Tie as tie
 

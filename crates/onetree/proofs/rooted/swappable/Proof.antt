@@ -1,6 +1,6 @@
 -- By cases.
 use borrow.Author.Tests.{eq-eqb, ne-eqb}
-use Rattle.onetree.specs.TreeTable.{greater-bit}
+use Rattle.swaps.specs.TreeTable.{greater-bit}
 use Rattle.onetree.proofs.rooted.swappable.Statement.{statement}
 use Rattle.onetree.proofs.rooted.swappable.Tie as tie
 

@@ -11,10 +11,10 @@ use lib.ListN.{getD, set}
 use lib.IntN.{ℤ}
 use Rattle.graph.specs.declared.Graph.{Graph}
 use Rattle.graph.specs.Valid.{graphOf}
-use Rattle.onetree.specs.Spans.{Spans}
-use Rattle.onetree.specs.Grid.{put}
-use Rattle.onetree.specs.TreeTable.{Inner, Ends, Table, test-inner, inner-test}
-use Rattle.onetree.specs.TreeTable.{table-none, table-skip, table-room, room-b, table-more, table-lists}
+use Rattle.tree_theory.specs.Spans.{Spans}
+use Rattle.swaps.specs.Grid.{put}
+use Rattle.swaps.specs.TreeTable.{Inner, Ends, Table, test-inner, inner-test}
+use Rattle.swaps.specs.TreeTable.{table-none, table-skip, table-room, room-b, table-more, table-lists}
 use Rattle.onetree.proofs.rooted.table.Statement.{statement}
 use Rattle.onetree.proofs.rooted.table.Tie as tie
 

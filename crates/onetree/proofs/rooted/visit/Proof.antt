@@ -7,8 +7,8 @@ use mathlib.Core.Path.{_≡_, _∙_, ap}
 use mathlib.Core.Logic.{_≢_, ⊎-elim}
 use mathlib.Core.List.{List}
 use lib.ListN.{getD}
-use Rattle.onetree.specs.Visiting.{rooting, rowOf, Leads, opposite, Leaving, Visited}
-use Rattle.onetree.specs.Visiting.{visited-none, visited-on, visited-room, visited-hang}
+use Rattle.swaps.specs.Visiting.{rooting, rowOf, Leads, opposite, Leaving, Visited}
+use Rattle.swaps.specs.Visiting.{visited-none, visited-on, visited-room, visited-hang}
 use Rattle.onetree.proofs.rooted.visit.Statement.{statement}
 use Rattle.onetree.proofs.rooted.visit.Tie as tie
 

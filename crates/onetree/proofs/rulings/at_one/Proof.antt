@@ -1,7 +1,7 @@
 -- By cases.
 use borrow.Author.Needs.{needs}
 use borrow.Author.Tests.{eq-eqb, ne-eqb}
-use Rattle.onetree.specs.Judging.{nearByte}
+use Rattle.onetree.specs.Outside.{nearByte}
 use Rattle.onetree.proofs.rulings.at_one.Statement.{statement}
 use Rattle.onetree.proofs.rulings.at_one.Tie as tie
 

@@ -1,4 +1,4 @@
--- The loop keeps `Judged`, for whichever graph has the arrays and whichever edges stand above the labels.
+-- The loop keeps `RuledOutside`, for whichever graph has the arrays and whichever edges stand above the labels.
 use native.Mathlib.Omega.{arith}
 use borrow.Author.Needs.{needs}
 use Prim.Native.Nat.{ℕ, _≤_, _<_, _-_, _+_}
@@ -6,9 +6,9 @@ use mathlib.Core.Path.{_≡_, subst, _∙_}
 use mathlib.Core.Logic.{⊎-elim}
 use lib.ListN.{getD}
 use Rattle.graph.specs.Limits.{maxEdges}
-use Rattle.onetree.specs.RootedTree.{labelOf}
-use Rattle.onetree.specs.Swaps.{ends-hang}
-use Rattle.onetree.specs.Judging.{Prepared, graphIn, rootingIn, Judged, judged-none, judged-skip, judged-near, judged-far}
+use Rattle.swaps.specs.RootedTree.{labelOf}
+use Rattle.swaps.specs.Swaps.{ends-hang}
+use Rattle.onetree.specs.Outside.{Prepared, graphIn, rootingIn, RuledOutside, outside-none, outside-skip, outside-near, outside-far}
 use Rattle.onetree.proofs.rulings.judge_outside.Statement.{statement}
 use Rattle.onetree.proofs.rulings.judge_outside.Tie as tie
 
@@ -16,7 +16,7 @@ abbrev Inv-loop : tie.InvT-loop
 Inv-loop a from to mark w c parent depth weight m dearest near slack res₀ cheapest₀ k₀ res cheapest k =
     (k ≤ m) × (m ≤ maxEdges)
     × ((p : Prepared m a from to mark w c parent depth weight dearest near)
-    → Judged (graphIn p) w c (p .rep) (rootingIn p) near slack res cheapest k)
+    → RuledOutside (graphIn p) w c (p .rep) (rootingIn p) near slack res cheapest k)
 
 abbrev μ-loop : tie.MeasureT-loop
 μ-loop a from to mark w c parent depth weight m dearest near slack res₀ cheapest₀ k₀ res cheapest k = m - k
@@ -27,7 +27,7 @@ next : (c : tie.Joined1 Inv-loop μ-loop)
     let s = at-loop .before .args in
     (p : Prepared (s .m) (s .a .now) (s .from .now) (s .to .now) (s .mark .now) (s .w .now) (s .c .now) (s .parent .now) (s .depth .now)
     (s .weight .now) (s .dearest) (s .near))
-    → Judged (graphIn p) (s .w .now) (s .c .now) (p .rep) (rootingIn p) (s .near) (s .slack) (c .if1 .res) (c .if1 .cheapest)
+    → RuledOutside (graphIn p) (s .w .now) (s .c .now) (p .rep) (rootingIn p) (s .near) (s .slack) (c .if1 .res) (c .if1 .cheapest)
     (at-loop .loop .k + 1)
 next c p =
     let at-test = c .before .before in
@@ -39,26 +39,26 @@ next c p =
     let rep = p .rep in
     let inside : turn .k < g .m = at-test .loop-test .taken in
     let judged = turn .inv .2 p in
-    let goal = Judged g w (s .c .now) rep r (s .near) (s .slack) (c .if1 .res) (c .if1 .cheapest) (turn .k + 1) in
+    let goal = RuledOutside g w (s .c .now) rep r (s .near) (s .slack) (c .if1 .res) (c .if1 .cheapest) (turn .k + 1) in
     ⊎-elim {C = goal}
-    (λ u. rw (u .6, u .7) (judged-near g w (s .c .now) rep r (s .weight .now) (s .dearest) (s .near) (p .ready) (s .slack) (turn .res)
+    (λ u. rw (u .6, u .7) (outside-near g w (s .c .now) rep r (s .weight .now) (s .dearest) (s .near) (p .ready) (s .slack) (turn .res)
     (turn .cheapest) (turn .k) inside judged (u .5 .result) (u .2 .taken) (u .0 .taken) (u .5 .ensures)))
     (⊎-elim {C = goal}
     (λ u.
     let x : u .7 .result ≡ labelOf rep (getD (g .a) (turn .k) 0) = u .7 .ensures .0 ∙ p .labelled .one (turn .k) inside in
     let y : u .9 .result ≡ labelOf rep (getD (g .b) (turn .k) 0) = u .9 .ensures .0 ∙ p .labelled .two (turn .k) inside in
-    rw (u .14, u .15) (judged-far g w (s .c .now) rep r (s .weight .now) (s .dearest) (s .near) (p .ready) (s .slack) (turn .res)
+    rw (u .14, u .15) (outside-far g w (s .c .now) rep r (s .weight .now) (s .dearest) (s .near) (p .ready) (s .slack) (turn .res)
     (turn .cheapest) (turn .k) inside judged (u .13 .result) (u .11 .result) (u .11 .last .1 .1 .1 .0) (u .2 .left) (u .4 .taken)
     (u .0 .taken) (rw (x, y) at (u .11 .ensures)) (u .13 .ensures)))
     (⊎-elim {C = goal}
-    (λ u. rw (u .5, u .6) (judged-skip g w (s .c .now) rep r (s .weight .now) (s .dearest) (s .near) (p .ready) (s .slack) (turn .res)
+    (λ u. rw (u .5, u .6) (outside-skip g w (s .c .now) rep r (s .weight .now) (s .dearest) (s .near) (p .ready) (s .slack) (turn .res)
     (turn .cheapest) (turn .k) inside judged (λ e. (u .2 .left, u .4 .left))))
-    (λ u. rw (u .1, u .2) (judged-skip g w (s .c .now) rep r (s .weight .now) (s .dearest) (s .near) (p .ready) (s .slack) (turn .res)
+    (λ u. rw (u .1, u .2) (outside-skip g w (s .c .now) rep r (s .weight .now) (s .dearest) (s .near) (p .ready) (s .slack) (turn .res)
     (turn .cheapest) (turn .k) inside judged (λ e. absurd (u .0 .left e))))))
     (c .if1 .came)
 
 loop-holds : tie.Need-loop-holds Inv-loop μ-loop
-loop-holds c = (omega arith, c .pre .0 .ready .valid .few, λ p. rw (c .pre .1, c .pre .2) (judged-none _ _ _ _ _ _ _ (p .ready .rooted)))
+loop-holds c = (omega arith, c .pre .0 .ready .valid .few, λ p. rw (c .pre .1, c .pre .2) (outside-none _ _ _ _ _ _ _ (p .ready .rooted)))
 
 element-copy-out-if1 : tie.Need-element-copy-out-if1 Inv-loop μ-loop
 element-copy-out-if1 c = search needs
@@ -150,7 +150,7 @@ returns c =
     let s = c .before .before .args in
     let e : turn .k ≡ s .m = omega (arith, turn .inv .0) in
     λ p. subst
-    (λ (k : ℕ). Judged (graphIn p) (s .w .now) (s .c .now) (p .rep) (rootingIn p) (s .near) (s .slack) (turn .res) (turn .cheapest) k) e
+    (λ (k : ℕ). RuledOutside (graphIn p) (s .w .now) (s .c .now) (p .rep) (rootingIn p) (s .near) (s .slack) (turn .res) (turn .cheapest) k) e
     (turn .inv .2 p)
 
 pub judge-outside-spec : {M : Type 1} → statement M

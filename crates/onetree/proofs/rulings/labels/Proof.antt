@@ -5,8 +5,8 @@ use Prim.Native.Nat.{ℕ, _≤_, _-_}
 use mathlib.Core.Path.{_≡_, ap, subst}
 use lib.ListN.{length, getD}
 use Rattle.graph.specs.Limits.{maxEdges}
-use Rattle.onetree.specs.Filled.{Updated, updated-none, updated-more}
-use Rattle.onetree.specs.RootedTree.{labelOf}
+use Rattle.lists.specs.Filled.{Updated, updated-none, updated-more}
+use Rattle.swaps.specs.RootedTree.{labelOf}
 use Rattle.onetree.proofs.rulings.labels.Statement.{statement}
 use Rattle.onetree.proofs.rulings.labels.Tie as tie
 

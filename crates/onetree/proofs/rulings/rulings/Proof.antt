@@ -8,13 +8,13 @@ use lib.ListN.{length}
 use Rattle.graph.specs.declared.Graph.{Graph}
 use Rattle.graph.specs.Limits.{maxEdges}
 use Rattle.graph.specs.Valid.{graphOf}
-use Rattle.onetree.specs.Spans.{Spans}
-use Rattle.onetree.specs.Merges.{Merges}
-use Rattle.onetree.specs.TreeTable.{Ends, Lists}
-use Rattle.onetree.specs.Visiting.{Rooting, rooting, Rows, Hung}
-use Rattle.onetree.specs.RootedTree.{Labelled, RootedIn, two-ends, walkable, rooted}
-use Rattle.onetree.specs.Swaps.{Below}
-use Rattle.onetree.specs.Judging.{Ready, Prepared, Judged}
+use Rattle.tree_theory.specs.Spans.{Spans}
+use Rattle.tree_theory.specs.Merges.{Merges}
+use Rattle.swaps.specs.TreeTable.{Ends, Lists}
+use Rattle.swaps.specs.Visiting.{Rooting, rooting, Rows, Hung}
+use Rattle.swaps.specs.RootedTree.{Labelled, RootedIn, two-ends, walkable, rooted}
+use Rattle.swaps.specs.Swaps.{Below}
+use Rattle.onetree.specs.Outside.{Ready, Prepared, RuledOutside}
 use Rattle.onetree.specs.Candidates.{BelowRoot, queue-below, below-queue}
 use Rattle.onetree.specs.Forcing.{OneEach, one-each-as, forcing-as}
 use Rattle.onetree.specs.Ruled.{one-each, ruled-by}
@@ -181,7 +181,7 @@ judged : (c : tie.After-judge-outside) (cost : List ℤ)
     let hang = at-hang (near-one .before) in
     let a = first hang .args in
     Fit (first hang) cost
-    → Judged (of (first hang) cost) (a .w .now) (a .c .now) (a .rep .now) (hanging hang) (near-one .near-one .result .cheapest)
+    → RuledOutside (of (first hang) cost) (a .w .now) (a .c .now) (a .rep .now) (hanging hang) (near-one .near-one .result .cheapest)
     (a .slack) (bars c) (lows c) (a .m)
 judged c cost fit = c .judge-outside .ensures (prepared (at-near c) cost fit)
 

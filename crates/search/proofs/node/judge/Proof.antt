@@ -13,7 +13,8 @@ use Rattle.integers.specs.Words.{back64}
 use Rattle.lists.specs.Fill.{fit, fit-size}
 use Rattle.graph.specs.declared.Graph.{Graph}
 use Rattle.graph.specs.Valid.{graphOf}
-use Rattle.onetree.specs.Answers.{ruleMeaning, ruleReply, blank, passTree, passRulings}
+use Rattle.onetree.specs.Answers.{ruleMeaning, ruleReply, passTree, passRulings}
+use Rattle.tree_theory.specs.Arrays.{blank}
 use Rattle.search.specs.Filling.{take-fit}
 use Rattle.search.specs.Judging.{treeBytes, judged-found, judged-ruled}
 use Rattle.search.specs.Counting.{ends-of, degrees-edged}

@@ -12,8 +12,8 @@ use Rattle.integers.specs.Range.{InRange}
 use Rattle.graph.specs.declared.Graph.{Graph}
 use Rattle.graph.specs.Limits.{maxMultiplier}
 use Rattle.graph.specs.Valid.{Valid, graphOf}
-use Rattle.onetree.specs.Inputs.{multipliersFit, ceilingFits}
-use Rattle.onetree.specs.Multipliers.{fit-ranged}
+use Rattle.tree_theory.specs.Inputs.{multipliersFit, ceilingFits}
+use Rattle.tree_theory.specs.Multipliers.{fit-ranged}
 use Rattle.search.specs.declared.node.Verdict.{Verdict}
 use Rattle.search.specs.declared.node.Verdict.the-variants as verdict
 use Rattle.search.specs.Judging.{JudgedIs, judged-as}

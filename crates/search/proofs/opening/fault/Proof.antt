@@ -6,7 +6,7 @@ use borrow.Author.Tests.{not-true, not-false}
 use lib.ListN.{length}
 use Rattle.integers.specs.Words.{back64}
 use Rattle.graph.specs.Valid.{valid}
-use Rattle.onetree.specs.Inputs.{multipliersFit, ceilingFits}
+use Rattle.tree_theory.specs.Inputs.{multipliersFit, ceilingFits}
 use Rattle.machine.specs.Machine.{Opening}
 use Rattle.machine.specs.Calls.{step}
 use Rattle.search.specs.Record.{openingOf}

@@ -9,7 +9,7 @@ use Rattle.lists.specs.Bools.{says-yes, says-no}
 use mir.Facts.{toZ-ofZ}
 use lib.Dec.{eqb}
 use Rattle.graph.specs.Limits.{maxCount}
-use Rattle.onetree.specs.Inputs.{ceilingFits}
+use Rattle.tree_theory.specs.Inputs.{ceilingFits}
 use Rattle.machine.specs.Machine.{Opening}
 use Rattle.machine.specs.Calls.{fault}
 use Rattle.search.specs.CheckParts.{FieldsFit, openingWith}

@@ -15,7 +15,7 @@ use Rattle.graph.specs.declared.Graph.{Graph}
 use Rattle.graph.specs.Network.{network}
 use Rattle.graph.specs.Valid.{Valid, graphOf}
 use Rattle.graph.specs.Parts.{own-parts}
-use Rattle.onetree.specs.Inputs.{multipliersFit}
+use Rattle.tree_theory.specs.Inputs.{multipliersFit}
 use Rattle.machine.specs.Machine.{Progress, passes, ran}
 use Rattle.search.specs.Record.{marksIn}
 use Rattle.search.specs.Pushing.{bytesOf}

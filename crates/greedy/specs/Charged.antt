@@ -1,0 +1,50 @@
+-- Charges without a sign: each edge's charge moved up by one offset, so that it is at least 1 and code can compare and add it as an
+-- unsigned number. Assumes nothing.
+use mathlib.Core.Path.{sym, subst}
+use mathlib.Core.List.{List}
+use Prim.Native.Nat.{ℕ, suc, _+_, _*_, _<_, _≤_}
+use lib.ListN.{getD}
+use lib.IntN.{ℤ}
+use Rattle.integers.specs.Parts.{IsDiff}
+use Rattle.graph.specs.declared.Graph.{Graph}
+use Rattle.graph.specs.Limits.{maxVertices, maxEdges, maxCost, maxMultiplier, maxCeiling}
+use Rattle.graph.specs.Network.{network}
+use Rattle.tree_theory.specs.OneTree.{charge}
+use Rattle.tree_theory.specs.Inputs.{multiplier}
+use Rattle.tree_theory.specs.Bound.{Shifted}
+use Rattle.tree_theory.specs.Arrays.{entry, edge-in}
+
+-- a charge is a cost and two multipliers, so it is at least −3,000,000
+abbrev pub offset : ℕ
+offset = maxCost + 2 * maxMultiplier + 1
+
+-- and this much at most, when it is moved up
+abbrev pub maxCharge : ℕ
+maxCharge = 2 * (maxCost + 2 * maxMultiplier) + 1
+
+-- how far above and below 0 a bound can be: it is a sum of charges, moved up, less maxCost + 1 and at most 4 × maxMultiplier for each vertex
+abbrev pub highBound : ℕ
+highBound = maxCharge * maxEdges
+
+abbrev pub lowBound : ℕ
+lowBound = (maxCost + 1 + 4 * maxMultiplier) * maxVertices
+
+-- and so how far below a ceiling
+abbrev pub maxSlack : ℕ
+maxSlack = maxCeiling + lowBound
+
+-- x is the charge of edge k + 1
+pub record ChargeAt (g : Graph) (d : List ℤ) (k x : ℕ) : Type 0 where
+  pub is : IsDiff (charge (network g) (multiplier d) (suc k)) x offset
+  pub low : 1 ≤ x
+  pub high : x ≤ maxCharge
+
+-- c has the charges of all edges
+abbrev pub Charged : Graph → List ℤ → List ℕ → Type 0
+Charged g d c = (k : ℕ) → k < g .m → ChargeAt g d k (getD c k 0)
+
+-- as the laws of bounds want it
+pub offs : (g : Graph) (d : List ℤ) (c : List ℕ) → Charged g d c → Shifted (network g) (multiplier d) offset (entry c)
+offs g d c h e m =
+    let r = edge-in g e m in
+    subst (λ (x : ℕ). IsDiff (charge (network g) (multiplier d) x) (entry c x) offset) (sym (r .2)) (h (r .0) (r .1) .is)

@@ -1,0 +1,35 @@
+-- What the calls take beside a graph: multipliers and a ceiling, and when refusals 15, 11, 12 and 13 apply. (Document 01's word: dues.)
+use mathlib.Core.Bool.{Bool, not, cond, _&&_}
+use mathlib.Core.List.{List, _∷_}
+use Prim.Native.Nat.{ℕ}
+use lib.Dec.{eqb}
+use lib.ListN.{length, getD}
+use lib.IntN.{ℤ, pos}
+use Rattle.lists.specs.All.{everyOf}
+use Rattle.integers.specs.Range.{within}
+use Rattle.graph.specs.declared.Graph.{Graph}
+use Rattle.graph.specs.Limits.{maxMultiplier, maxCeiling}
+use Rattle.graph.specs.Valid.{valid}
+
+-- "Dues d(1) to d(n)", a list of n numbers: d(v) stands at place v − 1
+unfoldable pub multiplier : List ℤ → ℕ → ℤ
+multiplier d v = getD (pos 0 ∷ d) v (pos 0)
+
+-- "whole numbers, −1,000,000 to 1,000,000, with d(1) = 0"; otherwise "12 a due out of range or d(1) not 0"
+unfoldable pub multipliersFit : List ℤ → Bool
+unfolding everyOf within multiplier
+multipliersFit d = everyOf (within maxMultiplier) d && within 0 (multiplier d 1)
+
+-- "a ceiling (−50,000,000 to 50,000,000)"; otherwise "13 ceiling"
+unfoldable pub ceilingFits : ℤ → Bool
+unfolding within
+ceilingFits ceiling = within maxCeiling ceiling
+
+-- "Other calls, those that apply, in this order: 15 a chart value that breaks 'Legs and marks'; 11 a list of wrong length (dues n, tree,
+-- rulings and round m, ..); 12 a due out of range or d(1) not 0"; then what is left to test. 0 is no fault; len is the lent list's length
+unfoldable pub inputFault : Graph → List ℤ → ℕ → ℕ → ℕ
+inputFault g d len left =
+    cond (not (valid g)) 15
+    (cond (not (eqb (length d) (g .n) && eqb len (g .m))) 11
+    (cond (not (multipliersFit d)) 12
+    left))

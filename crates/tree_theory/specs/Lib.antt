@@ -1,0 +1,26 @@
+-- 1-trees and rulings over a network. What a reader must believe:
+-- document 01's words, and the least 1-tree and the rulings as values, by going through all sets of edges
+pub mod Inputs
+pub mod OneTree
+pub mod Enumeration
+-- What follows is proved, or says what code knows.
+-- the values are what the words say, and the only such
+pub mod Agree
+pub mod Subsets
+pub mod Decide
+pub mod LeastTree
+pub mod Rulings
+-- a 1-tree is two edges at vertex 1 and a spanning tree of the others; its bound is a weight; which is least, and which edges change places
+pub mod Valid
+pub mod Link
+pub mod Bound
+pub mod Weight
+pub mod Minimum
+pub mod Exchange
+pub mod Criteria
+-- a graph value's arrays and the lists beside it, as code has them
+pub mod Arrays
+pub mod Multipliers
+pub mod Accepted
+pub mod Spans
+pub mod Merges

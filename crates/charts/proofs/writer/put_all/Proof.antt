@@ -36,13 +36,15 @@ start c = let at-wide2 = c .before .before in at-wide2 .before .before .before
 loop-holds : tie.Need-loop-holds Inv-loop μ-loop
 loop-holds c =
     let at-put-header = c .before .before in
+    let at-wide2 = at-put-header .before .before in
     let start = start at-put-header in
     let g = start .args .g in
     let put = at-put-header .put-header in (
       omega arith,
       start .pre .1,
       put .kept .0 ∙ start .pre .2,
-      (rw (put .ensures, at-put-header .before .before .before .wide .ensures .0, at-put-header .before .before .wide2 .ensures .0) (write-start (g .n) (g .m) g (start .args .out .now) (omega (arith, start .pre)))),
+      (rw (put .ensures, at-wide2 .before .wide .ensures .0, at-wide2 .wide2 .ensures .0)
+          (write-start (g .n) (g .m) g (start .args .out .now) (omega (arith, start .pre)))),
     )
 
 put-record-requires : tie.Need-put-record-requires Inv-loop μ-loop

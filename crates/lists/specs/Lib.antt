@@ -10,3 +10,4 @@ pub mod Same
 pub mod Fill
 pub mod Hits
 pub mod Sets
+pub mod Filling

@@ -5,9 +5,7 @@ ghost use Rattle.machine.specs.Calls as Calls;
 ghost use Rattle.search.specs.Record.{fresh, openingOf};
 ghost use Rattle.search.specs.Replies.{refuses, reply, lent, Gives, GivesList};
 
-mod compact;
 mod cost;
-mod node;
 mod opening;
 mod record;
 mod running;
@@ -23,11 +21,7 @@ use running::Frame;
 use running::run_frame;
 use shown::show_tour;
 
-// Limits, as specs/Limits.antt of crate graph has them.
-pub const MAX_SWEEPS: u32 = 15;
-
-pub const MAX_STEP: u32 = 10_000;
-
+// As specs/Limits.antt of crate graph has it.
 pub const MAX_COUNT: u64 = 9_223_372_036_854_775_807;
 
 // The search record. Where a search is open: the arguments of its opening, the upper bound, the stack (node p from the bottom has

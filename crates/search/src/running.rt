@@ -2,18 +2,19 @@
 // value beside the bytes of the stack and of the best tour, which are lent: nothing copies the record for a node.
 ghost use mathlib.Core.Path.{_≡_};
 ghost use Rattle.machine.specs.Machine.{Progress, openTop, ran};
-ghost use Rattle.search.specs.Opening.{opened};
-ghost use Rattle.search.specs.Frames.{Holds, Opens};
+ghost use Rattle.node.specs.Opened.{opened};
+ghost use Rattle.search.specs.Frames.{FrameHolds, Opens};
 ghost use Rattle.search.specs.Running.{Runs};
-use crate::compact::open_compact;
 use crate::cost::tour_cost;
-use crate::node::Fate;
-use crate::node::Subproblem;
-use crate::stack::node;
+use crate::stack::get;
 use crate::stack::put;
 use graph::Graph;
+use graph::MAX_EDGES;
+use graph::MAX_VERTICES;
 use graph::wide;
 use machine::Settings;
+use node::Fate;
+use node::Subproblem;
 
 // What changes of a search while it runs, but for the stack and the best tour.
 pub(crate) struct Frame {
@@ -26,22 +27,24 @@ pub(crate) struct Frame {
 // What the opening of the top node makes of a search.
 fn settle<'a>(
     m: usize,
-    cost: &'a [i32; 190],
+    cost: &'a [i32; MAX_EDGES],
     f: Frame,
     fate: Fate,
-    row: &'a [u8; 190],
-    top: &'a [u8; 190],
+    row: &'a [u8; MAX_EDGES],
+    top: &'a [u8; MAX_EDGES],
     stack: &mut [u8; 4180],
-    best: &mut [u8; 190],
+    best: &mut [u8; MAX_EDGES],
 ) -> Frame
     requires { ⌜ Opens m (now cost) f (now stack) (now best) (opened fate (now row) (now top)) ⌝ }
     ensures { λ r. ⌜ ((t : Opens m (now (cost .entry)) f (now (stack .entry)) (now (best .entry))
         (opened fate (now (row .entry)) (now (top .entry))))
-        → Holds (t .graph) r (now (stack .exit)) (now (best .exit)) (openTop (t .search) (t .search .stack))) ⌝ }
+        → FrameHolds (t .graph) r (now (stack .exit)) (now (best .exit)) (openTop (t .search) (t .search .stack))) ⌝ }
 {
     let p = f.depth - 1;
     let k = f.count + 1;
     match fate {
+        // never: what a search opens has no fault
+        Fate::Refused(_) => f,
         Fate::Closes => {
             put(stack, p, top);
             Frame {
@@ -78,11 +81,11 @@ fn settle<'a>(
 // The run: the top node is opened, again and again. The graph's own marks count for nothing here: a node has its own.
 pub(crate) fn run_frame(
     g: Graph,
-    multipliers: [i32; 20],
+    multipliers: [i32; MAX_VERTICES],
     settings: Settings,
     f: Frame,
     stack: &mut [u8; 4180],
-    best: &mut [u8; 190],
+    best: &mut [u8; MAX_EDGES],
     budget: u64,
 ) -> Frame
     requires { ⌜ ((s : Progress) × Runs g multipliers settings f (now stack) (now best) s) ⌝ }
@@ -93,7 +96,7 @@ pub(crate) fn run_frame(
     let m = wide(g.m);
     let mut t = f;
     let mut left = budget;
-    let mut top = [0u8; 190];
+    let mut top = [0u8; MAX_EDGES];
     while left > 0 {
         if t.depth == 0 {
             return t;
@@ -101,15 +104,16 @@ pub(crate) fn run_frame(
         if t.count >= crate::MAX_COUNT {
             return t;
         }
-        let mut row = node(stack, t.depth - 1);
+        let mut row = get(stack, t.depth - 1);
         let p = Subproblem {
             n: n,
             m: m,
             multipliers: multipliers,
             upper: t.upper,
-            settings: settings,
+            sweeps: settings.sweeps,
+            step: settings.step,
         };
-        let fate = open_compact(p, &g.a, &g.b, &g.cost, &mut row, &mut top);
+        let fate = node::open(p, &g.a, &g.b, &g.cost, &mut row, &mut top);
         t = settle(m, &g.cost, t, fate, &row, &top, stack, best);
         left = left - 1;
     }

@@ -5,29 +5,30 @@ ghost use lib.ListN.{length};
 ghost use Rattle.graph.specs.Limits.{maxEdges};
 ghost use Rattle.search.specs.Record.{maxNodes, stackSize};
 ghost use Rattle.search.specs.Pushing.{rowAt, Put};
+use graph::MAX_EDGES;
 
 // The bytes of node p.
-pub(crate) fn node(stack: &[u8; 4180], p: usize) -> [u8; 190]
+pub(crate) fn get(stack: &[u8; 4180], p: usize) -> [u8; MAX_EDGES]
     requires { ⌜ p < maxNodes ⌝ }
     ensures { λ r. ⌜ r ≡ rowAt (now (stack .entry)) p ⌝ }
 {
-    let mut r = [0u8; 190];
+    let mut r = [0u8; MAX_EDGES];
     let mut j = 0;
-    while j < 190 {
-        r[j] = stack[190 * p + j];
+    while j < MAX_EDGES {
+        r[j] = stack[MAX_EDGES * p + j];
         j = j + 1;
     }
     r
 }
 
 // The bytes x are stored as node p.
-pub(crate) fn put(stack: &mut [u8; 4180], p: usize, x: &[u8; 190])
+pub(crate) fn put(stack: &mut [u8; 4180], p: usize, x: &[u8; MAX_EDGES])
     requires { ⌜ (p < maxNodes) × (length (now stack) ≡ stackSize) ⌝ }
     ensures { λ _. ⌜ Put p maxEdges (now (x .entry)) (now (stack .entry)) (now (stack .exit)) ⌝ }
 {
     let mut j = 0;
-    while j < 190 {
-        stack[190 * p + j] = x[j];
+    while j < MAX_EDGES {
+        stack[MAX_EDGES * p + j] = x[j];
         j = j + 1;
     }
 }

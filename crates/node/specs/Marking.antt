@@ -19,7 +19,6 @@ use Rattle.onetree.specs.Answers.{rulingByte}
 use Rattle.machine.specs.Outcomes.{closes}
 use Rattle.machine.specs.Machine.{Marks, isFree, markBy, firstFree, branch}
 use Rattle.machine.specs.Branching.{free-is, first-is}
-use Rattle.node.specs.declared.Fate.{Fate}
 use Rattle.node.specs.declared.Fate.the-variants as fate
 use Rattle.node.specs.Marks.{byteOf, bytesOf, bytes-at}
 use Rattle.node.specs.Opened.{opened, openedAs}

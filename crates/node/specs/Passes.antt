@@ -1,7 +1,7 @@
 -- The passes of a node, turn by turn, over the bytes of the node's marks and the multipliers so far (`AtPass`): each of the ends of a
 -- turn, as the code comes to them. In the first turn nothing is known of the node yet (`AtTurn`). Rests on the passes' definition alone.
 use mathlib.Core.Path.{_≡_, refl, sym, ap, _∙_, subst}
-use mathlib.Core.Logic.{_≢_, _⊎_, inl, inr, ⊎-elim}
+use mathlib.Core.Logic.{_≢_, _⊎_, ⊎-elim}
 use mathlib.Core.Bool.{Bool, true, false, true≢false}
 use mathlib.Core.List.{List, _∷_}
 use Prim.Native.Nat.{ℕ, zero, suc, _≤_, _<_}

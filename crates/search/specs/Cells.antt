@@ -10,7 +10,7 @@ use lib.ListN.{length, getD, replicate, length-replicate, List·getD-eq-default}
 use borrow.Author.Tests.{eq-eqb, ne-eqb}
 use Rattle.lists.specs.Fill.{fill-size, fill-at, fill-past, fill-is, replicate-at}
 use Rattle.graph.specs.Limits.{maxEdges}
-use Rattle.graph.specs.Network.{Mark, free, required, excluded, markOf}
+use Rattle.graph.specs.Network.{free, markOf}
 use Rattle.machine.specs.Machine.{Marks}
 use Rattle.machine.specs.Requireds.{requireds}
 use Rattle.machine.specs.Kept.{Nodes}

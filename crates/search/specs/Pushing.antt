@@ -5,11 +5,11 @@ use mathlib.Core.List.{List, _∷_}
 use Prim.Native.Nat.{ℕ, suc, _+_, _*_, _≤_, _<_}
 use native.Mathlib.Omega.{arith}
 use native.Mathlib.Decide.{decLe, ℕ-discrete}
-use lib.ListN.{length, getD, set, length-set, replicate, List·getD-eq-default}
+use lib.ListN.{length, getD, set, length-set, replicate}
 use lib.Seq.{getD-set-same, getD-set-other}
-use Rattle.lists.specs.Fill.{fill, fill-size, fill-at, fill-is, fill-same, replicate-at}
+use Rattle.lists.specs.Fill.{fill, fill-same, replicate-at}
 use Rattle.graph.specs.Limits.{maxEdges}
-use Rattle.graph.specs.Network.{free, markOf}
+use Rattle.graph.specs.Network.{free}
 use Rattle.machine.specs.Machine.{Marks}
 use Rattle.search.specs.Record.{maxNodes, stackSize, cell, cells}
 use Rattle.node.specs.Marks.{byteOf, bytesOf, bytes-at}

@@ -9,6 +9,7 @@ ghost use Rattle.onetree.specs.Arrays.{bytes};
 ghost use Rattle.machine.specs.Tours.{cost};
 ghost use Rattle.search.specs.Costs.{Ticked};
 use graph::Graph;
+use graph::MAX_EDGES;
 
 // The sum, with an edge's cost where the edge is in.
 fn tick(b: u8, x: i32, sum: i64) -> i64
@@ -22,7 +23,7 @@ fn tick(b: u8, x: i32, sum: i64) -> i64
 }
 
 // The sum of the costs of the edges that are in.
-pub(crate) fn tour_cost<'a>(m: usize, costs: &'a [i32; 190], w: &'a [u8; 190]) -> i64
+pub(crate) fn tour_cost<'a>(m: usize, costs: &'a [i32; MAX_EDGES], w: &'a [u8; MAX_EDGES]) -> i64
     requires { ⌜ ((g : Graph) × Valid g × (g .m ≡ m) × (g .cost ≡ now costs)) ⌝ }
     ensures { λ r. ⌜ ((g : Graph) → Valid g → g .m ≡ m → g .cost ≡ now (costs .entry) → r ≡ cost (network g) (bytes (now (w .entry))))
         × InRange (maxCost * maxEdges) r ⌝ }

@@ -14,6 +14,8 @@ mod stack;
 
 use cost::tour_cost;
 use graph::Graph;
+use graph::MAX_EDGES;
+use graph::MAX_VERTICES;
 use graph::wide;
 use machine::Settings;
 use record::sound;
@@ -23,6 +25,11 @@ use shown::show_tour;
 
 // As specs/Limits.antt of crate graph has it.
 pub const MAX_COUNT: u64 = 9_223_372_036_854_775_807;
+
+// The room of a stack: nodes, and bytes.
+pub const MAX_NODES: usize = 22;
+
+pub const STACK_SIZE: usize = 4180;
 
 // The search record. Where a search is open: the arguments of its opening, the upper bound, the stack (node p from the bottom has
 // a mark for each edge from place 190 * p on), the incumbent (1 in, 0 out) and the count of nodes opened. The flags `open` and `has_best`
@@ -35,9 +42,9 @@ pub struct Search {
     pub count: u64,
     pub depth: usize,
     pub graph: Graph,
-    pub multipliers: [i32; 20],
-    pub stack: [u8; 4180],
-    pub best: [u8; 190],
+    pub multipliers: [i32; MAX_VERTICES],
+    pub stack: [u8; STACK_SIZE],
+    pub best: [u8; MAX_EDGES],
     pub open: u8,
     pub has_best: u8,
 }
@@ -80,9 +87,9 @@ impl Search {
             count: 0,
             depth: 0,
             graph: g,
-            multipliers: [0; 20],
-            stack: [0; 4180],
-            best: [0; 190],
+            multipliers: [0; MAX_VERTICES],
+            stack: [0; STACK_SIZE],
+            best: [0; MAX_EDGES],
             open: 0,
             has_best: 0,
         }

@@ -9,9 +9,12 @@ ghost use Rattle.machine.specs.Machine.{trimmed};
 ghost use Rattle.machine.specs.Machine as Machine;
 ghost use Rattle.machine.specs.Calls as Calls;
 ghost use Rattle.search.specs.Record.{openingOf, recordOf};
+use crate::STACK_SIZE;
 use crate::Search;
 use crate::stack;
 use graph::Graph;
+use graph::MAX_EDGES;
+use graph::MAX_VERTICES;
 use graph::wide;
 use machine::Settings;
 use node::MAX_STEP;
@@ -49,7 +52,7 @@ fn trim(g: Graph) -> Graph
 {
     let mut t = g;
     let mut k = wide(g.m);
-    while k < 190 {
+    while k < MAX_EDGES {
         t.a[k] = 0;
         t.b[k] = 0;
         t.cost[k] = 0;
@@ -60,11 +63,11 @@ fn trim(g: Graph) -> Graph
 }
 
 // The multipliers, then zeros.
-fn padded(d: &[i32]) -> [i32; 20]
+fn padded(d: &[i32]) -> [i32; MAX_VERTICES]
     requires { ⌜ length (now d) ≤ maxVertices ⌝ }
     ensures { λ r. ⌜ r ≡ fit maxVertices (pos 0) (now (d .entry)) ⌝ }
 {
-    let mut r = [0i32; 20];
+    let mut r = [0i32; MAX_VERTICES];
     let mut k = 0;
     while k < d.len() {
         r[k] = d[k];
@@ -80,7 +83,7 @@ pub(crate) fn begin(g: Graph, multipliers: &[i32], settings: Settings) -> Search
     let t = trim(g);
     let d = padded(multipliers);
     let marks = t.mark;
-    let mut nodes = [0u8; 4180];
+    let mut nodes = [0u8; STACK_SIZE];
     stack::put(&mut nodes, 0, &marks);
     Search {
         settings: settings,
@@ -90,7 +93,7 @@ pub(crate) fn begin(g: Graph, multipliers: &[i32], settings: Settings) -> Search
         graph: t,
         multipliers: d,
         stack: nodes,
-        best: [0; 190],
+        best: [0; MAX_EDGES],
         open: 1,
         has_best: 0,
     }

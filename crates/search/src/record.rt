@@ -11,10 +11,13 @@ ghost use Rattle.search.specs.Canonical.{Zeros, GraphTidy, NodeZeros, St
 ghost use Rattle.search.specs.CheckParts.{InUse, FieldsTidy, FieldsFit, FieldsIdle, openingWith};
 ghost use Rattle.search.specs.Check.{check};
 use crate::MAX_COUNT;
+use crate::MAX_NODES;
+use crate::STACK_SIZE;
 use crate::Search;
 use crate::opening;
 use graph::EXCLUDED;
 use graph::Graph;
+use graph::MAX_EDGES;
 use graph::MAX_VERTICES;
 use graph::REQUIRED;
 use graph::wide;
@@ -24,12 +27,12 @@ use machine::Settings;
 // at a time.
 
 // Is every place from `from` on zero?
-fn zeros(a: [u8; 190], from: usize) -> bool
+fn zeros(a: [u8; MAX_EDGES], from: usize) -> bool
     ensures { λ r. ⌜ Says r (Zeros 0 maxEdges from a) ⌝ }
 {
     let mut most = 0;
     let mut i = from;
-    while i < 190 {
+    while i < MAX_EDGES {
         let x = a[i];
         if x > most {
             most = x;
@@ -39,11 +42,11 @@ fn zeros(a: [u8; 190], from: usize) -> bool
     most == 0
 }
 
-fn costs_tidy(a: [i32; 190], from: usize) -> bool
+fn costs_tidy(a: [i32; MAX_EDGES], from: usize) -> bool
     ensures { λ r. ⌜ Says r (Zeros (pos 0) maxEdges from a) ⌝ }
 {
     let mut i = from;
-    while i < 190 {
+    while i < MAX_EDGES {
         if a[i] != 0 {
             return false;
         }
@@ -52,11 +55,11 @@ fn costs_tidy(a: [i32; 190], from: usize) -> bool
     true
 }
 
-fn multipliers_tidy(d: [i32; 20], n: usize) -> bool
+fn multipliers_tidy(d: [i32; MAX_VERTICES], n: usize) -> bool
     ensures { λ r. ⌜ Says r (Zeros (pos 0) maxVertices n d) ⌝ }
 {
     let mut i = n;
-    while i < 20 {
+    while i < MAX_VERTICES {
         if d[i] != 0 {
             return false;
         }
@@ -86,14 +89,14 @@ fn graph_tidy(g: Graph) -> bool
 }
 
 // Is every place of node p from `from` on zero?
-fn node_zeros(stack: &[u8; 4180], p: usize, from: usize) -> bool
+fn node_zeros(stack: &[u8; STACK_SIZE], p: usize, from: usize) -> bool
     requires { ⌜ p < maxNodes ⌝ }
     ensures { λ r. ⌜ Says r (NodeZeros (now (stack .entry)) p from) ⌝ }
 {
     let mut most = 0;
     let mut j = from;
-    while j < 190 {
-        let x = stack[190 * p + j];
+    while j < MAX_EDGES {
+        let x = stack[MAX_EDGES * p + j];
         if x > most {
             most = x;
         }
@@ -103,12 +106,12 @@ fn node_zeros(stack: &[u8; 4180], p: usize, from: usize) -> bool
 }
 
 // Is every byte of the stack from `from` on zero?
-fn stack_zeros(stack: &[u8; 4180], from: usize) -> bool
+fn stack_zeros(stack: &[u8; STACK_SIZE], from: usize) -> bool
     ensures { λ r. ⌜ Says r (Zeros 0 stackSize from (now (stack .entry))) ⌝ }
 {
     let mut most = 0;
     let mut i = from;
-    while i < 4180 {
+    while i < STACK_SIZE {
         let x = stack[i];
         if x > most {
             most = x;
@@ -122,17 +125,17 @@ fn stack_zeros(stack: &[u8; 4180], from: usize) -> bool
 fn nodes_in_use(depth: usize) -> usize
     ensures { λ r. ⌜ InUse depth r ⌝ }
 {
-    if depth < 22 {
+    if depth < MAX_NODES {
         return depth;
     }
-    22
+    MAX_NODES
 }
 
-fn stack_tidy(stack: &[u8; 4180], m: usize, depth: usize) -> bool
+fn stack_tidy(stack: &[u8; STACK_SIZE], m: usize, depth: usize) -> bool
     ensures { λ r. ⌜ Says r (StackTidy m depth (now (stack .entry))) ⌝ }
 {
     let used = nodes_in_use(depth);
-    if !stack_zeros(stack, 190 * used) {
+    if !stack_zeros(stack, MAX_EDGES * used) {
         return false;
     }
     let mut p = 0;
@@ -145,12 +148,12 @@ fn stack_tidy(stack: &[u8; 4180], m: usize, depth: usize) -> bool
     true
 }
 
-fn bits(a: [u8; 190]) -> bool
+fn bits(a: [u8; MAX_EDGES]) -> bool
     ensures { λ r. ⌜ Says r (Bits a) ⌝ }
 {
     let mut most = 0;
     let mut i = 0;
-    while i < 190 {
+    while i < MAX_EDGES {
         let x = a[i];
         if x > most {
             most = x;
@@ -161,7 +164,7 @@ fn bits(a: [u8; 190]) -> bool
 }
 
 // Has node p marks only, and at least p required edges?
-fn node_fits(stack: &[u8; 4180], m: usize, p: usize) -> bool
+fn node_fits(stack: &[u8; STACK_SIZE], m: usize, p: usize) -> bool
     requires { ⌜ (m ≤ maxEdges) × (p < maxNodes) ⌝ }
     ensures { λ r. ⌜ Says r (NodeFits m (now (stack .entry)) p) ⌝ }
 {
@@ -169,7 +172,7 @@ fn node_fits(stack: &[u8; 4180], m: usize, p: usize) -> bool
     let mut requireds: u8 = 0;
     let mut j = 0;
     while j < m {
-        let x = stack[190 * p + j];
+        let x = stack[MAX_EDGES * p + j];
         if x > most {
             most = x;
         }
@@ -184,7 +187,7 @@ fn node_fits(stack: &[u8; 4180], m: usize, p: usize) -> bool
     p <= requireds as usize
 }
 
-fn stack_fits(stack: &[u8; 4180], m: usize, depth: usize) -> bool
+fn stack_fits(stack: &[u8; STACK_SIZE], m: usize, depth: usize) -> bool
     requires { ⌜ (m ≤ maxEdges) × (depth ≤ maxNodes) ⌝ }
     ensures { λ r. ⌜ Says r (StackFits m depth (now (stack .entry))) ⌝ }
 {
@@ -199,7 +202,12 @@ fn stack_fits(stack: &[u8; 4180], m: usize, depth: usize) -> bool
 }
 
 // Zero past the edges and the vertices; and the incumbent, where there is none.
-fn fields_tidy(g: Graph, multipliers: [i32; 20], has_best: bool, best: [u8; 190]) -> bool
+fn fields_tidy(
+    g: Graph,
+    multipliers: [i32; MAX_VERTICES],
+    has_best: bool,
+    best: [u8; MAX_EDGES],
+) -> bool
     ensures { λ r. ⌜ Says r (FieldsTidy g multipliers «has_best» best) ⌝ }
 {
     if !graph_tidy(g) {
@@ -215,7 +223,7 @@ fn fields_tidy(g: Graph, multipliers: [i32; 20], has_best: bool, best: [u8; 190]
 }
 
 // Are the arguments of an open record such as an opening accepts?
-fn opening_fits(g: Graph, multipliers: [i32; 20], settings: Settings) -> bool
+fn opening_fits(g: Graph, multipliers: [i32; MAX_VERTICES], settings: Settings) -> bool
     ensures { λ r. ⌜ r ≡ eqb (fault (openingWith g multipliers settings)) 0 ⌝ }
 {
     let n = wide(g.n);
@@ -227,11 +235,11 @@ fn opening_fits(g: Graph, multipliers: [i32; 20], settings: Settings) -> bool
 
 fn fields_fit(
     g: Graph,
-    multipliers: [i32; 20],
+    multipliers: [i32; MAX_VERTICES],
     settings: Settings,
     upper: i64,
     depth: usize,
-    best: [u8; 190],
+    best: [u8; MAX_EDGES],
     count: u64,
 ) -> bool
     ensures { λ r. ⌜ Says r (FieldsFit (openingWith g multipliers settings) upper depth best count) ⌝ }

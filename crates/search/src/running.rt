@@ -1,10 +1,10 @@
 // Running: the top node is opened while one waits, budget is left and the count is below its limit. What changes is a small frame by
 // value beside the bytes of the stack and of the best tour, which are lent: nothing copies the record for a node.
-ghost use mathlib.Core.Path.{_≡_};
 ghost use Rattle.machine.specs.Machine.{Progress, openTop, ran};
 ghost use Rattle.node.specs.Opened.{opened};
 ghost use Rattle.search.specs.Frames.{FrameHolds, Opens};
 ghost use Rattle.search.specs.Running.{Runs};
+use crate::STACK_SIZE;
 use crate::cost::tour_cost;
 use crate::stack::get;
 use crate::stack::put;
@@ -32,7 +32,7 @@ fn settle<'a>(
     fate: Fate,
     row: &'a [u8; MAX_EDGES],
     top: &'a [u8; MAX_EDGES],
-    stack: &mut [u8; 4180],
+    stack: &mut [u8; STACK_SIZE],
     best: &mut [u8; MAX_EDGES],
 ) -> Frame
     requires { ⌜ Opens m (now cost) f (now stack) (now best) (opened fate (now row) (now top)) ⌝ }
@@ -84,7 +84,7 @@ pub(crate) fn run_frame(
     multipliers: [i32; MAX_VERTICES],
     settings: Settings,
     f: Frame,
-    stack: &mut [u8; 4180],
+    stack: &mut [u8; STACK_SIZE],
     best: &mut [u8; MAX_EDGES],
     budget: u64,
 ) -> Frame

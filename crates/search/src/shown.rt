@@ -4,8 +4,9 @@ ghost use Prim.Native.Nat.{_≤_};
 ghost use lib.ListN.{length};
 ghost use Rattle.lists.specs.Fill.{fit};
 ghost use Rattle.graph.specs.Limits.{maxEdges};
+use graph::MAX_EDGES;
 
-pub(crate) fn show_tour(best: [u8; 190], out: &mut [u8])
+pub(crate) fn show_tour(best: [u8; MAX_EDGES], out: &mut [u8])
     requires { ⌜ length (now out) ≤ maxEdges ⌝ }
     ensures { λ _. ⌜ now (out .exit) ≡ fit (length (now (out .entry))) 0 best ⌝ }
 {

@@ -5,10 +5,11 @@ ghost use lib.ListN.{length};
 ghost use Rattle.graph.specs.Limits.{maxEdges};
 ghost use Rattle.search.specs.Record.{maxNodes, stackSize};
 ghost use Rattle.search.specs.Pushing.{rowAt, Put};
+use crate::STACK_SIZE;
 use graph::MAX_EDGES;
 
 // The bytes of node p.
-pub(crate) fn get(stack: &[u8; 4180], p: usize) -> [u8; MAX_EDGES]
+pub(crate) fn get(stack: &[u8; STACK_SIZE], p: usize) -> [u8; MAX_EDGES]
     requires { ⌜ p < maxNodes ⌝ }
     ensures { λ r. ⌜ r ≡ rowAt (now (stack .entry)) p ⌝ }
 {
@@ -22,7 +23,7 @@ pub(crate) fn get(stack: &[u8; 4180], p: usize) -> [u8; MAX_EDGES]
 }
 
 // The bytes x are stored as node p.
-pub(crate) fn put(stack: &mut [u8; 4180], p: usize, x: &[u8; MAX_EDGES])
+pub(crate) fn put(stack: &mut [u8; STACK_SIZE], p: usize, x: &[u8; MAX_EDGES])
     requires { ⌜ (p < maxNodes) × (length (now stack) ≡ stackSize) ⌝ }
     ensures { λ _. ⌜ Put p maxEdges (now (x .entry)) (now (stack .entry)) (now (stack .exit)) ⌝ }
 {

@@ -25,9 +25,13 @@ element-copy-out-wide c = search needs
 wide-requires : tie.Need-wide-requires Inv-loop μ-loop
 wide-requires c κs = search needs
 
+-- the turn that a place is read in
+abbrev turn : tie.After-wide Inv-loop μ-loop → tie.At-loop Inv-loop μ-loop
+turn c = c .before .before .before
+
 -- the place listed at j is one of the array's
 place-in : (c : tie.After-wide Inv-loop μ-loop) → c .wide .result < 190
-place-in c = let l = c .before .before .before .loop in omega (arith, c .wide .ensures .0, l .inv .2 (l .j) (omega arith))
+place-in c = let l = turn c .loop in omega (arith, c .wide .ensures .0, l .inv .2 (l .j) (omega arith))
 
 element-copy-out-into : tie.Need-element-copy-out-into Inv-loop μ-loop
 element-copy-out-into c = place-in c
@@ -43,8 +47,9 @@ loop-less c = search needs
 
 loop-again : tie.Need-loop-again Inv-loop μ-loop
 loop-again c =
-    let l = c .before .before .before .before .loop in
-    let s = c .before .before .before .before .before .args in
+    let at = turn (c .before) in
+    let l = at .loop in
+    let s = at .before .args in
     let e = c .before .wide .ensures .0 in (
       omega arith,
       l .inv .1,

@@ -28,9 +28,13 @@ element-copy-out-wide c = search needs
 wide-requires : tie.Need-wide-requires Inv-loop μ-loop
 wide-requires c κs = search needs
 
+-- the turn that a place is read in
+abbrev turn : tie.After-wide Inv-loop μ-loop → tie.At-loop Inv-loop μ-loop
+turn c = c .before .before .before
+
 -- the place listed at j is one of the array's
 place-in : (c : tie.After-wide Inv-loop μ-loop) → c .wide .result < 190
-place-in c = let l = c .before .before .before .loop in omega (arith, c .wide .ensures .0, l .inv .2 (l .j) (omega arith))
+place-in c = let l = turn c .loop in omega (arith, c .wide .ensures .0, l .inv .2 (l .j) (omega arith))
 
 mul-into : tie.Need-mul-into Inv-loop μ-loop
 mul-into c = omega (arith, place-in c)
@@ -52,8 +56,9 @@ loop-less c = search needs
 
 loop-again : tie.Need-loop-again Inv-loop μ-loop
 loop-again c =
-    let l = c .before .before .before .before .loop in
-    let s = c .before .before .before .before .before .args in
+    let at = turn (c .before) in
+    let l = at .loop in
+    let s = at .before .args in
     let e = c .before .wide .ensures .0 in
     let z = getD (s .from .now) (c .before .wide .result) (pos 0) in
     let fits : mag z < 2147483648 = c .into .given in (

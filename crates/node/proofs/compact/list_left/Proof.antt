@@ -1,6 +1,7 @@
 -- The loop keeps: of the first k edges f are left, and their places are listed.
-use Prim.Native.Nat.{_≤_, _+_, _-_}
+use Prim.Native.Nat.{ℕ, _≤_, _+_, _-_}
 use mathlib.Core.Path.{_≡_}
+use mathlib.Core.List.{List}
 use native.Mathlib.Omega.{arith}
 use borrow.Author.Needs.{needs}
 use Rattle.compaction.specs.Ranks.{rank, rank-most}
@@ -32,14 +33,20 @@ element-copy-out-counted c = search needs
 counted-requires : tie.Need-counted-requires Inv-loop μ-loop
 counted-requires c κs = search needs
 
+-- the turn that an edge is in, and the marks
+abbrev turn : tie.After-counted-arg Inv-loop μ-loop → tie.At-loop Inv-loop μ-loop
+turn c = c .before .before .before
+
+abbrev marks-of : tie.After-counted-arg Inv-loop μ-loop → List ℕ
+marks-of c = turn c .before .args .marks .now
+
 -- how many are left of one edge more
 next : (c : tie.After-counted Inv-loop μ-loop)
-    → let l = c .before .before .before .before .loop in
-    let marks = c .before .before .before .before .before .args .marks .now in
-    (l .f + c .counted .result ≡ rank (kept marks) (l .k + 1)) × (l .f + c .counted .result ≤ l .k + 1)
+    → let l = turn (c .before) .loop in
+    (l .f + c .counted .result ≡ rank (kept (marks-of (c .before))) (l .k + 1)) × (l .f + c .counted .result ≤ l .k + 1)
 next c =
-    let l = c .before .before .before .before .loop in
-    let marks = c .before .before .before .before .before .args .marks .now in
+    let l = turn (c .before) .loop in
+    let marks = marks-of (c .before) in
     let e : l .f + c .counted .result ≡ rank (kept marks) (l .k + 1) =
     rw (c .counted .ensures) (rank-next marks (l .k) (l .f) (l .inv .3)) in
     (e, omega (arith, rank-most (kept marks) (l .k + 1)))
@@ -55,8 +62,8 @@ loop-less c = search needs
 
 loop-again : tie.Need-loop-again Inv-loop μ-loop
 loop-again c =
-    let l = c .before .before .before .before .loop in
-    let marks = c .before .before .before .before .before .args .marks .now in (
+    let l = turn (c .before) .loop in
+    let marks = marks-of (c .before) in (
       omega arith,
       l .inv .1,
       next c .1,

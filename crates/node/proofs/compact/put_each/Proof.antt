@@ -24,9 +24,13 @@ wide-requires c κs = search needs
 element-copy-out-r : tie.Need-element-copy-out-r Inv-loop μ-loop
 element-copy-out-r c = search needs
 
+-- the turn that a place is read in
+abbrev turn : tie.After-wide Inv-loop μ-loop → tie.At-loop Inv-loop μ-loop
+turn c = c .before .before .before
+
 element-write-r : tie.Need-element-write-r Inv-loop μ-loop
 element-write-r c =
-    let l = c .before .before .before .before .loop in
+    let l = turn (c .before) .loop in
     omega (arith, c .before .wide .ensures .0, l .inv .1 .low (l .j) (omega arith))
 
 add-j : tie.Need-add-j Inv-loop μ-loop
@@ -37,7 +41,7 @@ loop-less c = search needs
 
 loop-again : tie.Need-loop-again Inv-loop μ-loop
 loop-again c =
-    let l = c .before .before .before .before .loop in
+    let l = turn (c .before) .loop in
     (omega arith, l .inv .1, rw (c .before .wide .ensures .0) (placed-more _ _ _ _ (l .j) (l .r) (l .inv .1) (omega arith) (l .inv .2)))
 
 returns : tie.Need-returns Inv-loop μ-loop

@@ -33,42 +33,53 @@ element-copy-out-wide-2 c = search needs
 wide-requires-2 : tie.Need-wide-requires-2 Inv-loop μ-loop
 wide-requires-2 c κs = search needs
 
+-- the two ends, as they are read, and the turn that they are read in
+abbrev from : tie.After-wide2 Inv-loop μ-loop → tie.After-wide Inv-loop μ-loop
+from c = c .before .before
+
+abbrev turn : tie.After-wide2 Inv-loop μ-loop → tie.At-loop Inv-loop μ-loop
+turn c =
+    let chosen = from c .before .before in
+    chosen .before .before .before
+
 element-copy-out-r : tie.Need-element-copy-out-r Inv-loop μ-loop
 element-copy-out-r c =
-    let at = c .before .before .before .before .before .before .before in
+    let at = turn c in
     let e = at .before .pre .1 (at .loop .k) (omega arith) in
-    omega (arith, c .before .before .wide .ensures .0, e .less, e .high)
+    omega (arith, from c .wide .ensures .0, e .less, e .high)
 
 add-r : tie.Need-add-r Inv-loop μ-loop
-add-r c =
-    let at = c .before .before .before .before .before .before .before .before in
-    omega (arith, at .loop .inv .2 .most (c .before .before .before .wide .result))
+add-r c = let w = c .before in omega (arith, turn w .loop .inv .2 .most (from w .wide .result))
 
 element-write-r : tie.Need-element-write-r Inv-loop μ-loop
 element-write-r c =
-    let at = c .before .before .before .before .before .before .before .before in
+    let w = c .before in
+    let at = turn w in
     let e = at .before .pre .1 (at .loop .k) (omega arith) in
-    omega (arith, c .before .before .before .wide .ensures .0, e .less, e .high)
+    omega (arith, from w .wide .ensures .0, e .less, e .high)
 
 element-copy-out-r-2 : tie.Need-element-copy-out-r-2 Inv-loop μ-loop
 element-copy-out-r-2 c =
-    let at = c .before .before .before .before .before .before .before .before in
+    let w = c .before in
+    let at = turn w in
     let e = at .before .pre .1 (at .loop .k) (omega arith) in
-    omega (arith, c .before .wide2 .ensures .0, e .less, e .high)
+    omega (arith, w .wide2 .ensures .0, e .less, e .high)
 
 add-r-2 : tie.Need-add-r-2 Inv-loop μ-loop
 add-r-2 c =
-    let at = c .before .before .before .before .before .before .before .before .before in
+    let w = c .before .before in
+    let at = turn w in
     let e = at .before .pre .1 (at .loop .k) (omega arith) in
-    rw (getD-set-other (at .loop .r) (c .before .before .before .before .wide .result) (c .before .before .wide2 .result) _ 0
-    (omega (arith, c .before .before .before .before .wide .ensures .0, c .before .before .wide2 .ensures .0, e .less)))
-    (omega (arith, at .loop .inv .2 .most (c .before .before .wide2 .result)))
+    rw (getD-set-other (at .loop .r) (from w .wide .result) (w .wide2 .result) _ 0
+    (omega (arith, from w .wide .ensures .0, w .wide2 .ensures .0, e .less)))
+    (omega (arith, at .loop .inv .2 .most (w .wide2 .result)))
 
 element-write-r-2 : tie.Need-element-write-r-2 Inv-loop μ-loop
 element-write-r-2 c =
-    let at = c .before .before .before .before .before .before .before .before .before in
+    let w = c .before .before in
+    let at = turn w in
     let e = at .before .pre .1 (at .loop .k) (omega arith) in
-    omega (arith, c .before .before .wide2 .ensures .0, e .less, e .high)
+    omega (arith, w .wide2 .ensures .0, e .less, e .high)
 
 add-k : tie.Need-add-k Inv-loop μ-loop
 add-k c = search needs

@@ -30,13 +30,18 @@ add-gain c = search needs
 element-copy-out-gain : tie.Need-element-copy-out-gain Inv-loop μ-loop
 element-copy-out-gain c = search needs
 
+-- the turn that a vertex is in
+abbrev turn : tie.After-gain-arg Inv-loop μ-loop → tie.At-loop Inv-loop μ-loop
+turn c = c .before .before .before
+
 gain-requires : tie.Need-gain-requires Inv-loop μ-loop
-gain-requires c κs = c .before .before .before .before .pre .2
+gain-requires c κs = turn c .before .pre .2
 
 gained-requires : tie.Need-gained-requires Inv-loop μ-loop
 gained-requires c κs =
-    let l = c .before .before .before .before .loop in
-    let s = c .before .before .before .before .before in
+    let at = turn (c .before) in
+    let l = at .loop in
+    let s = at .before in
     rw (back32 (getD (s .args .t2) (l .v) (pos 0)) (c .before .before .gained-arg .given), back32 (c .gain .result) (c .gain .ok))
     (s .pre .3 (l .v) (omega arith), c .gain .ensures .1)
 
@@ -54,8 +59,9 @@ loop-less c = search needs
 
 loop-again : tie.Need-loop-again Inv-loop μ-loop
 loop-again c =
-    let l = c .before .before .before .before .before .loop in
-    let s = c .before .before .before .before .before .before in
+    let at = turn (c .before .before) in
+    let l = at .loop in
+    let s = at .before in
     let e =
     rw (
       back32 (getD (s .args .t2) (l .v) (pos 0)) (c .before .before .before .gained-arg .given),

@@ -10,7 +10,6 @@ use mir.Val.{toZ, ofZ}
 use mir.Syntax.{w64}
 use borrow.Author.Tests.{not-true, not-false}
 use Rattle.integers.specs.Words.{back64}
-use Rattle.lists.specs.Fill.{fit}
 use Rattle.lists.specs.Filling.{take-fit}
 use Rattle.graph.specs.declared.Graph.{Graph}
 use Rattle.graph.specs.Valid.{graphOf}

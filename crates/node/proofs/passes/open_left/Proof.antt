@@ -15,13 +15,12 @@ use Rattle.graph.specs.Limits.{maxMultiplier}
 use Rattle.graph.specs.Valid.{graphOf}
 use Rattle.onetree.specs.Inputs.{multipliersFit}
 use Rattle.onetree.specs.Multipliers.{fit-ranged}
-use Rattle.machine.specs.Machine as M
 use Rattle.machine.specs.Calls.{fault}
 use Rattle.node.specs.declared.passes.Verdict.{Verdict}
 use Rattle.node.specs.declared.passes.Verdict.the-variants as verdict
 use Rattle.node.specs.Marks.{Padded}
 use Rattle.node.specs.Opened.{Opened, openedAs, taken, opensBy}
-use Rattle.node.specs.Faults.{Fit, fault-fit}
+use Rattle.node.specs.Faults.{fault-fit}
 use Rattle.node.specs.OnePass.{VerdictIs, verdict-as}
 use Rattle.node.specs.Passes.{AtPass, AtTurn, outcome, takenAt, opens-accepted, turn-padded, turn-refused, turn-accepted}
 use Rattle.node.specs.Passes.{turn-shut, turn-found, turn-marks, turn-last, turn-next}

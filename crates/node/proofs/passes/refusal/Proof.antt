@@ -1,5 +1,4 @@
 -- By the cases of the answer.
-use mathlib.Core.Path.{sym, _∙_}
 use borrow.Author.Needs.{needs}
 use Rattle.node.specs.Passing.{refusal}
 use Rattle.node.proofs.passes.refusal.Statement.{statement}

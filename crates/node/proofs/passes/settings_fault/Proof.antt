@@ -1,6 +1,5 @@
 -- By the two tests.
 use native.Mathlib.Omega.{arith}
-use mathlib.Core.Path.{refl}
 use borrow.Author.Tests.{le-leb, lt-leb}
 use Rattle.graph.specs.Limits.{maxSweeps, maxStep}
 use Rattle.node.proofs.passes.settings_fault.Statement.{statement}

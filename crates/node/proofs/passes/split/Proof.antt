@@ -20,12 +20,14 @@ close-requires c κs = search needs
 
 returns : tie.Need-returns
 returns c =
-    let s = c .before .before .before .before .before .before in
+    let none = c .before .before .before in
+    let free = none .before in
+    let s = free .before .before in
     let m = s .args .m in
     let x = s .args .row .now in
-    let k = c .before .before .before .before .first-free .result in
-    let f = subst (λ (y : List ℕ). FirstFree y m k) (s .pre .1) (c .before .before .before .before .first-free .ensures) in
-    c .close .ensures ∙ sym (branch-closes (marksIn m x) m k (s .pre .0) (marks-size m x) f (c .before .before .before .if1 .taken))
+    let k = free .first-free .result in
+    let f = subst (λ (y : List ℕ). FirstFree y m k) (s .pre .1) (free .first-free .ensures) in
+    c .close .ensures ∙ sym (branch-closes (marksIn m x) m k (s .pre .0) (marks-size m x) f (none .if1 .taken))
 
 element-write-row : tie.Need-element-write-row
 element-write-row c = search needs
@@ -35,11 +37,12 @@ element-write-top c = search needs
 
 returns-2 : tie.Need-returns-2
 returns-2 c =
-    let s = c .before .before .before .before in
+    let free = c .before .before in
+    let s = free .before .before in
     let m = s .args .m in
     let x = s .args .row .now in
-    let k = c .before .before .first-free .result in
-    let f = subst (λ (y : List ℕ). FirstFree y m k) (s .pre .1) (c .before .before .first-free .ensures) in
+    let k = free .first-free .result in
+    let f = subst (λ (y : List ℕ). FirstFree y m k) (s .pre .1) (free .first-free .ensures) in
     ap (λ (y : List ℕ). opened fate.Splits (set y k 2) (set y k 1)) (s .pre .1)
     ∙ sym (branch-splits (marksIn m x) m k (s .pre .0) (marks-size m x) f (omega (arith, f .most, c .before .if1 .left)))
 

@@ -70,14 +70,14 @@ left g =
 
 -- ---- the answer, and what is left
 
--- a node is opened with what a search is opened with: the graph has the node's marks, the upper bound stands for the ceiling, and the
--- multipliers are the first n
+-- a node is opened with what a search is opened with: the graph has the node's marks, the ceiling is the upper bound, and the multipliers
+-- are the first n
 abbrev pub taken : Subproblem → Graph → Opening
 taken p g =
     record {
       graph = g;
       multipliers = fit (g .n) (pos 0) (p .multipliers);
-      settings = record { ceiling = p .upper; sweeps = p .sweeps; step = p .step };
+      settings = p .settings;
     }
 
 abbrev pub leftIn : Opening → Opening

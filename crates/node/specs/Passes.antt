@@ -209,8 +209,8 @@ outcome o =
 -- nothing is done yet, or the node has no fault
 abbrev pub AtTurn : Subproblem → Graph → ℕ → List ℕ → List ℤ → Type 0
 AtTurn p g left x d =
-    ((left ≡ p .sweeps) × (x ≡ g .mark) × (d ≡ p .multipliers))
-    ⊎ ((fault (taken p g) ≡ 0) × AtPass g (p .step) (p .upper) (outcome (taken p g)) left x d)
+    ((left ≡ p .settings .sweeps) × (x ≡ g .mark) × (d ≡ p .multipliers))
+    ⊎ ((fault (taken p g) ≡ 0) × AtPass g (p .settings .step) (p .settings .ceiling) (outcome (taken p g)) left x d)
 
 -- the opening that a turn's pass is given
 abbrev pub takenAt : Subproblem → Graph → List ℕ → List ℤ → Opening
@@ -249,11 +249,11 @@ module _ (p : Subproblem) (g : Graph) (padded : Padded (g .m) (g .mark)) (left :
   first-taken a b = λ i. takenAt p g (a i) (b i)
 
   -- later ones refuse nothing
-  later-fit : fault (taken p g) ≡ 0 → AtPass g (p .step) (p .upper) (outcome (taken p g)) left x d → fault (takenAt p g x d) ≡ 0
+  later-fit : fault (taken p g) ≡ 0 → AtPass g (p .settings .step) (p .settings .ceiling) (outcome (taken p g)) left x d → fault (takenAt p g x d) ≡ 0
   later-fit z t =
       let f = fault-fit (taken p g) z in
       fit-fault (takenAt p g x d) (record {
-        valid = at-valid g (f .valid) (p .step) (p .upper) (outcome (taken p g)) left x d t;
+        valid = at-valid g (f .valid) (p .settings .step) (p .settings .ceiling) (outcome (taken p g)) left x d t;
         long = fit-size (g .n) (pos 0) d;
         multipliers = t .fits;
         ceiling = f .ceiling;
@@ -271,19 +271,19 @@ module _ (p : Subproblem) (g : Graph) (padded : Padded (g .m) (g .mark)) (left :
       (λ r. absurd (n (sym e ∙ later-fit (r .0) (r .1)))) s
 
   pub turn-accepted : fault (takenAt p g x d) ≡ 0
-      → (fault (taken p g) ≡ 0) × AtPass g (p .step) (p .upper) (outcome (taken p g)) left x d
+      → (fault (taken p g) ≡ 0) × AtPass g (p .settings .step) (p .settings .ceiling) (outcome (taken p g)) left x d
   turn-accepted e = ⊎-elim
       (λ r.
       let z : fault (taken p g) ≡ 0 = sym (ap fault (first-taken (r .1) (r .2))) ∙ e in
       let f = fault-fit (taken p g) z in
-      let start = at-first g (p .multipliers) (p .step) (p .upper) (p .sweeps) (marks-back g (f .valid) padded) (f .multipliers) in
+      let start = at-first g (p .multipliers) (p .settings .step) (p .settings .ceiling) (p .settings .sweeps) (marks-back g (f .valid) padded) (f .multipliers) in
       (z, first r start))
       (λ r. r) s
     where
-      first : (left ≡ p .sweeps) × (x ≡ g .mark) × (d ≡ p .multipliers)
-          → AtPass g (p .step) (p .upper) (outcome (taken p g)) (p .sweeps) (g .mark) (p .multipliers)
-          → AtPass g (p .step) (p .upper) (outcome (taken p g)) left x d
+      first : (left ≡ p .settings .sweeps) × (x ≡ g .mark) × (d ≡ p .multipliers)
+          → AtPass g (p .settings .step) (p .settings .ceiling) (outcome (taken p g)) (p .settings .sweeps) (g .mark) (p .multipliers)
+          → AtPass g (p .settings .step) (p .settings .ceiling) (outcome (taken p g)) left x d
       first r t =
-          subst (λ (i : ℕ). AtPass g (p .step) (p .upper) (outcome (taken p g)) i x d) (sym (r .0))
-          (subst (λ (y : List ℕ). AtPass g (p .step) (p .upper) (outcome (taken p g)) (p .sweeps) y d) (sym (r .1))
-          (subst (λ (y : List ℤ). AtPass g (p .step) (p .upper) (outcome (taken p g)) (p .sweeps) (g .mark) y) (sym (r .2)) t))
+          subst (λ (i : ℕ). AtPass g (p .settings .step) (p .settings .ceiling) (outcome (taken p g)) i x d) (sym (r .0))
+          (subst (λ (y : List ℕ). AtPass g (p .settings .step) (p .settings .ceiling) (outcome (taken p g)) (p .settings .sweeps) y d) (sym (r .1))
+          (subst (λ (y : List ℤ). AtPass g (p .settings .step) (p .settings .ceiling) (outcome (taken p g)) (p .settings .sweeps) (g .mark) y) (sym (r .2)) t))

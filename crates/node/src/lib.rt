@@ -13,6 +13,7 @@ use compact::list_left;
 use graph::EXCLUDED;
 use graph::MAX_EDGES;
 use graph::MAX_VERTICES;
+use machine::Settings;
 use passes::open_left;
 
 // Limits, as specs/Limits.antt of crate graph has them.
@@ -20,14 +21,13 @@ pub const MAX_SWEEPS: u32 = 15;
 
 pub const MAX_STEP: u32 = 10_000;
 
-// What the opening of a node takes by value; the ends and costs of its m edges are lent beside it, since the language lends no struct.
+// What the opening of a node takes by value; the ends and costs of its m edges are lent beside it, since the language lends no struct. The
+// ceiling of the settings is the upper bound.
 pub struct Subproblem {
     pub n: usize,
     pub m: usize,
     pub multipliers: [i32; MAX_VERTICES],
-    pub upper: i64,
-    pub sweeps: u32,
-    pub step: u32,
+    pub settings: Settings,
 }
 
 // What the opening of a node comes to. With it go two lists of bytes for each edge: a found tour in `row`; or of the two nodes of a split

@@ -240,6 +240,7 @@ fn judge<'a>(
     let n = p.n;
     let m = p.m;
     let d = p.multipliers;
+    let settings = p.settings;
     let mut tree = [0u8; MAX_EDGES];
     let mut rulings = [0u8; MAX_EDGES];
     let passed = onetree::pass(
@@ -250,14 +251,14 @@ fn judge<'a>(
         cost,
         row,
         &d[..n],
-        p.upper,
+        settings.ceiling,
         hint,
         &mut tree,
         &mut rulings,
         order,
     );
     let answer = passed.answer;
-    let number = refusal(answer, p.sweeps, p.step);
+    let number = refusal(answer, settings.sweeps, settings.step);
     if number != 0 {
         return Verdict::Refused(number);
     }
@@ -287,10 +288,11 @@ pub(crate) fn open_left<'a>(
         ≡ opensBy (fault (taken p (graphOf (p .n) (p .m) (now (a .entry)) (now (b .entry)) (now (cost .entry)) (now (row .entry)))))
         (taken p (graphOf (p .n) (p .m) (now (a .entry)) (now (b .entry)) (now (cost .entry)) (now (row .entry)))) (now (top .entry)) ⌝ }
 {
+    let settings = p.settings;
     let mut d = p.multipliers;
     let mut order = [0u8; MAX_EDGES];
     let mut live: usize = 0;
-    let mut left = p.sweeps;
+    let mut left = settings.sweeps;
     loop {
         let hint = order;
         let mut degrees = [0u8; PLACES];
@@ -315,7 +317,7 @@ pub(crate) fn open_left<'a>(
         if left == 0 {
             return split(p.m, row, top);
         }
-        let next = gains(&degrees, d, p.n, p.step);
+        let next = gains(&degrees, d, p.n, settings.step);
         d = next;
         left = left - 1;
     }

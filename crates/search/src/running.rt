@@ -105,13 +105,13 @@ pub(crate) fn run_frame(
             return t;
         }
         let mut row = get(stack, t.depth - 1);
+        let mut present = settings;
+        present.ceiling = t.upper;
         let p = Subproblem {
             n: n,
             m: m,
             multipliers: multipliers,
-            upper: t.upper,
-            sweeps: settings.sweeps,
-            step: settings.step,
+            settings: present,
         };
         let fate = node::open(p, &g.a, &g.b, &g.cost, &mut row, &mut top);
         t = settle(m, &g.cost, t, fate, &row, &top, stack, best);

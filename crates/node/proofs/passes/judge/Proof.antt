@@ -25,12 +25,12 @@ use Rattle.node.specs.Passing.{Within, hint-fits, refusal-fault, answer-
 use Rattle.node.proofs.passes.judge.Statement.{statement}
 use Rattle.node.proofs.passes.judge.Tie as tie
 
--- where the function starts, from where the pass is made
+-- where the function starts, from where the multipliers are lent, and from where the pass is made
+abbrev begun : tie.After-pass-arg → tie.Start
+begun c = let copied = c .before .before in copied .before .before
+
 abbrev start : tie.After-pass → tie.Start
-start p =
-    let arrays = p .before .before .before in
-    let slice = arrays .before .before .before in
-    slice .before .before .before
+start p = let arrays = p .before .before .before in begun (arrays .before .before .before)
 
 -- the graph with the node's marks
 abbrev given : tie.Start → Graph
@@ -47,8 +47,8 @@ enough : (s : tie.Start) → s .args .p .n ≤ length (s .args .p .multipliers)
 enough s = omega (arith, long s, s .pre .0)
 
 -- the upper bound is read back from its word
-upper : (p : tie.After-pass) → let q = start p .args .p in toZ w64 (ofZ w64 (q .upper)) ≡ q .upper
-upper p = back64 (start p .args .p .upper) (p .before .struct-told .given .1 .1 .1 .0 .1)
+upper : (p : tie.After-pass) → let q = start p .args .p in toZ w64 (ofZ w64 (q .settings .ceiling)) ≡ q .settings .ceiling
+upper p = back64 (start p .args .p .settings .ceiling) (p .before .struct-told .given .0 .1)
 
 -- the tree part's promise, with the upper bound read back from its word and the slice as the first n multipliers
 said : (p : tie.After-pass) → let o = opening p in
@@ -99,12 +99,11 @@ tree-bytes c =
     _∙_ {A = List ℕ} (said p .1) (pass-tree _ _ _ (f .valid) (f .long) (f .multipliers) (f .ceiling) _ (within c .0) (within c .1))
 
 array-share-prefix-d : tie.Need-array-share-prefix-d
-array-share-prefix-d c = enough (c .before .before .before)
+array-share-prefix-d c = enough (begun c)
 
 slice-aggregate-pass : tie.Need-slice-aggregate-pass
 slice-aggregate-pass c =
-    let shared = c .before in
-    let s = shared .before .before .before in
+    let s = begun (c .before) in
     omega (arith, length-take (s .args .p .n) (s .args .p .multipliers), enough s)
 
 pass-requires : tie.Need-pass-requires

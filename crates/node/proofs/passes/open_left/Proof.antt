@@ -32,12 +32,12 @@ ranged : (n : ℕ) (d : List ℤ) → multipliersFit (fit n (pos 0) d) ≡ true 
 ranged n d h i b = rw (← fit-at n (pos 0) d i b) (fit-ranged (fit n (pos 0) d) h i (omega (arith, fit-size n (pos 0) d)))
 
 abbrev Inv-loop : tie.InvT-loop
-Inv-loop p a b cost row₀ top₀ d₀ order₀ live₀ left₀ row top d order live left =
+Inv-loop p a b cost row₀ top₀ settings d₀ order₀ live₀ left₀ row top d order live left =
     (p .n ≤ 20) × (p .m ≤ 190) × Padded (p .m) row₀ × AtTurn p (graphOf (p .n) (p .m) a b cost row₀) left row d
     × (live ≤ 190) × (length order ≡ 190) × (top ≡ top₀)
 
 abbrev μ-loop : tie.MeasureT-loop
-μ-loop p a b cost row₀ top₀ d₀ order₀ live₀ left₀ row top d order live left = left
+μ-loop p a b cost row₀ top₀ settings d₀ order₀ live₀ left₀ row top d order live left = left
 
 -- the graph with the node's marks at first
 abbrev given : tie.Start Inv-loop μ-loop → Graph
@@ -47,7 +47,7 @@ given s =
 
 loop-holds : tie.Need-loop-holds Inv-loop μ-loop
 loop-holds c =
-    let s = c .before in
+    let s = c .before .before in
     (s .pre .0, s .pre .1, s .pre .2, inl (refl, refl, refl), omega arith, refl, refl)
 
 array-share-prefix-hint : tie.Need-array-share-prefix-hint Inv-loop μ-loop
@@ -61,8 +61,9 @@ slice-aggregate-judge c =
 judge-requires : tie.Need-judge-requires Inv-loop μ-loop
 judge-requires c κs =
     let hint = c .before .before .before in
-    let l = hint .before .loop in
-    let s = hint .before .before .before in
+    let at = hint .before in
+    let l = at .loop in
+    let s = at .before .before .before in
     (l .inv .0, l .inv .1, turn-padded (s .args .p) (given s) (l .inv .2) _ _ _ (l .inv .3), l .inv .5, refl)
 
 -- the turn that a pass is in
@@ -71,7 +72,7 @@ turn j = let lent = j .before .before .before in lent .before .before
 
 -- where the function starts
 abbrev start : tie.After-judge Inv-loop μ-loop → tie.Start Inv-loop μ-loop
-start j = turn j .before .before
+start j = turn j .before .before .before
 
 -- what a pass comes to, by its verdict
 judged : (j : tie.After-judge Inv-loop μ-loop) (v : Verdict) → j .judge .result ≡ v
@@ -85,7 +86,7 @@ accepted : (j : tie.After-judge Inv-loop μ-loop)
     → let p = start j .args .p in
     let g = given (start j) in
     let l = turn j .loop in
-    (fault (taken p g) ≡ 0) × AtPass g (p .step) (p .upper) (outcome (taken p g)) (l .left) (l .row) (l .d)
+    (fault (taken p g) ≡ 0) × AtPass g (p .settings .step) (p .settings .ceiling) (outcome (taken p g)) (l .left) (l .row) (l .d)
 accepted j e =
     let l = turn j .loop in
     turn-accepted (start j .args .p) (given (start j)) (l .inv .2) (l .left) (l .row) (l .d) (l .inv .3) e

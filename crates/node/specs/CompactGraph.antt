@@ -22,11 +22,11 @@ use Rattle.graph.specs.Valid.{Valid, graphOf}
 use Rattle.graph.specs.Meaning.{not-valid}
 use Rattle.onetree.specs.OneTree.{Edges}
 use Rattle.machine.specs.Machine.{Marks, Opening, passes}
+use Rattle.machine.specs.Calls.{fault}
 use Rattle.compaction.specs.Ranks.{rank, nth, rank-yes, rank-most, rank-mono, rank-less, nth-rank, nth-zero, nth-past}
 use Rattle.compaction.specs.Thinned.{thin}
 use Rattle.compaction.specs.Spread.{spreadMarks, spreadOpened, spread-is}
 use Rattle.compaction.specs.Passes.{passes-thin}
-use Rattle.machine.specs.Calls.{fault}
 use Rattle.node.specs.declared.Fate.the-variants as fate
 use Rattle.node.specs.Marks.{marksIn, bytesOf, marks-size, marks-at, Padded}
 use Rattle.node.specs.Opened.{Opened, opened, openedAs, kept, leftOf, left, leftIn, nodeFault, opensBy, opens}

@@ -11,12 +11,12 @@ use lib.Dec.{eqb}
 use lib.ListN.{length, getD, set, length-set}
 use lib.Seq.{getD-set-same, getD-set-other}
 use Rattle.lists.specs.Bools.{by-cases, bit}
+use Rattle.lists.specs.Filling.{Filling, filling-is}
 use Rattle.graph.specs.Limits.{maxEdges}
 use Rattle.graph.specs.Network.{place}
 use Rattle.graph.specs.Places.{place-at, place-zero}
 use Rattle.onetree.specs.OneTree.{Edges}
 use Rattle.compaction.specs.Ranks.{rank, nth, Kept, rank-yes, rank-no, rank-most, rank-less, rank-nth, nth-rank, nth-past}
-use Rattle.lists.specs.Filling.{Filling, filling-is}
 use Rattle.node.specs.Opened.{kept, leftOf}
 
 -- one more for an edge that is kept, by its mark

@@ -11,6 +11,7 @@ use lib.ListN.{length, getD, set, length-set, replicate, List·getD-eq-default}
 use lib.Seq.{getD-set-same, getD-set-other}
 use Rattle.lists.specs.Bools.{bit}
 use Rattle.lists.specs.Fill.{fill-at}
+use Rattle.lists.specs.Filling.{Filling, filling-is}
 use Rattle.graph.specs.Limits.{maxEdges}
 use Rattle.graph.specs.Network.{free, excluded}
 use Rattle.machine.specs.Outcomes.{closes, finds, splits}
@@ -20,8 +21,7 @@ use Rattle.compaction.specs.Ranks.{rank, rank-most}
 use Rattle.compaction.specs.Spread.{spreadMarks, spreadTour, spreadOpened, spread-size, spread-kept, spread-rest}
 use Rattle.node.specs.declared.Fate.{Fate}
 use Rattle.node.specs.declared.Fate.the-variants as fate
-use Rattle.node.specs.Marks.{byteOf, tourBytes, bytesOf, bytes-at}
-use Rattle.lists.specs.Filling.{Filling, filling-is}
+use Rattle.node.specs.Marks.{byteOf, bytesOfTour, bytesOf, bytes-at}
 use Rattle.node.specs.Opened.{Opened, opened, openedAs, kept}
 
 -- ---- bytes put at places
@@ -104,16 +104,16 @@ module _ (marks : List ℕ) (m : ℕ) (few : m ≤ maxEdges) where
       at i l false e = ap byteOf (sym (spread-rest (kept marks) m excluded free y i l e))
 
   -- of a tour
-  expanded-tour : (r : List Bool) (w : List ℕ) → Filling 0 maxEdges m (expandedAt marks (tourBytes r) 0) w
-      → w ≡ tourBytes (spreadTour (kept marks) m r)
-  unfolding tourBytes
+  expanded-tour : (r : List Bool) (w : List ℕ) → Filling 0 maxEdges m (expandedAt marks (bytesOfTour r) 0) w
+      → w ≡ bytesOfTour (spreadTour (kept marks) m r)
+  unfolding bytesOfTour
   expanded-tour r w h =
-      filling-is 0 maxEdges (expandedAt marks (tourBytes r) 0) m w (λ j. bit (getD (spreadTour (kept marks) m r) j false)) h
+      filling-is 0 maxEdges (expandedAt marks (bytesOfTour r) 0) m w (λ j. bit (getD (spreadTour (kept marks) m r) j false)) h
       (λ i l. at i l (kept marks (suc i)) refl)
       (λ i l. ap bit (List·getD-eq-default (spreadTour (kept marks) m r) false (omega (arith, spread-size (kept marks) m false false r))))
     where
       at : (i : ℕ) → i < m → (b : Bool) → kept marks (suc i) ≡ b
-          → cond b (getD (tourBytes r) (rank (kept marks) i) 0) 0 ≡ bit (getD (spreadTour (kept marks) m r) i false)
+          → cond b (getD (bytesOfTour r) (rank (kept marks) i) 0) 0 ≡ bit (getD (spreadTour (kept marks) m r) i false)
       at i l true e =
           fill-at maxEdges (λ j. bit (getD r j false)) (rank (kept marks) i) 0 (omega (arith, rank-most (kept marks) i))
           ∙ ap bit (sym (spread-kept (kept marks) m false false r i l e))

@@ -1,7 +1,7 @@
 -- The bytes of one node: its marks, and a tour. Arrays of an edge's byte have 190 places, zero past the edges. Definitions first, then
 -- their laws.
 --   byteOf, marksIn, bytesOf   a mark's byte; the marks in a list of bytes; the bytes of a node's marks
---   tourBytes                  the bytes of a tour
+--   bytesOfTour                the bytes of a tour
 use mathlib.Core.Path.{_≡_, refl, sym, ap, _∙_}
 use mathlib.Core.Bool.{Bool, false}
 use mathlib.Core.List.{List}
@@ -33,9 +33,9 @@ unfolding fill
 bytesOf x = fill maxEdges (λ j. byteOf (getD x j free))
 
 -- a tour: "1 in, 0 out"
-unfoldable pub tourBytes : List Bool → List ℕ
+unfoldable pub bytesOfTour : List Bool → List ℕ
 unfolding fill
-tourBytes r = fill maxEdges (λ i. bit (getD r i false))
+bytesOfTour r = fill maxEdges (λ i. bit (getD r i false))
 
 -- ---- a mark and its byte
 

@@ -15,6 +15,7 @@ use Rattle.lists.specs.Members.{_∈_}
 use Rattle.lists.specs.Numbers.{upTo, upTo-in, in-upTo}
 use Rattle.lists.specs.Rows.{row, row-at}
 use Rattle.lists.specs.Fill.{fill-at}
+use Rattle.lists.specs.Filling.{Filling, filling-is}
 use Rattle.graph.specs.declared.Graph.{Graph}
 use Rattle.graph.specs.Limits.{maxEdges}
 use Rattle.graph.specs.Network.{Network, free, network}
@@ -35,8 +36,7 @@ use Rattle.machine.specs.Degrees.{degree-agree}
 use Rattle.machine.specs.DegreeTest.{test-yes, test-no}
 use Rattle.node.specs.declared.passes.Verdict.{Verdict}
 use Rattle.node.specs.declared.passes.Verdict.the-variants as verdict
-use Rattle.node.specs.Marks.{byteOf, tourBytes, bytesOf}
-use Rattle.lists.specs.Filling.{Filling, filling-is}
+use Rattle.node.specs.Marks.{byteOf, bytesOfTour, bytesOf}
 use Rattle.node.specs.Counting.{DegreesTo, degree-all, allTwo, two-each, not-two}
 use Rattle.node.specs.Marking.{markByte, mark-ruling}
 
@@ -44,8 +44,8 @@ use Rattle.node.specs.Marking.{markByte, mark-ruling}
 
 -- the bytes of a set of edges, "1 in, 0 out", zero past m
 unfoldable pub treeBytes : ℕ → Edges → List ℕ
-unfolding tourBytes row
-treeBytes m t = tourBytes (row m t)
+unfolding bytesOfTour row
+treeBytes m t = bytesOfTour (row m t)
 
 -- the tree is a tour, and w has its bytes
 pub record FoundAs (g : Graph) (d : List ℤ) (upper : ℤ) (w : List ℕ) : Type 0 where
@@ -78,7 +78,7 @@ verdict-as o w degrees v u e h = subst (λ (x : Verdict). VerdictIs o x w degree
 
 module _ (m : ℕ) (t : Edges) where
   pub tree-at : (k : ℕ) → k < m → k < maxEdges → getD (treeBytes m t) k 0 ≡ bit (t (suc k))
-  unfolding treeBytes tourBytes
+  unfolding treeBytes bytesOfTour
   tree-at k h b = fill-at maxEdges (λ i. bit (getD (row m t) i false)) k 0 b ∙ ap bit (row-at m t k false h)
 
   -- read as a set it is the tree

@@ -23,7 +23,7 @@ use Rattle.compaction.specs.Ranks.{rank, nth}
 use Rattle.node.specs.declared.Fate.{Fate}
 use Rattle.node.specs.declared.Fate.the-variants as fate
 use Rattle.node.specs.declared.Subproblem.{Subproblem}
-use Rattle.node.specs.Marks.{marksIn, bytesOf, tourBytes}
+use Rattle.node.specs.Marks.{marksIn, bytesOf, bytesOfTour}
 
 -- a node's fate, and the two lists of bytes that go with it
 pub record Opened : Type 0 where
@@ -40,9 +40,9 @@ foundAs w = opened fate.Finds w (replicate maxEdges 0)
 
 -- what the machine's opening of a node comes to, in bytes
 unfoldable pub openedAs : M.Opened → Opened
-unfolding tourBytes bytesOf
+unfolding bytesOfTour bytesOf
 openedAs closes = opened fate.Closes (replicate maxEdges 0) (replicate maxEdges 0)
-openedAs (finds r) = foundAs (tourBytes r)
+openedAs (finds r) = foundAs (bytesOfTour r)
 openedAs (splits out into) = opened fate.Splits (bytesOf out) (bytesOf into)
 
 -- ---- the edges that are left
@@ -89,15 +89,15 @@ unfolding fault
 nodeFault o = cond (leb (o .graph .m) maxEdges) (fault (leftIn o)) 15
 
 -- a fault is refused, and leaves both lists as they were
-abbrev pub unlessFault : ℕ → List ℕ → List ℕ → Opened → Opened
-unlessFault zero row top out = out
-unlessFault (suc k) row top out = opened (fate.Refused (suc k)) row top
+abbrev pub unlessRefused : ℕ → List ℕ → List ℕ → Opened → Opened
+unlessRefused zero row top out = out
+unlessRefused (suc k) row top out = opened (fate.Refused (suc k)) row top
 
 -- by the number of a fault
 unfoldable pub opensBy : ℕ → Opening → List ℕ → Opened
 unfolding openedAs openNode marksIn
 opensBy number o top =
-    unlessFault number (o .graph .mark) top
+    unlessRefused number (o .graph .mark) top
     (openedAs (openNode o (o .settings .ceiling) (marksIn (o .graph .m) (o .graph .mark))))
 
 unfoldable pub opens : Opening → List ℕ → Opened

@@ -28,7 +28,7 @@ use Rattle.onetree.specs.Answers.{Reply, refused, none, bounded, ruleMeaning, i
 use Rattle.onetree.specs.Looks.{HintAfter}
 use Rattle.machine.specs.Machine.{Opening, shut, pass}
 use Rattle.machine.specs.Calls.{fault}
-use Rattle.node.specs.Marks.{tourBytes}
+use Rattle.node.specs.Marks.{bytesOfTour}
 use Rattle.node.specs.Faults.{settingsFault, orElse, fault-rule}
 use Rattle.node.specs.OnePass.{treeBytes, pass-none, pass-above}
 
@@ -143,7 +143,7 @@ module _ (g : Graph) (d : List ℤ) (upper : ℤ) (valid : value.Valid g) (long 
 
   -- the bytes of the tree and of the rulings
   pub pass-tree : (out : List ℕ) (b : ℤ) (w : Within g d upper b) → passTree g d upper out ≡ treeBytes (g .m) (w .tree)
-  unfolding passTree treeBytes tourBytes padded
+  unfolding passTree treeBytes bytesOfTour padded
   pass-tree out b w =
       rw (no-fault, w .least, w .low)
       (sym (fill-is maxEdges (λ i. bit (getD (row (g .m) t) i false)) (row maxEdges f) 0 (row-size maxEdges f) at))

@@ -14,8 +14,8 @@ use Rattle.graph.specs.Network.{free, markOf}
 use Rattle.machine.specs.Machine.{Marks}
 use Rattle.machine.specs.Requireds.{requireds}
 use Rattle.machine.specs.Kept.{Nodes}
-use Rattle.search.specs.Record.{maxNodes, stackSize, nodeAt, cell, cells, node, nodes}
 use Rattle.node.specs.Marks.{byteOf, mark-byte, byte-small}
+use Rattle.search.specs.Record.{maxNodes, stackSize, nodeAt, cell, cells, node, nodes}
 
 -- ---- node p of a stack
 

@@ -25,14 +25,14 @@ use Rattle.machine.specs.Kept.{Kept, Sized, depth-most}
 use Rattle.machine.specs.Preserved.{top-kept}
 use Rattle.node.specs.declared.Fate.{Fate}
 use Rattle.node.specs.declared.Fate.the-variants as fate
+use Rattle.node.specs.Marks.{bytesOf}
+use Rattle.node.specs.Opened.{Opened, openedAs}
 use Rattle.search.specs.declared.running.Frame.{Frame}
 use Rattle.search.specs.Record.{maxNodes, stackSize, cells, bits, bestOf, hasBest, bestBytes}
 use Rattle.search.specs.Cells.{cells-size}
 use Rattle.search.specs.Incumbents.{best-back}
 use Rattle.search.specs.Pushing.{Put, pushed, replaced, popped}
-use Rattle.node.specs.Marks.{bytesOf}
 use Rattle.search.specs.Costs.{cost-bits}
-use Rattle.node.specs.Opened.{Opened, openedAs}
 
 -- what changes of a search, but for the bytes of the stack and of the best tour
 unfoldable pub frameOf : Progress → Frame

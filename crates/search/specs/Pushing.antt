@@ -11,8 +11,8 @@ use Rattle.lists.specs.Fill.{fill, fill-same, replicate-at}
 use Rattle.graph.specs.Limits.{maxEdges}
 use Rattle.graph.specs.Network.{free}
 use Rattle.machine.specs.Machine.{Marks}
-use Rattle.search.specs.Record.{maxNodes, stackSize, cell, cells}
 use Rattle.node.specs.Marks.{byteOf, bytesOf, bytes-at}
+use Rattle.search.specs.Record.{maxNodes, stackSize, cell, cells}
 use Rattle.search.specs.Cells.{cell-top, cell-lower, cell-none, cells-at, cells-size, cells-is}
 
 -- ---- 190 bytes of the stack

@@ -15,7 +15,7 @@ use Rattle.graph.specs.Chart.{edgeless}
 use Rattle.machine.specs.declared.Settings.{Settings}
 use Rattle.machine.specs.Outcomes.{Incumbent, noTour, aTour}
 use Rattle.machine.specs.Machine.{Marks, Opening, Progress, State, noSearch, searching}
-use Rattle.node.specs.Marks.{byteOf, tourBytes}
+use Rattle.node.specs.Marks.{byteOf, bytesOfTour}
 use Rattle.search.specs.declared.Search.{Search}
 
 -- a stack has room for 22 nodes, 190 bytes each: a search never has more than n + 2 waiting
@@ -84,9 +84,9 @@ hasBest noTour = false
 hasBest (aTour r) = true
 
 unfoldable pub bestBytes : Incumbent (List Bool) → List ℕ
-unfolding tourBytes
+unfolding bytesOfTour
 bestBytes noTour = replicate maxEdges 0
-bestBytes (aTour r) = tourBytes r
+bestBytes (aTour r) = bytesOfTour r
 
 -- ---- the record
 

@@ -18,12 +18,12 @@ use Rattle.machine.specs.declared.Settings.{Settings}
 use Rattle.machine.specs.Machine.{Marks, passes, Progress, openNode, settled, openTop, ran}
 use Rattle.machine.specs.Kept.{Nodes}
 use Rattle.machine.specs.Runs.{ran-opens, ran-empty, ran-full}
+use Rattle.node.specs.Marks.{marksIn, bytesOf, bytes-back}
+use Rattle.node.specs.Opened.{Opened, openedAs}
 use Rattle.search.specs.declared.running.Frame.{Frame}
 use Rattle.search.specs.Record.{cells}
-use Rattle.node.specs.Marks.{marksIn, bytesOf, bytes-back}
 use Rattle.search.specs.Accepted.{range-fits}
 use Rattle.search.specs.Pushing.{rowAt, row-top}
-use Rattle.node.specs.Opened.{Opened, openedAs}
 use Rattle.search.specs.Frames.{FrameHolds, Top, holds-upper, holds-depth, holds-count, holds-deep, holds-valid, top-of}
 
 pub record Runs (g : Graph) (d : List ℤ) (o : Settings) (f : Frame) (l w : List ℕ) (s : Progress) : Type 0 where

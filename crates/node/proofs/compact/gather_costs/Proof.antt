@@ -6,8 +6,8 @@ use borrow.Author.Needs.{needs}
 use lib.ListN.{getD}
 use lib.IntN.{pos}
 use lib.Signed.{mag}
-use Rattle.integers.specs.Words.{back32}
 use Rattle.lists.specs.Filling.{Filling, filling-none, filling-more, filling-to}
+use Rattle.integers.specs.Words.{back32}
 use Rattle.node.specs.Compacting.{listedAt}
 use Rattle.node.proofs.compact.gather_costs.Statement.{statement}
 use Rattle.node.proofs.compact.gather_costs.Tie as tie

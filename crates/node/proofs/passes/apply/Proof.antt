@@ -5,9 +5,9 @@ use mathlib.Core.List.{List}
 use native.Mathlib.Omega.{arith}
 use borrow.Author.Needs.{needs}
 use lib.ListN.{length, getD}
+use Rattle.lists.specs.Filling.{Renewing, renewing-none, renewing-more, renewing-all}
 use Rattle.node.specs.Marks.{marksIn, bytes-size, bytes-past, marks-size}
 use Rattle.node.specs.Marking.{markByte}
-use Rattle.lists.specs.Filling.{Renewing, renewing-none, renewing-more, renewing-all}
 use Rattle.node.proofs.passes.apply.Statement.{statement}
 use Rattle.node.proofs.passes.apply.Tie as tie
 

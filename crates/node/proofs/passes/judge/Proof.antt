@@ -9,8 +9,8 @@ use lib.IntN.{ℤ, pos}
 use mir.Val.{toZ, ofZ}
 use mir.Syntax.{w64}
 use borrow.Author.Tests.{not-true, not-false}
-use Rattle.integers.specs.Words.{back64}
 use Rattle.lists.specs.Filling.{take-fit}
+use Rattle.integers.specs.Words.{back64}
 use Rattle.graph.specs.declared.Graph.{Graph}
 use Rattle.graph.specs.Valid.{graphOf}
 use Rattle.onetree.specs.Answers.{ruleMeaning, ruleReply, blank, passTree, passRulings}

@@ -18,8 +18,10 @@ use Rattle.graph.specs.Parts.{own-parts}
 use Rattle.onetree.specs.Inputs.{multipliersFit}
 use Rattle.machine.specs.Machine.{Opening, Progress, passes, ran}
 use Rattle.node.specs.Marks.{marksIn, bytesOf}
+use Rattle.node.specs.Opened as Node
 use Rattle.node.specs.Opened.{Opened, opened, openedAs}
 use Rattle.node.specs.Faults.{Fit}
+use Rattle.node.specs.Passes.{withBytes}
 use Rattle.node.specs.CompactGraph.{opens-node}
 use Rattle.search.specs.Frames.{Top, Opens, holds-mag, holds-deep, holds-valid, top-of}
 use Rattle.search.specs.Running.{runs-fits, runs-ceiling, runs-sweeps, runs-step, row-bytes, top-is, runs-next}
@@ -153,6 +155,20 @@ fits at q r =
       step = runs-step _ _ _ _ _ _ _ r;
     }
 
+-- so the node with the bytes x comes to what its passes come to
+comes : (at : tie.At-loop Inv-loop μ-loop) (q : Progress) → RunsAt at q → (x top : List ℕ) → x ≡ bytesOf (marksIn (given at .m) x)
+    → (o : Opened)
+    → let w = given-with at in
+    o ≡ Node.opens (record { graph = withBytes (w .graph) x; multipliers = w .multipliers; settings = w .settings }) top
+    → o ≡ openedAs (passes (network (given at)) (w .settings .step) (w .settings .ceiling) (w .settings .sweeps)
+    (fit (given at .n) (pos 0) (start at .args .multipliers)) (marksIn (given at .m) x))
+comes at q r x top canonical o e =
+    let w = given-with at in
+    e
+    ∙ opens-node w (fits at q r) x (subst (λ (m : ℕ). x ≡ bytesOf (marksIn m x)) (sym (edges at)) canonical) top
+    ∙ ap openedAs (λ i. passes (network (parts at i)) (w .settings .step) (w .settings .ceiling) (w .settings .sweeps)
+    (fit (vertices at i) (pos 0) (start at .args .multipliers)) (marksIn (edges at i) x))
+
 -- the node that is read is the machine's top node, and its opening the machine's
 opens : (c : tie.After-open Inv-loop μ-loop) (q : Progress) →
     let at = turn-of (read c) in
@@ -160,12 +176,11 @@ opens : (c : tie.After-open Inv-loop μ-loop) (q : Progress) →
 opens c q r =
     let k = read c in
     let at = turn-of k in
-    let a = start at .args in
     let u = back64 (at .loop .t .upper) (holds-mag _ _ _ _ _ (r .holds)) in
     let top = top-node (going k) q r in
     let row : List ℕ = k .get .result in
     let canonical =
-    subst (λ (m : ℕ). row ≡ bytesOf (marksIn m row)) (sym (edges at)) (rw (k .get .ensures) (row-bytes _ _ _ _ _ _ _ r top))
+    subst (λ (x : List ℕ). x ≡ bytesOf (marksIn (given at .m) x)) (sym (k .get .ensures)) (row-bytes _ _ _ _ _ _ _ r top)
     in
     record {
       graph = given at;
@@ -176,10 +191,7 @@ opens c q r =
       top = top;
       is =
           top-is _ _ _ _ _ _ _ r top (came c) _ row u (k .get .ensures)
-          (c .«open» .ensures
-          ∙ opens-node (given-with at) (fits at q r) row canonical _
-          ∙ ap openedAs (λ i. passes (network (parts at i)) (a .settings .step) (toZ w64 (ofZ w64 (at .loop .t .upper))) (a .settings .sweeps)
-          (fit (vertices at i) (pos 0) (a .multipliers)) (marksIn (edges at i) row)));
+          (comes at q r row _ canonical (came c) (c .«open» .ensures));
     }
 
 settle-requires : tie.Need-settle-requires Inv-loop μ-loop

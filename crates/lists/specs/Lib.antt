@@ -11,3 +11,4 @@ pub mod Fill
 pub mod Filled
 pub mod Hits
 pub mod Sets
+pub mod Filling

@@ -20,9 +20,10 @@ use Rattle.machine.specs.Outcomes.{noTour}
 use Rattle.machine.specs.Calls.{fault}
 use Rattle.machine.specs.Trimmed.{Trim, trimmed-trim, trimmed-valid, valid-trimmed}
 use Rattle.machine.specs.Preserved.{accepts-held}
-use Rattle.search.specs.Record.{stackSize, byteOf, cells, hasBest, bestBytes, openingOf, recordOf}
-use Rattle.search.specs.Cells.{byte-mark, cells-empty}
-use Rattle.search.specs.Pushing.{bytesOf, bytes-size, bytes-at, Put, pushed}
+use Rattle.node.specs.Marks.{byteOf, byte-mark, bytesOf, bytes-size, bytes-at}
+use Rattle.search.specs.Record.{stackSize, cells, hasBest, bestBytes, openingOf, recordOf}
+use Rattle.search.specs.Cells.{cells-empty}
+use Rattle.search.specs.Pushing.{Put, pushed}
 use Rattle.search.specs.declared.Search.{Search}
 
 -- ---- sizes

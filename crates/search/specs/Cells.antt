@@ -10,31 +10,12 @@ use lib.ListN.{length, getD, replicate, length-replicate, List·getD-eq-default}
 use borrow.Author.Tests.{eq-eqb, ne-eqb}
 use Rattle.lists.specs.Fill.{fill-size, fill-at, fill-past, fill-is, replicate-at}
 use Rattle.graph.specs.Limits.{maxEdges}
-use Rattle.graph.specs.Network.{Mark, free, required, excluded, markOf}
+use Rattle.graph.specs.Network.{free, markOf}
 use Rattle.machine.specs.Machine.{Marks}
 use Rattle.machine.specs.Requireds.{requireds}
 use Rattle.machine.specs.Kept.{Nodes}
-use Rattle.search.specs.Record.{maxNodes, stackSize, byteOf, nodeAt, cell, cells, node, nodes}
-
--- ---- a mark and its byte
-
-pub mark-byte : (x : Mark) → markOf (byteOf x) ≡ x
-unfolding markOf
-mark-byte free = refl
-mark-byte required = refl
-mark-byte excluded = refl
-
-pub byte-mark : (k : ℕ) → k ≤ 2 → byteOf (markOf k) ≡ k
-unfolding markOf
-byte-mark zero h = refl
-byte-mark (suc zero) h = refl
-byte-mark (suc (suc zero)) h = refl
-byte-mark (suc (suc (suc k))) h = absurd (omega arith)
-
-pub byte-small : (x : Mark) → byteOf x ≤ 2
-byte-small free = omega arith
-byte-small required = omega arith
-byte-small excluded = omega arith
+use Rattle.node.specs.Marks.{byteOf, mark-byte, byte-small}
+use Rattle.search.specs.Record.{maxNodes, stackSize, nodeAt, cell, cells, node, nodes}
 
 -- ---- node p of a stack
 

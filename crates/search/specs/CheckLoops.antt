@@ -6,8 +6,7 @@ use Prim.Native.Nat.{ℕ, zero, suc, _+_, _*_, _≤_, _<_}
 use native.Mathlib.Omega.{arith}
 use native.Mathlib.Numerals.{add-one}
 use lib.Dec.{leb, eqb}
-use lib.ListN.{length, getD, take, length-take}
-use lib.Seq.{getD-take}
+use lib.ListN.{length, getD}
 use lib.IntN.{ℤ, pos}
 use lib.Signed.{mag}
 use mir.Val.{toZ, ofZ}
@@ -15,7 +14,7 @@ use mir.Syntax.{w32, w64}
 use borrow.Author.Tests.{leb-true, le-leb, eqb-true, eq-eqb}
 use Rattle.lists.specs.Bools.{Says, bit}
 use Rattle.lists.specs.Rows.{row}
-use Rattle.lists.specs.Fill.{fill, fit, fill-is}
+use Rattle.lists.specs.Fill.{fill}
 use Rattle.integers.specs.Words.{back32, back64}
 use Rattle.graph.specs.Limits.{maxEdges}
 use Rattle.graph.specs.Network.{markOf}
@@ -89,10 +88,3 @@ module _ (l : List ℕ) (p : ℕ) where
       other zero d = unfold markOf in refl
       other (suc zero) d = absurd (d refl)
       other (suc (suc k)) d = unfold markOf in refl
-
--- ---- the first n of an array
-
-pub take-fit : {A : Type 0} (n : ℕ) (z : A) (l : List A) → n ≤ length l → take n l ≡ fit n z l
-unfolding fit
-take-fit n z l h =
-    sym (fill-is n (λ i. getD l i z) (take n l) z (length-take n l ∙ omega arith) (λ i b. sym (getD-take n l i z b)))

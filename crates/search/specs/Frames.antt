@@ -1,5 +1,5 @@
 -- A search while it runs: the part of its progress that changes is a small frame by value (`Frame`) beside the lent bytes of the stack
--- and of the best tour. `Holds` says which search they hold, and the laws say what each outcome of the top node's opening makes of them.
+-- and of the best tour. `FrameHolds` says which search they hold, and the laws say what each outcome of the top node's opening makes of them.
 -- Running.antt has the loop over them.
 use mathlib.Core.Path.{_≡_, refl, sym, ap, _∙_, subst}
 use mathlib.Core.Bool.{Bool}
@@ -23,15 +23,16 @@ use Rattle.machine.specs.Machine as M
 use Rattle.machine.specs.Machine.{Marks, Progress, edgesOf, costOf, lowered, openNode, settled, openTop}
 use Rattle.machine.specs.Kept.{Kept, Sized, depth-most}
 use Rattle.machine.specs.Preserved.{top-kept}
-use Rattle.search.specs.declared.node.Fate.{Fate}
-use Rattle.search.specs.declared.node.Fate.the-variants as fate
+use Rattle.node.specs.declared.Fate.{Fate}
+use Rattle.node.specs.declared.Fate.the-variants as fate
+use Rattle.node.specs.Marks.{bytesOf}
+use Rattle.node.specs.Opened.{Opened, openedAs}
 use Rattle.search.specs.declared.running.Frame.{Frame}
 use Rattle.search.specs.Record.{maxNodes, stackSize, cells, bits, bestOf, hasBest, bestBytes}
 use Rattle.search.specs.Cells.{cells-size}
 use Rattle.search.specs.Incumbents.{best-back}
-use Rattle.search.specs.Pushing.{bytesOf, Put, pushed, replaced, popped}
+use Rattle.search.specs.Pushing.{Put, pushed, replaced, popped}
 use Rattle.search.specs.Costs.{cost-bits}
-use Rattle.search.specs.Opening.{Opened, openedAs}
 
 -- what changes of a search, but for the bytes of the stack and of the best tour
 unfoldable pub frameOf : Progress → Frame
@@ -39,7 +40,7 @@ unfolding hasBest
 frameOf s = record { upper = s .upper; depth = length (s .stack); «has_best» = bit (hasBest (s .incumbent)); count = s .count }
 
 -- the frame f, the stack's bytes l and the best tour's bytes w hold the search s on the graph g
-pub record Holds (g : Graph) (f : Frame) (l w : List ℕ) (s : Progress) : Type 0 where
+pub record FrameHolds (g : Graph) (f : Frame) (l w : List ℕ) (s : Progress) : Type 0 where
   pub kept : Kept s
   pub graph : s .opening .graph ≡ g
   pub frame : f ≡ frameOf s
@@ -59,13 +60,13 @@ pub record Opens (m : ℕ) (costs : List ℤ) (f : Frame) (l w : List ℕ) (o : 
   pub many : graph .m ≡ m
   pub costs-are : graph .cost ≡ costs
   pub search : Progress
-  pub holds : Holds graph f l w search
+  pub holds : FrameHolds graph f l w search
   pub top : Top search
   pub is : o ≡ openedAs (openNode (search .opening) (search .upper) (top .node))
 
 -- ---- what the frame tells
 
-module _ (g : Graph) (f : Frame) (l w : List ℕ) (s : Progress) (h : Holds g f l w s) where
+module _ (g : Graph) (f : Frame) (l w : List ℕ) (s : Progress) (h : FrameHolds g f l w s) where
   pub holds-upper : f .upper ≡ s .upper
   unfolding frameOf
   holds-upper = ap (λ (x : Frame). x .upper) (h .frame)
@@ -106,6 +107,7 @@ abbrev fateNumber : Fate → ℕ
 fateNumber fate.Closes = 0
 fateNumber fate.Finds = 1
 fateNumber fate.Splits = 2
+fateNumber (fate.Refused k) = 3
 
 -- the number of the fate, of the bytes and of the outcome
 fate-is : (out : M.Opened) (o : Opened) → o ≡ openedAs out → (a : Fate) → o .fate ≡ a → fateNumber (openedAs out .fate) ≡ fateNumber a
@@ -128,7 +130,7 @@ pub record Finds (out : M.Opened) (o : Opened) : Type 0 where
   pub top : o .top ≡ replicate maxEdges 0
 
 pub opened-finds : (out : M.Opened) (o : Opened) → o ≡ openedAs out → o .fate ≡ fate.Finds → Finds out o
-unfolding openedAs
+unfolding openedAs bestBytes
 opened-finds closes o e h = absurd (omega (arith, fate-is closes o e fate.Finds h))
 opened-finds (finds t) o e h = record { tour = t; is = refl; row = ap (λ (x : Opened). x .row) e; top = ap (λ (x : Opened). x .top) e }
 opened-finds (splits y z) o e h = absurd (omega (arith, fate-is (splits y z) o e fate.Finds h))
@@ -201,7 +203,7 @@ module _ (m : ℕ) (costs : List ℤ) (f : Frame) (l w : List ℕ) (o : Opened) 
 
   -- how the frame and the bytes hold what they should
   holds-next : (r : M.Opened) → out ≡ r → (f′ : Frame) (l′ w′ : List ℕ) → f′ ≡ frameOf (settled s (t .top .rest) r)
-      → l′ ≡ cells (settled s (t .top .rest) r .stack) → w′ ≡ bestBytes (settled s (t .top .rest) r .incumbent) → Holds g f′ l′ w′ next
+      → l′ ≡ cells (settled s (t .top .rest) r .stack) → w′ ≡ bestBytes (settled s (t .top .rest) r .incumbent) → FrameHolds g f′ l′ w′ next
   unfolding s settled
   holds-next r e f′ l′ w′ a b d = record {
     kept = next-kept;
@@ -221,7 +223,7 @@ module _ (m : ℕ) (costs : List ℤ) (f : Frame) (l w : List ℕ) (o : Opened) 
 
   -- the node closes
   pub next-closes : (l′ : List ℕ) → o .fate ≡ fate.Closes → Put (f .depth - 1) maxEdges (o .top) l l′
-      → Holds g (record { upper = f .upper; depth = f .depth - 1; «has_best» = f .«has_best»; count = f .count + 1 }) l′ w next
+      → FrameHolds g (record { upper = f .upper; depth = f .depth - 1; «has_best» = f .«has_best»; count = f .count + 1 }) l′ w next
   unfolding s out settled frameOf
   next-closes l′ h put =
       holds-next closes (r .is) _ l′ w
@@ -241,7 +243,7 @@ module _ (m : ℕ) (costs : List ℤ) (f : Frame) (l w : List ℕ) (o : Opened) 
   -- the tour becomes the incumbent
   pub next-finds : (l′ : List ℕ) (upper : ℤ) → o .fate ≡ fate.Finds → upper ≡ cost (network g) (bytes (o .row)) -ℤ pos 1
       → Put (f .depth - 1) maxEdges (o .top) l l′
-      → Holds g (record { upper = upper; depth = f .depth - 1; «has_best» = 1; count = f .count + 1 }) l′ (o .row) next
+      → FrameHolds g (record { upper = upper; depth = f .depth - 1; «has_best» = 1; count = f .count + 1 }) l′ (o .row) next
   unfolding s out settled frameOf lowered costOf hasBest
   next-finds l′ upper h u put =
       holds-next (finds (r .tour)) (r .is) _ l′ (o .row)
@@ -286,7 +288,7 @@ module _ (m : ℕ) (costs : List ℤ) (f : Frame) (l w : List ℕ) (o : Opened) 
 
   pub next-splits : (l₁ l₂ : List ℕ) → o .fate ≡ fate.Splits → Put (f .depth - 1) maxEdges (o .row) l l₁
       → Put (f .depth - 1 + 1) maxEdges (o .top) l₁ l₂
-      → Holds g (record { upper = f .upper; depth = f .depth - 1 + 2; «has_best» = f .«has_best»; count = f .count + 1 }) l₂ w next
+      → FrameHolds g (record { upper = f .upper; depth = f .depth - 1 + 2; «has_best» = f .«has_best»; count = f .count + 1 }) l₂ w next
   unfolding s out settled frameOf
   next-splits l₁ l₂ h put₁ put₂ =
       holds-next (splits (split h .under) (split h .over)) (split h .is) _ l₂ w

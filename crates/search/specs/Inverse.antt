@@ -19,8 +19,9 @@ use Rattle.machine.specs.Requireds.{requireds}
 use Rattle.machine.specs.Calls.{fault}
 use Rattle.machine.specs.Trimmed.{Trim}
 use Rattle.machine.specs.Kept.{Kept, KeptState, depth-most}
-use Rattle.search.specs.Record.{maxNodes, stackSize, fresh, byteOf, nodeAt, cell, cells, node, nodes, bestOf, hasBest, bestBytes, isOpen, hasTour, openingIn, progressOf, decode, recordOf, encode}
-use Rattle.search.specs.Cells.{byte-mark, cells-at, cells-is, each-place, node-at, node-past, nodes-size, nodes-at, nodes-back, nodes-of, node-fits, node-narrow, node-back, cell-past, cell-small, cell-none}
+use Rattle.node.specs.Marks.{byteOf, byte-mark}
+use Rattle.search.specs.Record.{maxNodes, stackSize, fresh, nodeAt, cell, cells, node, nodes, bestOf, hasBest, bestBytes, isOpen, hasTour, openingIn, progressOf, decode, recordOf, encode}
+use Rattle.search.specs.Cells.{cells-at, cells-is, each-place, node-at, node-past, nodes-size, nodes-at, nodes-back, nodes-of, node-fits, node-narrow, node-back, cell-past, cell-small, cell-none}
 use Rattle.search.specs.Canonical.{Zeros, StackTidy, usedIn, Tidy, Idle, Fits, Flags, Stands, Canonical}
 use Rattle.search.specs.Accepted.{fits-range, range-fits, accepted-fault, fault-accepted}
 use Rattle.search.specs.Incumbents.{bit-back, byte-back, bit-small, flag-off, best-back, best-bits, best-zeros, best-sized, has-back, bytes-back}

@@ -5,50 +5,15 @@ use mathlib.Core.List.{List, _∷_}
 use Prim.Native.Nat.{ℕ, suc, _+_, _*_, _≤_, _<_}
 use native.Mathlib.Omega.{arith}
 use native.Mathlib.Decide.{decLe, ℕ-discrete}
-use lib.ListN.{length, getD, set, length-set, replicate, List·getD-eq-default}
+use lib.ListN.{length, getD, set, length-set, replicate}
 use lib.Seq.{getD-set-same, getD-set-other}
-use Rattle.lists.specs.Fill.{fill, fill-size, fill-at, fill-is, fill-same, replicate-at}
+use Rattle.lists.specs.Fill.{fill, fill-same, replicate-at}
 use Rattle.graph.specs.Limits.{maxEdges}
-use Rattle.graph.specs.Network.{free, markOf}
+use Rattle.graph.specs.Network.{free}
 use Rattle.machine.specs.Machine.{Marks}
-use Rattle.search.specs.Record.{maxNodes, stackSize, byteOf, marksIn, cell, cells}
-use Rattle.search.specs.Cells.{mark-byte, byte-small, cell-top, cell-lower, cell-none, cells-at, cells-size, cells-is}
-
--- ---- the bytes of a node
-
--- a mark for each edge, in 190 bytes; zero past the marks
-unfoldable pub bytesOf : Marks → List ℕ
-unfolding fill
-bytesOf x = fill maxEdges (λ j. byteOf (getD x j free))
-
-pub bytes-size : (x : Marks) → length (bytesOf x) ≡ maxEdges
-unfolding bytesOf
-bytes-size x = fill-size maxEdges (λ j. byteOf (getD x j free))
-
-pub bytes-at : (x : Marks) (j : ℕ) → j < maxEdges → getD (bytesOf x) j 0 ≡ byteOf (getD x j free)
-unfolding bytesOf
-bytes-at x j h = fill-at maxEdges (λ i. byteOf (getD x i free)) j 0 h
-
-pub bytes-small : (x : Marks) (j : ℕ) → j < maxEdges → getD (bytesOf x) j 0 ≤ 2
-bytes-small x j h = omega (arith, bytes-at x j h, byte-small (getD x j free))
-
-pub bytes-past : (x : Marks) (j : ℕ) → length x ≤ j → getD (bytesOf x) j 0 ≡ 0
-bytes-past x j h = go (decLe (suc j) maxEdges)
-  where
-    go : Dec (j < maxEdges) → getD (bytesOf x) j 0 ≡ 0
-    go (yes b) = bytes-at x j b ∙ ap byteOf (List·getD-eq-default x free h)
-    go (no b) = List·getD-eq-default (bytesOf x) 0 (omega (arith, bytes-size x))
-
-pub marks-size : (m : ℕ) (x : List ℕ) → length (marksIn m x) ≡ m
-unfolding marksIn
-marks-size m x = fill-size m (λ j. markOf (getD x j 0))
-
--- the marks are read back from their bytes
-pub bytes-back : (m : ℕ) (x : Marks) → m ≤ maxEdges → length x ≡ m → marksIn m (bytesOf x) ≡ x
-unfolding marksIn
-bytes-back m x b e =
-    fill-is m (λ j. markOf (getD (bytesOf x) j 0)) x free e
-    (λ j h. ap markOf (bytes-at x j (omega arith)) ∙ mark-byte (getD x j free))
+use Rattle.node.specs.Marks.{byteOf, bytesOf, bytes-at}
+use Rattle.search.specs.Record.{maxNodes, stackSize, cell, cells}
+use Rattle.search.specs.Cells.{cell-top, cell-lower, cell-none, cells-at, cells-size, cells-is}
 
 -- ---- 190 bytes of the stack
 

@@ -10,11 +10,12 @@ use Rattle.lists.specs.Bools.{bit}
 use Rattle.lists.specs.Fill.{fill, fit}
 use Rattle.graph.specs.declared.Graph.{Graph}
 use Rattle.graph.specs.Limits.{maxVertices, maxEdges}
-use Rattle.graph.specs.Network.{Mark, free, required, excluded, markOf}
+use Rattle.graph.specs.Network.{free, markOf}
 use Rattle.graph.specs.Edgeless.{edgeless}
 use Rattle.machine.specs.declared.Settings.{Settings}
 use Rattle.machine.specs.Outcomes.{Incumbent, noTour, aTour}
 use Rattle.machine.specs.Machine.{Marks, Opening, Progress, State, noSearch, searching}
+use Rattle.node.specs.Marks.{byteOf, bytesOfTour}
 use Rattle.search.specs.declared.Search.{Search}
 
 -- a stack has room for 22 nodes, 190 bytes each: a search never has more than n + 2 waiting
@@ -45,16 +46,6 @@ fresh =
     }
 
 -- ---- the stack: node p, counted from 0 at the bottom, has the mark of edge j + 1 at place 190 · p + j
-
--- "0 free, 1 required or 2 struck"
-abbrev pub byteOf : Mark → ℕ
-byteOf free = 0
-byteOf required = 1
-byteOf excluded = 2
-
--- the marks of m edges in a list of bytes
-unfoldable pub marksIn : ℕ → List ℕ → Marks
-marksIn m x = fill m (λ j. markOf (getD x j 0))
 
 -- node p of a stack's bytes
 unfoldable pub node : ℕ → List ℕ → ℕ → Marks
@@ -93,8 +84,9 @@ hasBest noTour = false
 hasBest (aTour r) = true
 
 unfoldable pub bestBytes : Incumbent (List Bool) → List ℕ
+unfolding bytesOfTour
 bestBytes noTour = replicate maxEdges 0
-bestBytes (aTour r) = fill maxEdges (λ i. bit (getD r i false))
+bestBytes (aTour r) = bytesOfTour r
 
 -- ---- the record
 

@@ -10,7 +10,7 @@ use lib.ListN.{length}
 use lib.IntN.{ℤ, pos}
 use Rattle.lists.specs.Fill.{fit}
 use Rattle.graph.specs.declared.Graph.{Graph}
-use Rattle.graph.specs.Limits.{maxEdges, maxStep, maxCount}
+use Rattle.graph.specs.Limits.{maxEdges, maxSweeps, maxStep, maxCount}
 use Rattle.graph.specs.Network.{network}
 use Rattle.tree_theory.specs.Arrays.{bytes}
 use Rattle.tree_theory.specs.Inputs.{multipliersFit, ceilingFits}
@@ -18,15 +18,16 @@ use Rattle.machine.specs.declared.Settings.{Settings}
 use Rattle.machine.specs.Machine.{Marks, passes, Progress, openNode, settled, openTop, ran}
 use Rattle.machine.specs.Kept.{Nodes}
 use Rattle.machine.specs.Runs.{ran-opens, ran-empty, ran-full}
+use Rattle.node.specs.Marks.{marksIn, bytesOf, bytes-back}
+use Rattle.node.specs.Opened.{Opened, openedAs}
 use Rattle.search.specs.declared.running.Frame.{Frame}
-use Rattle.search.specs.Record.{marksIn, cells}
+use Rattle.search.specs.Record.{cells}
 use Rattle.search.specs.Accepted.{range-fits}
-use Rattle.search.specs.Pushing.{bytesOf, bytes-back, rowAt, row-top}
-use Rattle.search.specs.Opening.{Opened, openedAs}
-use Rattle.search.specs.Frames.{Holds, Top, holds-upper, holds-depth, holds-count, holds-deep, holds-valid, top-of}
+use Rattle.search.specs.Pushing.{rowAt, row-top}
+use Rattle.search.specs.Frames.{FrameHolds, Top, holds-upper, holds-depth, holds-count, holds-deep, holds-valid, top-of}
 
 pub record Runs (g : Graph) (d : List ℤ) (o : Settings) (f : Frame) (l w : List ℕ) (s : Progress) : Type 0 where
-  pub holds : Holds g f l w s
+  pub holds : FrameHolds g f l w s
   pub multipliers : s .opening .multipliers ≡ fit (g .n) (pos 0) d
   pub settings : s .opening .settings ≡ o
 
@@ -39,6 +40,9 @@ module _ (g : Graph) (d : List ℤ) (o : Settings) (f : Frame) (l w : List ℕ) 
 
   pub runs-step : o .step ≤ maxStep
   runs-step = subst (λ (t : Settings). t .step ≤ maxStep) (h .settings) (h .holds .kept .opening .step)
+
+  pub runs-sweeps : o .sweeps ≤ maxSweeps
+  runs-sweeps = subst (λ (t : Settings). t .sweeps ≤ maxSweeps) (h .settings) (h .holds .kept .opening .sweeps)
 
   module _ (t : Top s) where
     few : g .m ≤ maxEdges
@@ -80,7 +84,7 @@ module _ (g : Graph) (d : List ℤ) (o : Settings) (f : Frame) (l w : List ℕ) 
             (sym (h .settings) i .sweeps) (sym (h .multipliers) i) ((ap (marksIn (g .m)) b ∙ row-marks) i)
 
     -- and the arguments are those that they were
-    pub runs-next : (f′ : Frame) (l′ w′ : List ℕ) → Holds g f′ l′ w′ (openTop s (s .stack))
+    pub runs-next : (f′ : Frame) (l′ w′ : List ℕ) → FrameHolds g f′ l′ w′ (openTop s (s .stack))
         → Runs g d o f′ l′ w′ (openTop s (s .stack))
     unfolding openTop settled
     runs-next f′ l′ w′ k = record {

@@ -5,9 +5,7 @@ ghost use Rattle.machine.specs.Calls as Calls;
 ghost use Rattle.search.specs.Record.{fresh, openingOf};
 ghost use Rattle.search.specs.Replies.{refuses, reply, lent, Gives, GivesList};
 
-mod compact;
 mod cost;
-mod node;
 mod opening;
 mod record;
 mod running;
@@ -25,11 +23,7 @@ use running::Frame;
 use running::run_frame;
 use shown::show_tour;
 
-// Limits, as specs/Limits.antt of crate graph has them.
-pub const MAX_SWEEPS: u32 = 15;
-
-pub const MAX_STEP: u32 = 10_000;
-
+// As specs/Limits.antt of crate graph has it.
 pub const MAX_COUNT: u64 = 9_223_372_036_854_775_807;
 
 // Room for the nodes that wait, a byte for each edge: a search never has more than n + 2 of them.

@@ -9,8 +9,6 @@ ghost use Rattle.machine.specs.Machine.{trimmed};
 ghost use Rattle.machine.specs.Machine as Machine;
 ghost use Rattle.machine.specs.Calls as Calls;
 ghost use Rattle.search.specs.Record.{openingOf, recordOf};
-use crate::MAX_STEP;
-use crate::MAX_SWEEPS;
 use crate::STACK_SIZE;
 use crate::Search;
 use crate::stack;
@@ -19,6 +17,8 @@ use graph::MAX_EDGES;
 use graph::MAX_VERTICES;
 use graph::wide;
 use machine::Settings;
+use node::MAX_STEP;
+use node::MAX_SWEEPS;
 
 // The first of 15, 11, 12, 13, 14 that applies, or 0.
 pub(crate) fn fault(g: Graph, multipliers: &[i32], settings: Settings) -> u32

@@ -1,22 +1,20 @@
 // Running: the top node is opened while one waits, budget is left and the count is below its limit. What changes is a small frame by
 // value beside the bytes of the stack and of the best tour, which are lent: nothing copies the record for a node.
-ghost use mathlib.Core.Path.{_≡_};
 ghost use Rattle.machine.specs.Machine.{Progress, openTop, ran};
-ghost use Rattle.search.specs.Opening.{opened};
-ghost use Rattle.search.specs.Frames.{Holds, Opens};
+ghost use Rattle.node.specs.Opened.{opened};
+ghost use Rattle.search.specs.Frames.{FrameHolds, Opens};
 ghost use Rattle.search.specs.Running.{Runs};
 use crate::STACK_SIZE;
-use crate::compact::open_compact;
 use crate::cost::tour_cost;
-use crate::node::Fate;
-use crate::node::Subproblem;
-use crate::stack::node;
+use crate::stack::get;
 use crate::stack::put;
 use graph::Graph;
 use graph::MAX_EDGES;
 use graph::MAX_VERTICES;
 use graph::wide;
 use machine::Settings;
+use node::Fate;
+use node::Subproblem;
 
 // What changes of a search while it runs, but for the stack and the best tour.
 pub(crate) struct Frame {
@@ -40,11 +38,13 @@ fn settle<'a>(
     requires { ⌜ Opens m (now cost) f (now stack) (now best) (opened fate (now row) (now top)) ⌝ }
     ensures { λ r. ⌜ ((t : Opens m (now (cost .entry)) f (now (stack .entry)) (now (best .entry))
         (opened fate (now (row .entry)) (now (top .entry))))
-        → Holds (t .graph) r (now (stack .exit)) (now (best .exit)) (openTop (t .search) (t .search .stack))) ⌝ }
+        → FrameHolds (t .graph) r (now (stack .exit)) (now (best .exit)) (openTop (t .search) (t .search .stack))) ⌝ }
 {
     let p = f.depth - 1;
     let k = f.count + 1;
     match fate {
+        // never: what a search opens has no fault
+        Fate::Refused(_) => f,
         Fate::Closes => {
             put(stack, p, top);
             Frame {
@@ -104,15 +104,16 @@ pub(crate) fn run_frame(
         if t.count >= crate::MAX_COUNT {
             return t;
         }
-        let mut row = node(stack, t.depth - 1);
+        let mut row = get(stack, t.depth - 1);
+        let mut present = settings;
+        present.ceiling = t.upper;
         let p = Subproblem {
             n: n,
             m: m,
             multipliers: multipliers,
-            upper: t.upper,
-            settings: settings,
+            settings: present,
         };
-        let fate = open_compact(p, &g.a, &g.b, &g.cost, &mut row, &mut top);
+        let fate = node::open(p, &g.a, &g.b, &g.cost, &mut row, &mut top);
         t = settle(m, &g.cost, t, fate, &row, &top, stack, best);
         left = left - 1;
     }

@@ -9,7 +9,7 @@ use crate::STACK_SIZE;
 use graph::MAX_EDGES;
 
 // The bytes of node p.
-pub(crate) fn node(stack: &[u8; STACK_SIZE], p: usize) -> [u8; MAX_EDGES]
+pub(crate) fn get(stack: &[u8; STACK_SIZE], p: usize) -> [u8; MAX_EDGES]
     requires { ⌜ p < maxNodes ⌝ }
     ensures { λ r. ⌜ r ≡ rowAt (now (stack .entry)) p ⌝ }
 {

@@ -9,9 +9,9 @@ use Rattle.graph.specs.Valid.{valid}
 use Rattle.tree_theory.specs.Inputs.{multipliersFit, ceilingFits}
 use Rattle.machine.specs.Machine.{Opening}
 use Rattle.machine.specs.Calls.{step}
+use Rattle.node.specs.Faults.{fault-15, fault-11, fault-12, fault-13, fault-sweeps, fault-step, fault-none}
 use Rattle.search.specs.Record.{openingOf}
 use Rattle.search.specs.Check.{check}
-use Rattle.search.specs.Faults.{fault-15, fault-11, fault-12, fault-13, fault-sweeps, fault-step, fault-none}
 use Rattle.search.proofs.opening.fault.Statement.{statement}
 use Rattle.search.proofs.opening.fault.Tie as tie
 

@@ -6,9 +6,9 @@ use borrow.Author.Needs.{needs}
 use lib.ListN.{length, getD}
 use lib.IntN.{pos}
 use Rattle.lists.specs.Fill.{fit}
+use Rattle.lists.specs.Filling.{Filling, filling-none, filling-more, filling-is}
 use Rattle.integers.specs.Words.{back32}
 use Rattle.machine.specs.Calls.{close}
-use Rattle.search.specs.Filling.{Filling, filling-none, filling-more, filling-is}
 use lib.ListN.{List·getD-eq-default}
 use Rattle.search.proofs.opening.padded.Statement.{statement}
 use Rattle.search.proofs.opening.padded.Tie as tie

@@ -7,10 +7,10 @@ use lib.Dec.{eqb}
 use lib.ListN.{length, length-take}
 use lib.IntN.{pos}
 use Rattle.lists.specs.Fill.{fit}
+use Rattle.lists.specs.Filling.{take-fit}
 use Rattle.machine.specs.Calls.{fault, close, step}
+use Rattle.node.specs.Faults.{too-many}
 use Rattle.search.specs.Record.{openingOf}
-use Rattle.search.specs.Faults.{too-many}
-use Rattle.search.specs.CheckLoops.{take-fit}
 use Rattle.search.specs.CheckParts.{openingWith}
 use Rattle.search.proofs.record.opening_fits.Statement.{statement}
 use Rattle.search.proofs.record.opening_fits.Tie as tie

@@ -9,19 +9,22 @@ use borrow.Author.Needs.{needs}
 use lib.IntN.{pos}
 use mir.Val.{toZ, ofZ}
 use mir.Syntax.{w64}
-use Rattle.lists.specs.Fill.{fit}
+use Rattle.lists.specs.Fill.{fit, fit-size}
 use Rattle.integers.specs.Words.{back64}
 use Rattle.graph.specs.declared.Graph.{Graph}
 use Rattle.graph.specs.Network.{network}
 use Rattle.graph.specs.Valid.{Valid, graphOf}
 use Rattle.graph.specs.Parts.{own-parts}
 use Rattle.tree_theory.specs.Inputs.{multipliersFit}
-use Rattle.machine.specs.Machine.{Progress, passes, ran}
-use Rattle.search.specs.Record.{marksIn}
-use Rattle.search.specs.Pushing.{bytesOf}
-use Rattle.search.specs.Opening.{Opened, opened, openedAs}
+use Rattle.machine.specs.Machine.{Opening, Progress, passes, ran}
+use Rattle.node.specs.Marks.{marksIn, bytesOf}
+use Rattle.node.specs.Opened as Node
+use Rattle.node.specs.Opened.{Opened, opened, openedAs}
+use Rattle.node.specs.Faults.{Fit}
+use Rattle.node.specs.Passes.{withBytes}
+use Rattle.node.specs.CompactGraph.{opens-node}
 use Rattle.search.specs.Frames.{Top, Opens, holds-mag, holds-deep, holds-valid, top-of}
-use Rattle.search.specs.Running.{runs-fits, runs-ceiling, runs-step, row-bytes, top-is, runs-next}
+use Rattle.search.specs.Running.{runs-fits, runs-ceiling, runs-sweeps, runs-step, row-bytes, top-is, runs-next}
 use Rattle.search.specs.Running.{Runs, RunsTo, run-stops, run-spent, run-turn}
 use Rattle.search.proofs.running.run_frame.Statement.{statement}
 use Rattle.search.proofs.running.run_frame.Tie as tie
@@ -53,9 +56,18 @@ parts : (at : tie.At-loop Inv-loop μ-loop)
     graphOf (at .before .before .wide .result) (at .before .wide2 .result) (g .a) (g .b) (g .cost) (g .mark) ≡ g
 parts at = own-parts (given at) _ _ (vertices at) (edges at)
 
--- the turn that a state is in
-abbrev turn : tie.After-node Inv-loop μ-loop → tie.At-loop Inv-loop μ-loop
-turn c = c .before .before .before .before .before .before .before .before
+-- where nothing stops the turn, and the turn that it is in
+abbrev going : tie.After-get Inv-loop μ-loop → tie.Else2 Inv-loop μ-loop
+going c = c .before .before .before
+
+abbrev waits : tie.Else2 Inv-loop μ-loop → tie.Else1 Inv-loop μ-loop
+waits c = c .before .before
+
+abbrev turn : tie.Else1 Inv-loop μ-loop → tie.At-loop Inv-loop μ-loop
+turn c = c .before .before .before
+
+abbrev turn-of : tie.After-get Inv-loop μ-loop → tie.At-loop Inv-loop μ-loop
+turn-of c = turn (waits (going c))
 
 -- the search q is held at the start of a turn
 abbrev RunsAt : tie.At-loop Inv-loop μ-loop → Progress → Type 0
@@ -72,13 +84,12 @@ held at =
     (k .search, k .runs)
 
 -- a node waits
-deep : (c : tie.After-node Inv-loop μ-loop) → 0 < turn c .loop .t .depth
-deep c = omega (arith, c .before .before .before .before .before .if1 .left)
+deep : (c : tie.Else2 Inv-loop μ-loop) → 0 < turn (waits c) .loop .t .depth
+deep c = omega (arith, waits c .if1 .left)
 
 -- the top node of the search that is held
-top-node : (c : tie.After-node Inv-loop μ-loop) (q : Progress) → RunsAt (turn c) q → Top q
-top-node c q r =
-    top-of _ _ _ _ _ (r .holds) (deep c) (omega (arith, c .before .before .before .if2 .left))
+top-node : (c : tie.Else2 Inv-loop μ-loop) (q : Progress) → RunsAt (turn (waits c)) q → Top q
+top-node c q r = top-of _ _ _ _ _ (r .holds) (deep c) (omega (arith, c .if2 .left))
 
 wide-requires : tie.Need-wide-requires Inv-loop μ-loop
 wide-requires c κs = search needs
@@ -93,97 +104,131 @@ returns : tie.Need-returns Inv-loop μ-loop
 returns c = λ s r. run-stops _ _ _ _ _ _ _ _ (c .before .before .before .loop .inv s r) (inl (c .if1 .taken))
 
 returns-2 : tie.Need-returns-2 Inv-loop μ-loop
-returns-2 c = λ s r. run-stops _ _ _ _ _ _ _ _ (c .before .before .before .before .before .loop .inv s r) (inr (c .if2 .taken))
+returns-2 c = λ s r. run-stops _ _ _ _ _ _ _ _ (turn (c .before .before) .loop .inv s r) (inr (c .if2 .taken))
 
-sub-node : tie.Need-sub-node Inv-loop μ-loop
-sub-node c = omega (arith, c .before .before .before .before .if1 .left)
+sub-get : tie.Need-sub-get Inv-loop μ-loop
+sub-get c = omega (arith, deep (c .before .before))
 
-node-requires : tie.Need-node-requires Inv-loop μ-loop
-node-requires c κs =
-    let h = held (c .before .before .before .before .before .before .before) .1 .holds in
-    omega (arith, holds-deep _ _ _ _ _ h, holds-valid _ _ _ _ _ h .few, c .before .before .before .before .if1 .left)
+get-requires : tie.Need-get-requires Inv-loop μ-loop
+get-requires c κs =
+    let e = c .before .before in
+    let h = held (turn (waits e)) .1 .holds in
+    omega (arith, holds-deep _ _ _ _ _ h, deep e)
 
-open-compact-requires : tie.Need-open-compact-requires Inv-loop μ-loop
-open-compact-requires c κs =
-    let k = c .before .before .before .before .before .before .before in
-    let at = turn k in
-    let r = held at .1 in
-    let d = start at .args .multipliers in
-    let row : List ℕ = k .node .result in (
-      (given at .mark, subst Valid (sym (parts at)) (holds-valid _ _ _ _ _ (r .holds))),
-      subst (λ (n : ℕ). multipliersFit (fit n (pos 0) d) ≡ true) (sym (vertices at)) (runs-fits _ _ _ _ _ _ _ r),
-      rw (back64 (at .loop .t .upper) (holds-mag _ _ _ _ _ (r .holds))) (runs-ceiling _ _ _ _ _ _ _ r),
-      runs-step _ _ _ _ _ _ _ r,
-      subst (λ (m : ℕ). row ≡ bytesOf (marksIn m row)) (sym (edges at))
-          (rw (k .node .ensures) (row-bytes _ _ _ _ _ _ _ r (top-node k _ r))),
-    )
+open-requires : tie.Need-open-requires Inv-loop μ-loop
+open-requires c κs = search needs
 
 -- what the top node comes to
-abbrev came : tie.After-open-compact Inv-loop μ-loop → Opened
-came c = let o = c .open-compact in opened (o .result) (o .last .1 .1 .1 .1 .0) (o .last .1 .1 .1 .1 .1 .0)
+abbrev came : tie.After-open Inv-loop μ-loop → Opened
+came c = let o = c .«open» in opened (o .result) (o .last .1 .1 .1 .1 .0) (o .last .1 .1 .1 .1 .1 .0)
 
 -- where the node is read, from where it is opened
-abbrev read : tie.After-open-compact Inv-loop μ-loop → tie.After-node Inv-loop μ-loop
-read c = c .before .before .before .before .before .before .before .before
+abbrev read : tie.After-open Inv-loop μ-loop → tie.After-get Inv-loop μ-loop
+read c =
+    let arguments = c .before .before .before in
+    let ends = arguments .before .before .before in
+    ends .before .before
+
+-- what the node is opened with: on the graph as it was given
+abbrev given-with : tie.At-loop Inv-loop μ-loop → Opening
+given-with at =
+    let g = given at in
+    let a = start at .args in
+    let n = at .before .before .wide .result in
+    record {
+      graph = graphOf n (at .before .wide2 .result) (g .a) (g .b) (g .cost) (g .mark);
+      multipliers = fit n (pos 0) (a .multipliers);
+      settings = record { ceiling = toZ w64 (ofZ w64 (at .loop .t .upper)); sweeps = a .settings .sweeps; step = a .settings .step };
+    }
+
+-- and it has no fault
+fits : (at : tie.At-loop Inv-loop μ-loop) (q : Progress) → RunsAt at q → Fit (given-with at)
+fits at q r =
+    let d = start at .args .multipliers in
+    let n = at .before .before .wide .result in
+    record {
+      valid = subst Valid (sym (parts at)) (holds-valid _ _ _ _ _ (r .holds));
+      long = fit-size n (pos 0) d;
+      multipliers = subst (λ (n : ℕ). multipliersFit (fit n (pos 0) d) ≡ true) (sym (vertices at)) (runs-fits _ _ _ _ _ _ _ r);
+      ceiling = rw (back64 (at .loop .t .upper) (holds-mag _ _ _ _ _ (r .holds))) (runs-ceiling _ _ _ _ _ _ _ r);
+      sweeps = runs-sweeps _ _ _ _ _ _ _ r;
+      step = runs-step _ _ _ _ _ _ _ r;
+    }
+
+-- so the node with the bytes x comes to what its passes come to
+comes : (at : tie.At-loop Inv-loop μ-loop) (q : Progress) → RunsAt at q → (x top : List ℕ) → x ≡ bytesOf (marksIn (given at .m) x)
+    → (o : Opened)
+    → let w = given-with at in
+    o ≡ Node.opens (record { graph = withBytes (w .graph) x; multipliers = w .multipliers; settings = w .settings }) top
+    → o ≡ openedAs (passes (network (given at)) (w .settings .step) (w .settings .ceiling) (w .settings .sweeps)
+    (fit (given at .n) (pos 0) (start at .args .multipliers)) (marksIn (given at .m) x))
+comes at q r x top canonical o e =
+    let w = given-with at in
+    e
+    ∙ opens-node w (fits at q r) x (subst (λ (m : ℕ). x ≡ bytesOf (marksIn m x)) (sym (edges at)) canonical) top
+    ∙ ap openedAs (λ i. passes (network (parts at i)) (w .settings .step) (w .settings .ceiling) (w .settings .sweeps)
+    (fit (vertices at i) (pos 0) (start at .args .multipliers)) (marksIn (edges at i) x))
 
 -- the node that is read is the machine's top node, and its opening the machine's
-opens : (c : tie.After-open-compact Inv-loop μ-loop) (q : Progress) →
-    let at = turn (read c) in
+opens : (c : tie.After-open Inv-loop μ-loop) (q : Progress) →
+    let at = turn-of (read c) in
     RunsAt at q → Opens (at .before .wide2 .result) (given at .cost) (at .loop .t) (at .loop .stack) (at .loop .best) (came c)
 opens c q r =
     let k = read c in
-    let at = turn k in
-    let g = given at in
-    let a = start at .args in
+    let at = turn-of k in
     let u = back64 (at .loop .t .upper) (holds-mag _ _ _ _ _ (r .holds)) in
-    let row : List ℕ = k .node .result in
-    let valid = subst Valid (sym (parts at)) (holds-valid _ _ _ _ _ (r .holds)) in
+    let top = top-node (going k) q r in
+    let row : List ℕ = k .get .result in
+    let canonical =
+    subst (λ (x : List ℕ). x ≡ bytesOf (marksIn (given at .m) x)) (sym (k .get .ensures)) (row-bytes _ _ _ _ _ _ _ r top)
+    in
     record {
-      graph = g;
+      graph = given at;
       many = sym (edges at);
       costs-are = refl;
       search = q;
       holds = r .holds;
-      top = top-node k q r;
+      top = top;
       is =
-          top-is _ _ _ _ _ _ _ r (top-node k q r) (came c) _ row u (k .node .ensures)
-          (c .open-compact .ensures (g .mark) valid
-          ∙ ap openedAs (λ i. passes (network (parts at i)) (a .settings .step) (toZ w64 (ofZ w64 (at .loop .t .upper))) (a .settings .sweeps)
-          (fit (vertices at i) (pos 0) (a .multipliers)) (marksIn (edges at i) row)));
+          top-is _ _ _ _ _ _ _ r top (came c) _ row u (k .get .ensures)
+          (comes at q r row _ canonical (came c) (c .«open» .ensures));
     }
 
 settle-requires : tie.Need-settle-requires Inv-loop μ-loop
 settle-requires c κs =
-    let o = c .before .before .before .before .before .before in
-    let k = held (turn (read o)) in
+    let lent = c .before .before .before in
+    let o = lent .before .before .before in
+    let k = held (turn-of (read o)) in
     opens o (k .0) (k .1)
 
 -- budget is left
-left : (c : tie.After-node Inv-loop μ-loop) → 0 < turn c .loop .left
-left c = omega (arith, c .before .before .before .before .before .before .before .loop-test .taken)
+left : (c : tie.Else1 Inv-loop μ-loop) → 0 < turn c .loop .left
+left c = omega (arith, c .before .before .loop-test .taken)
 
 -- where the node is opened, from where it is settled
-abbrev opening : tie.After-settle Inv-loop μ-loop → tie.After-open-compact Inv-loop μ-loop
-opening c = c .before .before .before .before .before .before .before
+abbrev opening : tie.After-settle Inv-loop μ-loop → tie.After-open Inv-loop μ-loop
+opening c =
+    let lent = c .before .before .before in
+    let costs = lent .before .before .before in
+    costs .before
 
 sub-left : tie.Need-sub-left Inv-loop μ-loop
-sub-left c = omega (arith, left (read (opening c)))
+sub-left c = omega (arith, left (waits (going (read (opening c)))))
 
 loop-less : tie.Need-loop-less Inv-loop μ-loop
-loop-less c = omega (arith, left (read (opening c)))
+loop-less c = omega (arith, left (waits (going (read (opening c)))))
 
 loop-again : tie.Need-loop-again Inv-loop μ-loop
 unfolding opens
 loop-again c =
     let o = opening c in
-    let k = read o in
-    let l = turn k .loop in
+    let e = going (read o) in
+    let l = turn (waits e) .loop in
     λ q r.
-    run-turn _ _ _ _ _ _ _ _ (l .inv q r) (l .left - 1) (omega (arith, left k))
-    (deep k) (omega (arith, k .before .before .before .if2 .left)) _ _ _
+    run-turn _ _ _ _ _ _ _ _ (l .inv q r) (l .left - 1) (omega (arith, left (waits e))) (deep e) (omega (arith, e .if2 .left)) _ _ _
     (λ p h.
-    let e = opens o p h in
-    runs-next _ _ _ _ _ _ _ h (e .top) _ _ _ (c .settle .ensures e))
+    let s = opens o p h in
+    runs-next _ _ _ _ _ _ _ h (s .top) _ _ _ (c .settle .ensures s))
 
 returns-3 : tie.Need-returns-3 Inv-loop μ-loop
 returns-3 c = λ s r. run-spent _ _ _ _ _ _ _ _ (c .before .loop .inv s r) (omega (arith, c .loop-test .left))
@@ -199,9 +244,9 @@ run-frame-spec =
     loop-holds
     returns
     returns-2
-    sub-node
-    node-requires
-    open-compact-requires
+    sub-get
+    get-requires
+    open-requires
     settle-requires
     sub-left
     loop-less

@@ -1,0 +1,12 @@
+pub mod Marks
+pub mod Opened
+pub mod Faults
+pub mod Counting
+pub mod Gains
+pub mod Marking
+pub mod OnePass
+pub mod Passing
+pub mod Passes
+pub mod Compacting
+pub mod Expanding
+pub mod CompactGraph

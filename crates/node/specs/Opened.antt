@@ -1,0 +1,105 @@
+-- What the opening of a node comes to, for every input: its fate, and the two lists of bytes that go with it. Definitions only.
+--   Opened, openedAs   what the machine's opening of a node comes to, in bytes
+--   kept, left         the edges that a graph's marks do not exclude, and the graph of those alone
+--   taken              what a node is opened with, as the arguments of an opening
+--   nodeFault, opens   what is refused; what is answered and left
+use mathlib.Core.Bool.{not, cond}
+use mathlib.Core.List.{List}
+use Prim.Native.Nat.{ℕ, zero, suc}
+use lib.Dec.{eqb, leb}
+use lib.IntN.{pos}
+use lib.ListN.{replicate}
+use Rattle.lists.specs.Fill.{fill, fit}
+use Rattle.graph.specs.declared.Graph.{Graph}
+use Rattle.graph.specs.Limits.{maxEdges}
+use Rattle.graph.specs.Network.{place}
+use Rattle.tree_theory.specs.OneTree.{Edges}
+use Rattle.tree_theory.specs.Arrays.{entry}
+use Rattle.machine.specs.Outcomes.{closes, finds, splits}
+use Rattle.machine.specs.Machine as M
+use Rattle.machine.specs.Machine.{Opening, openNode}
+use Rattle.machine.specs.Calls.{fault}
+use Rattle.compaction.specs.Ranks.{rank, nth}
+use Rattle.node.specs.declared.Fate.{Fate}
+use Rattle.node.specs.declared.Fate.the-variants as fate
+use Rattle.node.specs.declared.Subproblem.{Subproblem}
+use Rattle.node.specs.Marks.{marksIn, bytesOf, bytesOfTour}
+
+-- a node's fate, and the two lists of bytes that go with it
+pub record Opened : Type 0 where
+  pub fate : Fate
+  pub row : List ℕ
+  pub top : List ℕ
+
+abbrev pub opened : Fate → List ℕ → List ℕ → Opened
+opened a w u = record { fate = a; row = w; top = u }
+
+-- a tour is found, and w has its bytes
+abbrev pub foundAs : List ℕ → Opened
+foundAs w = opened fate.Finds w (replicate maxEdges 0)
+
+-- what the machine's opening of a node comes to, in bytes
+unfoldable pub openedAs : M.Opened → Opened
+unfolding bytesOfTour bytesOf
+openedAs closes = opened fate.Closes (replicate maxEdges 0) (replicate maxEdges 0)
+openedAs (finds r) = foundAs (bytesOfTour r)
+openedAs (splits out into) = opened fate.Splits (bytesOf out) (bytesOf into)
+
+-- ---- the edges that are left
+
+-- the edges that the marks do not exclude
+abbrev pub kept : List ℕ → Edges
+kept marks k = not (eqb (entry marks k) 2)
+
+-- what a list has for each of those, of m edges, in their order; z past them
+unfoldable pub leftOf : {A : Type 0} → A → List ℕ → ℕ → List A → List A
+unfolding fill place nth
+leftOf z marks m l = fill maxEdges (λ j. place z m l (nth (kept marks) m (suc j)))
+
+-- the graph without its excluded edges
+abbrev pub left : Graph → Graph
+left g =
+    record {
+      n = g .n;
+      m = rank (kept (g .mark)) (g .m);
+      a = leftOf 0 (g .mark) (g .m) (g .a);
+      b = leftOf 0 (g .mark) (g .m) (g .b);
+      cost = leftOf (pos 0) (g .mark) (g .m) (g .cost);
+      mark = leftOf 0 (g .mark) (g .m) (g .mark);
+    }
+
+-- ---- the answer, and what is left
+
+-- a node is opened with what a search is opened with: the graph has the node's marks, the ceiling is the upper bound, and the multipliers
+-- are the first n
+abbrev pub taken : Subproblem → Graph → Opening
+taken p g =
+    record {
+      graph = g;
+      multipliers = fit (g .n) (pos 0) (p .multipliers);
+      settings = p .settings;
+    }
+
+abbrev pub leftIn : Opening → Opening
+leftIn o = record { graph = left (o .graph); multipliers = o .multipliers; settings = o .settings }
+
+-- what is refused, and by which number, is what an opening refuses; but an excluded edge counts for nothing
+unfoldable pub nodeFault : Opening → ℕ
+unfolding fault
+nodeFault o = cond (leb (o .graph .m) maxEdges) (fault (leftIn o)) 15
+
+-- a fault is refused, and leaves both lists as they were
+abbrev pub unlessRefused : ℕ → List ℕ → List ℕ → Opened → Opened
+unlessRefused zero row top out = out
+unlessRefused (suc k) row top out = opened (fate.Refused (suc k)) row top
+
+-- by the number of a fault
+unfoldable pub opensBy : ℕ → Opening → List ℕ → Opened
+unfolding openedAs openNode marksIn
+opensBy number o top =
+    unlessRefused number (o .graph .mark) top
+    (openedAs (openNode o (o .settings .ceiling) (marksIn (o .graph .m) (o .graph .mark))))
+
+unfoldable pub opens : Opening → List ℕ → Opened
+unfolding opensBy nodeFault
+opens o top = opensBy (nodeFault o) o top

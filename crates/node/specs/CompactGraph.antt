@@ -31,7 +31,8 @@ use Rattle.node.specs.declared.Fate.the-variants as fate
 use Rattle.node.specs.Marks.{marksIn, bytesOf, marks-size, marks-at, Padded}
 use Rattle.node.specs.Opened.{Opened, opened, openedAs, kept, leftOf, left, leftIn, nodeFault, opensBy, opens}
 use Rattle.node.specs.Faults.{Fit, fault-15, fit-fault}
-use Rattle.node.specs.Passes.{withBytes, valid-bytes, passes-from, outcome, isRefused, never-refused, opens-refused, opens-accepted}
+use Rattle.node.specs.Passes.{withBytes, valid-bytes, passes-from}
+use Rattle.node.specs.Refusing.{outcome, isRefused, never-refused, opens-refused, opens-accepted}
 use Rattle.node.specs.Compacting.{Listed, listedAt, gathered-is, old, old-rank, old-nth, listed-old}
 use Rattle.node.specs.Expanding.{Places, Expanded, expandedAt}
 
@@ -262,7 +263,8 @@ module _ (o : Opening) (top : List ℕ) where
         left-comes = inner ∙ sym (opens-accepted (fault (leftIn o)) (leftIn o) spare left-fault)
 
         -- what its bytes expand to is what is promised
-        pub left-opens : (w : Opened) → w ≡ openedAs (spreadOpened (kept (o .graph .mark)) (o .graph .m) (outcome (leftIn o))) → w ≡ opens o top
+        pub left-opens : (w : Opened) → w ≡ openedAs (spreadOpened (kept (o .graph .mark)) (o .graph .m) (outcome (leftIn o)))
+            → w ≡ opens o top
         left-opens w i =
             i
             ∙ ap openedAs (left-passes (o .graph) (left-few (o .graph) few) (o .multipliers) (o .settings .step) (o .settings .ceiling)
@@ -283,7 +285,8 @@ opens-node o f x canonical top =
       sweeps = f .sweeps;
       step = f .step;
     }))
-    ∙ ap openedAs (passes-from (o .graph) x (o .multipliers) (o .settings .step) (o .settings .ceiling) (o .settings .sweeps) (f .valid .few) canonical)
+    ∙ ap openedAs (passes-from (o .graph) x (o .multipliers) (o .settings .step) (o .settings .ceiling) (o .settings .sweeps)
+    (f .valid .few) canonical)
   where
     node : Opening
     node = record { graph = withBytes (o .graph) x; multipliers = o .multipliers; settings = o .settings }

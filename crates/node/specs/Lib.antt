@@ -7,6 +7,7 @@ pub mod Marking
 pub mod OnePass
 pub mod Passing
 pub mod Passes
+pub mod Refusing
 pub mod Compacting
 pub mod Expanding
 pub mod CompactGraph

@@ -67,7 +67,8 @@ refusal-fault o a e =
         → orElse f (settingsFault (o .settings .sweeps) (o .settings .step)) ≡ refusal a (o .settings .sweeps) (o .settings .step)
     go answer.Infeasible zero h = refl
     go (answer.Bound b) zero h = refl
-    go (answer.Refused n p) zero h = absurd (says-no-number n p (o .settings .ceiling) (leastTree (network (o .graph)) (multiplier (o .multipliers))) h)
+    go (answer.Refused n p) zero h =
+        absurd (says-no-number n p (o .settings .ceiling) (leastTree (network (o .graph)) (multiplier (o .multipliers))) h)
     go answer.Infeasible (suc f) h = absurd (let z : _≡_ {A = ℕ} 0 1 = cc in omega arith)
     go (answer.Bound b) (suc f) h = absurd (let z : _≡_ {A = ℕ} 0 1 = cc in omega arith)
     go (answer.Refused n p) (suc f) h = let s : n ≡ suc f = cc in sym s

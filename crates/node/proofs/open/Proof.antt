@@ -15,7 +15,7 @@ use Rattle.node.specs.declared.Fate.{Fate}
 use Rattle.node.specs.declared.Fate.the-variants as fate
 use Rattle.node.specs.Marks.{Padded}
 use Rattle.node.specs.Opened.{Opened, opened, left, taken, leftIn, opensBy}
-use Rattle.node.specs.Passes.{isRefused}
+use Rattle.node.specs.Refusing.{isRefused}
 use Rattle.node.specs.Expanding.{Places, Expanded, expandedAt, closes-same, finds-same, splits-same}
 use Rattle.node.specs.CompactGraph.{left-is, left-padded, left-places, left-expanded}
 use Rattle.node.specs.CompactGraph.{opens-15, left-refused, left-comes, left-opens}
@@ -170,7 +170,8 @@ returns-3 c =
     left-refused (opening (begun o)) _ (few l) _ _ (inner o) _ (c .enum-told .given .1)
 
 -- it is not refused
-abbrev fine : (o : tie.After-open-left) (f : Fate) → isRefused f ≡ false → o .open-left .result ≡ f → isRefused (o .open-left .result) ≡ false
+abbrev fine : (o : tie.After-open-left) (f : Fate) → isRefused f ≡ false → o .open-left .result ≡ f
+    → isRefused (o .open-left .result) ≡ false
 fine o f e q = ap isRefused q ∙ e
 
 returns-4 : tie.Need-returns-4

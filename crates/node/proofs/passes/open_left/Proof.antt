@@ -22,8 +22,8 @@ use Rattle.node.specs.Marks.{Padded}
 use Rattle.node.specs.Opened.{Opened, openedAs, taken, opensBy}
 use Rattle.node.specs.Faults.{fault-fit}
 use Rattle.node.specs.OnePass.{VerdictIs, verdict-as}
-use Rattle.node.specs.Passes.{AtPass, AtTurn, outcome, takenAt, opens-accepted, turn-padded, turn-refused, turn-accepted}
 use Rattle.node.specs.Passes.{turn-shut, turn-found, turn-marks, turn-last, turn-next}
+use Rattle.node.specs.Refusing.{outcome, opens-accepted, AtPassOf, AtTurn, takenAt, turn-padded, turn-refused, turn-accepted}
 use Rattle.node.proofs.passes.open_left.Statement.{statement}
 use Rattle.node.proofs.passes.open_left.Tie as tie
 
@@ -86,7 +86,7 @@ accepted : (j : tie.After-judge Inv-loop μ-loop)
     → let p = start j .args .p in
     let g = given (start j) in
     let l = turn j .loop in
-    (fault (taken p g) ≡ 0) × AtPass g (p .settings .step) (p .settings .ceiling) (outcome (taken p g)) (l .left) (l .row) (l .d)
+    (fault (taken p g) ≡ 0) × AtPassOf p g (l .left) (l .row) (l .d)
 accepted j e =
     let l = turn j .loop in
     turn-accepted (start j .args .p) (given (start j)) (l .inv .2) (l .left) (l .row) (l .d) (l .inv .3) e

@@ -14,7 +14,7 @@ use Rattle.integers.specs.Words.{back64}
 use Rattle.graph.specs.Limits.{maxCost, maxEdges}
 use Rattle.machine.specs.Machine.{openNode}
 use Rattle.node.specs.Opened.{Opened}
-use Rattle.node.specs.Passes.{never-refused}
+use Rattle.node.specs.Refusing.{never-refused}
 use Rattle.search.specs.Frames.{holds-mag, holds-size, holds-valid, top-depth, top-high, top-room, split-room}
 use Rattle.search.specs.Frames.{next-closes, next-finds, next-splits}
 use Rattle.search.proofs.running.settle.Statement.{statement}

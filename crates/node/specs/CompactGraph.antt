@@ -1,16 +1,15 @@
 -- The graph of the edges that are left: it is valid where the whole graph is, its network is the thin network of crate compaction, and so
--- what the passes of a node come to on it, spread out to all edges, is what they come to; its places expand the bytes of the one to those
--- of the other; and so the node is opened as is promised.
+-- what the passes of a node come to on it, spread out to all edges, is what they come to; and its places expand the bytes of the one to
+-- those of the other.
 use mathlib.Core.Path.{_≡_, refl, sym, ap, _∙_, subst}
 use mathlib.Core.Bool.{Bool, true, false, not, cond, true≢false}
 use mathlib.Core.List.{List}
 use Prim.Native.Nat.{ℕ, zero, suc, _≤_, _<_}
 use native.Mathlib.Omega.{arith}
 use native.Mathlib.Decide.{decLe}
-use lib.Dec.{leb}
 use lib.ListN.{length, getD, List·getD-eq-default}
 use lib.IntN.{ℤ, pos}
-use borrow.Author.Tests.{eqb-true, le-leb, lt-leb}
+use borrow.Author.Tests.{eqb-true}
 use Rattle.lists.specs.Fill.{fill-size, fill-at}
 use Rattle.lists.specs.Filling.{Filling}
 use Rattle.integers.specs.Range.{within}
@@ -19,20 +18,14 @@ use Rattle.graph.specs.Limits.{maxEdges, maxCost}
 use Rattle.graph.specs.Network.{Network, free, excluded, markOf, place, network}
 use Rattle.graph.specs.Places.{place-at, place-zero, place-past}
 use Rattle.graph.specs.Valid.{Valid, graphOf}
-use Rattle.graph.specs.Meaning.{not-valid}
 use Rattle.tree_theory.specs.OneTree.{Edges}
-use Rattle.machine.specs.Machine.{Marks, Opening, passes}
-use Rattle.machine.specs.Calls.{fault}
+use Rattle.machine.specs.Machine.{Marks, passes}
 use Rattle.compaction.specs.Ranks.{rank, nth, rank-yes, rank-most, rank-mono, rank-less, nth-rank, nth-zero, nth-past}
 use Rattle.compaction.specs.Thinned.{thin}
 use Rattle.compaction.specs.Spread.{spreadMarks, spreadOpened, spread-is}
 use Rattle.compaction.specs.Passes.{passes-thin}
-use Rattle.node.specs.declared.Fate.the-variants as fate
-use Rattle.node.specs.Marks.{marksIn, bytesOf, marks-size, marks-at, Padded}
-use Rattle.node.specs.Opened.{Opened, opened, openedAs, kept, leftOf, left, leftIn, nodeFault, opensBy, opens}
-use Rattle.node.specs.Faults.{Fit, fault-15, fit-fault}
-use Rattle.node.specs.Passes.{withBytes, valid-bytes, passes-from}
-use Rattle.node.specs.Refusing.{outcome, isRefused, never-refused, opens-refused, opens-accepted}
+use Rattle.node.specs.Marks.{marksIn, marks-size, marks-at, Padded}
+use Rattle.node.specs.Opened.{kept, leftOf, left}
 use Rattle.node.specs.Compacting.{Listed, listedAt, gathered-is, old, old-rank, old-nth, listed-old}
 use Rattle.node.specs.Expanding.{Places, Expanded, expandedAt}
 
@@ -217,79 +210,3 @@ left-is g q f a b cost mark e d fa fb fc fm = λ i. record {
   cost = gathered-is (pos 0) (g .mark) (g .m) f (g .cost) cost q e d fc i;
   mark = gathered-is 0 (g .mark) (g .m) f (g .mark) mark q e d fm i;
 }
-
--- ---- THE NODE, by what it comes to on the edges that are left
-
-module _ (o : Opening) (top : List ℕ) where
-  -- there are too many edges, or those that are left make no valid graph
-  pub opens-15 : (o .graph .m ≤ maxEdges → Valid (left (o .graph)) → ⊥) → opened (fate.Refused 15) (o .graph .mark) top ≡ opens o top
-  unfolding opens nodeFault
-  opens-15 h = opens-refused 15 o top (omega arith) ∙ ap (λ (k : ℕ). opensBy k o top) (sym (go (decLe (o .graph .m) maxEdges)))
-    where
-      go : Dec (o .graph .m ≤ maxEdges) → cond (leb (o .graph .m) maxEdges) (fault (leftIn o)) 15 ≡ 15
-      go (yes b) = rw (le-leb (o .graph .m) maxEdges b) (fault-15 (leftIn o) (not-valid (left (o .graph)) (h b)))
-      go (no b) = rw (lt-leb (o .graph .m) maxEdges (omega arith))
-
-  module _ (few : o .graph .m ≤ maxEdges) where
-    number : nodeFault o ≡ fault (leftIn o)
-    unfolding nodeFault
-    number = rw (le-leb (o .graph .m) maxEdges few)
-
-    -- a node of a valid graph is not refused
-    pub opens-valid : fault (leftIn o) ≡ 0 → opens o top ≡ openedAs (outcome o)
-    unfolding opens
-    opens-valid e = sym (opens-accepted (nodeFault o) o top (number ∙ e))
-
-    module _ (spare : List ℕ) (r : Opened) (inner : r ≡ opensBy (fault (leftIn o)) (leftIn o) spare) where
-      pub left-refused : (k : ℕ) → r .fate ≡ fate.Refused k → opened (r .fate) (o .graph .mark) top ≡ opens o top
-      unfolding opens opensBy
-      left-refused k e = go (fault (leftIn o)) inner ∙ ap (λ (n : ℕ). opensBy n o top) (sym number)
-        where
-          go : (n : ℕ) → r ≡ opensBy n (leftIn o) spare → opened (r .fate) (o .graph .mark) top ≡ opensBy n o top
-          go zero i = absurd (never-refused (outcome (leftIn o)) k (sym (ap (λ (x : Opened). x .fate) i) ∙ e))
-          go (suc n) i = ap (λ (x : Opened). opened (x .fate) (o .graph .mark) top) i
-
-      module _ (e : isRefused (r .fate) ≡ false) where
-        none : (n : ℕ) → r ≡ opensBy n (leftIn o) spare → n ≡ 0
-        unfolding opensBy
-        none zero i = refl
-        none (suc n) i = absurd (true≢false (sym (ap (λ (x : Opened). isRefused (x .fate)) i) ∙ e))
-
-        -- it has no fault
-        left-fault : fault (leftIn o) ≡ 0
-        left-fault = none (fault (leftIn o)) inner
-
-        pub left-comes : r ≡ openedAs (outcome (leftIn o))
-        left-comes = inner ∙ sym (opens-accepted (fault (leftIn o)) (leftIn o) spare left-fault)
-
-        -- what its bytes expand to is what is promised
-        pub left-opens : (w : Opened) → w ≡ openedAs (spreadOpened (kept (o .graph .mark)) (o .graph .m) (outcome (leftIn o)))
-            → w ≡ opens o top
-        left-opens w i =
-            i
-            ∙ ap openedAs (left-passes (o .graph) (left-few (o .graph) few) (o .multipliers) (o .settings .step) (o .settings .ceiling)
-            (o .settings .sweeps))
-            ∙ sym (opens-valid left-fault)
-
--- A NODE OF A SEARCH, on the graph of its opening: nothing is refused, whatever marks that graph had
-pub opens-node : (o : Opening) → Fit o → (x : List ℕ) → x ≡ bytesOf (marksIn (o .graph .m) x) → (top : List ℕ)
-    → opens (record { graph = withBytes (o .graph) x; multipliers = o .multipliers; settings = o .settings }) top
-    ≡ openedAs (passes (network (o .graph)) (o .settings .step) (o .settings .ceiling) (o .settings .sweeps) (o .multipliers)
-    (marksIn (o .graph .m) x))
-opens-node o f x canonical top =
-    opens-valid node top (f .valid .few) (fit-fault (leftIn node) (record {
-      valid = left-valid (withBytes (o .graph) x) valid;
-      long = f .long;
-      multipliers = f .multipliers;
-      ceiling = f .ceiling;
-      sweeps = f .sweeps;
-      step = f .step;
-    }))
-    ∙ ap openedAs (passes-from (o .graph) x (o .multipliers) (o .settings .step) (o .settings .ceiling) (o .settings .sweeps)
-    (f .valid .few) canonical)
-  where
-    node : Opening
-    node = record { graph = withBytes (o .graph) x; multipliers = o .multipliers; settings = o .settings }
-
-    valid : Valid (withBytes (o .graph) x)
-    valid = rw canonical (valid-bytes (o .graph) (marksIn (o .graph .m) x) (f .valid))

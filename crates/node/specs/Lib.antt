@@ -11,3 +11,4 @@ pub mod Refusing
 pub mod Compacting
 pub mod Expanding
 pub mod CompactGraph
+pub mod Opens

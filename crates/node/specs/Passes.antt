@@ -1,15 +1,14 @@
 -- The passes of a node, turn by turn, over the bytes of the node's marks and the multipliers so far (`AtPass`): each of the ends of a
 -- turn of a node that is not refused, as the code comes to them. Rests on the passes' definition alone.
-use mathlib.Core.Path.{_≡_, refl, sym, ap, _∙_, subst}
-use mathlib.Core.Logic.{_≢_, _⊎_, ⊎-elim}
-use mathlib.Core.Bool.{Bool, true, false, true≢false}
+use mathlib.Core.Path.{_≡_, refl, sym, ap, _∙_}
+use mathlib.Core.Bool.{true}
 use mathlib.Core.List.{List, _∷_}
 use Prim.Native.Nat.{ℕ, zero, suc, _≤_, _<_}
 use native.Mathlib.Omega.{arith}
 use native.Mathlib.Decide.{decLe}
 use lib.ListN.{length, getD, List·getD-eq-default}
 use lib.IntN.{ℤ, pos}
-use Rattle.lists.specs.Fill.{fit, fit-size}
+use Rattle.lists.specs.Fill.{fit}
 use Rattle.graph.specs.declared.Graph.{Graph}
 use Rattle.graph.specs.Limits.{maxEdges}
 use Rattle.graph.specs.Network.{Network, free, markOf, place, network}
@@ -17,19 +16,14 @@ use Rattle.graph.specs.Places.{place-at, place-zero, place-past}
 use Rattle.graph.specs.Valid.{Valid}
 use Rattle.tree_theory.specs.OneTree.{Edges}
 use Rattle.tree_theory.specs.Inputs.{multiplier, multipliersFit}
-use Rattle.machine.specs.Outcomes.{closes, finds, splits}
+use Rattle.machine.specs.Outcomes.{closes}
 use Rattle.tours.specs.Tours as T
 use Rattle.machine.specs.Machine as M
-use Rattle.machine.specs.Calls.{fault}
-use Rattle.machine.specs.Machine.{Marks, Opening, openNode, withMarks, Pass, shut, found, unclosed, pass, gained, branch, concluded, passes}
-use Rattle.node.specs.declared.Fate.{Fate}
-use Rattle.node.specs.declared.Fate.the-variants as fate
-use Rattle.node.specs.declared.Subproblem.{Subproblem}
-use Rattle.node.specs.Marks.{marksIn, mark-byte, bytesOf, bytes-at, bytes-small, bytes-back, marks-size, Padded, bytes-padded, marks-back}
-use Rattle.node.specs.Faults.{fault-fit, fit-fault}
+use Rattle.machine.specs.Machine.{Marks, withMarks, Pass, shut, found, unclosed, pass, gained, branch, concluded, passes}
+use Rattle.node.specs.Marks.{marksIn, mark-byte, bytesOf, bytes-at, bytes-small, bytes-back, marks-size}
 use Rattle.node.specs.Gains.{GainsTo, gains-is, gains-fit}
 use Rattle.node.specs.OnePass.{FoundAs, RuledAs, treeBytes}
-use Rattle.node.specs.Opened.{opened, openedAs, foundAs, taken, opensBy}
+use Rattle.node.specs.Opened.{openedAs, foundAs}
 
 -- ---- the graph with other marks
 

@@ -6,7 +6,7 @@ use Prim.Native.Nat.{ℕ, zero, suc, _+_, _*_, _≤_, _<_}
 use native.Mathlib.Omega.{arith}
 use native.Mathlib.Numerals.{add-one}
 use lib.Dec.{leb, eqb}
-use lib.ListN.{length, getD}
+use lib.ListN.{getD}
 use lib.IntN.{ℤ, pos}
 use lib.Signed.{mag}
 use mir.Val.{toZ, ofZ}

@@ -18,7 +18,7 @@ use Rattle.node.specs.Opened.{Opened, opened, left, taken, leftIn, opens
 use Rattle.node.specs.Refusing.{isRefused}
 use Rattle.node.specs.Expanding.{Places, Expanded, expandedAt, closes-same, finds-same, splits-same}
 use Rattle.node.specs.CompactGraph.{left-is, left-padded, left-places, left-expanded}
-use Rattle.node.specs.CompactGraph.{opens-15, left-refused, left-comes, left-opens}
+use Rattle.node.specs.Opens.{opens-15, left-refused, left-comes, left-opens}
 use Rattle.node.proofs.open.Statement.{statement}
 use Rattle.node.proofs.open.Tie as tie
 

@@ -1,5 +1,5 @@
 -- The sum fits, and each arm is one of the clamp's.
-use Prim.Native.Nat.{_+_, _-_}
+use Prim.Native.Nat.{_+_}
 use lib.IntN.{_+ℤ_}
 use mir.Facts.{toZ-ofZ}
 use Rattle.node.specs.Gains.{sum-fits, held-low, held-high, held-same}

@@ -1,5 +1,4 @@
 -- The two cases of markByte.
-use Prim.Native.Nat.{_-_}
 use borrow.Author.Needs.{needs}
 use borrow.Author.Tests.{lt-ltb, le-ltb}
 use Rattle.node.proofs.passes.mark_by.Statement.{statement}

@@ -22,7 +22,7 @@ use Rattle.node.specs.Opened as Node
 use Rattle.node.specs.Opened.{Opened, opened, openedAs}
 use Rattle.node.specs.Faults.{Fit}
 use Rattle.node.specs.Passes.{withBytes}
-use Rattle.node.specs.CompactGraph.{opens-node}
+use Rattle.node.specs.Opens.{opens-node}
 use Rattle.search.specs.Frames.{Top, Opens, holds-mag, holds-deep, holds-valid, top-of}
 use Rattle.search.specs.Running.{runs-fits, runs-ceiling, runs-sweeps, runs-step, row-bytes, top-is, runs-next}
 use Rattle.search.specs.Running.{Runs, RunsTo, run-stops, run-spent, run-turn}

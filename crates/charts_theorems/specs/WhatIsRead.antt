@@ -47,13 +47,13 @@ read-split s g h =
     (λ t. absurd (clash (headerFault s) 0 g (rw t at h)))
 
 -- the chain has ended, or record k had no fault and its edge was taken
-pub record Turn (f : ℕ) (s : List ℕ) (met : List Bool) (h : Graph) (k : ℕ) (g : Graph) : Type 0 where
+pub record OneRecord (f : ℕ) (s : List ℕ) (met : List Bool) (h : Graph) (k : ℕ) (g : Graph) : Type 0 where
   pub on : k ≡ 0 → ⊥
   pub none : recordFault s met h k ≡ 0
   pub rest : chainFrom f s (set met (k - 1) true) (withRecord s h (startOf k)) (nextOf s k) ≡ accept g
 
 pub chain-split : (f : ℕ) (s : List ℕ) (met : List Bool) (h : Graph) (k : ℕ) (g : Graph) → chainFrom (suc f) s met h k ≡ accept g
-    → ((k ≡ 0) × (h ≡ g)) ⊎ Turn f s met h k g
+    → ((k ≡ 0) × (h ≡ g)) ⊎ OneRecord f s met h k g
 unfolding chainFrom
 chain-split f s met h k g e =
     by-cases (eqb k 0) (λ t. inl (eqb-true k 0 t, inside h g (rw t at e)))

@@ -10,7 +10,7 @@ use Rattle.lists.specs.Select.{select}
 use Rattle.graph.specs.Limits.{maxVertices, maxEdges}
 use Rattle.graph.specs.Network.{Network, free}
 use Rattle.spanning.specs.Walks.{label, relabel}
-use Rattle.spanning.specs.Held.{Holds}
+use Rattle.spanning.specs.Held.{HoldsLabels}
 use Rattle.greedy.specs.Charged.{maxCharge}
 use Rattle.greedy.specs.Keys.{queued, queued-step}
 use Rattle.greedy.specs.Growth.{
@@ -52,7 +52,7 @@ pub record ChoiceSoFar (G : Network) (c ks : List ℕ) (i : ℕ) (l w : List ℕ
   pub met : near ≤ i
   pub less : far ≤ i
   pub light : sum ≤ maxCharge * i
-  pub holds : Holds (G .a) (G .b) maxLabels l (farOf G (queued ks i))
+  pub holds : HoldsLabels (G .a) (G .b) maxLabels l (farOf G (queued ks i))
   pub grew : TakenGreedily G c (queued ks i) w near far sum
 
 -- so it is in every network that has these ends
@@ -87,7 +87,7 @@ module _ (G : Network) (c ks : List ℕ) (i : ℕ) (l w : List ℕ) (near far su
   lb : G .b (suc k) < maxLabels
   lb = omega (arith, eb)
 
-  same : a ≡ 1 → Holds (G .a) (G .b) maxLabels l (farOf G (queued ks (i + 1)))
+  same : a ≡ 1 → HoldsLabels (G .a) (G .b) maxLabels l (farOf G (queued ks (i + 1)))
   same e = rw next (holds-same G c (queued ks i) w near far sum k room (t .grew) l maxLabels la lb (t .holds) (ea ∙ e))
 
   pub choice-near : a ≡ 1 → near < 2 → ChoiceSoFar G c ks (i + 1) l (set w k 1) (near + 1) far (sum + getD c k 0)

@@ -19,7 +19,7 @@ use Rattle.spanning.specs.Components.{joins, rank}
 use Rattle.spanning.specs.Choice.{choose}
 use Rattle.spanning.specs.FirstTwo.{fewer}
 use Rattle.spanning.specs.Forests.{greedy}
-use Rattle.spanning.specs.Held.{Holds, holds-join, holds-idle}
+use Rattle.spanning.specs.Held.{HoldsLabels, holds-join, holds-idle}
 use Rattle.tree_theory.specs.Valid.{isNear}
 use Rattle.tree_theory.specs.Arrays.{entry}
 
@@ -127,7 +127,7 @@ module _ (G : Network) (c es w : List ℕ) (near far sum k : ℕ) (room : k < le
       }
 
   -- one that is not at vertex 1, by the labels l of the components
-  module _ (l : List ℕ) (n : ℕ) (hp : G .a (suc k) < n) (hq : G .b (suc k) < n) (holds : Holds (G .a) (G .b) n l (farOf G es)) where
+  module _ (l : List ℕ) (n : ℕ) (hp : G .a (suc k) < n) (hq : G .b (suc k) < n) (holds : HoldsLabels (G .a) (G .b) n l (farOf G es)) where
     -- the label of a vertex
     abbrev at : ℕ → ℕ
     at v = label (G .a) (G .b) (farOf G es) v
@@ -161,14 +161,14 @@ module _ (G : Network) (c es w : List ℕ) (near far sum k : ℕ) (room : k < le
           weighed = rw (e .0, e .1, b) (s .weighed);
         }
 
-    pub holds-same : G .a (suc k) ≡ 1 → Holds (G .a) (G .b) n l (farOf G (suc k ∷ es))
+    pub holds-same : G .a (suc k) ≡ 1 → HoldsLabels (G .a) (G .b) n l (farOf G (suc k ∷ es))
     holds-same h = rw (at-near h .1) holds
 
     pub holds-joined : (ys : List ℕ) → G .a (suc k) ≢ 1
         → ((v : ℕ) → v < n → getD ys v 0 ≡ relabel (getD l (G .a (suc k)) 0) (getD l (G .b (suc k)) 0) (getD l v 0))
-        → Holds (G .a) (G .b) n ys (farOf G (suc k ∷ es))
+        → HoldsLabels (G .a) (G .b) n ys (farOf G (suc k ∷ es))
     holds-joined ys h step = rw (at-far h .1) (holds-join (G .a) (G .b) n l ys (suc k) (farOf G es) hp hq holds step)
 
     pub holds-idled : G .a (suc k) ≢ 1 → getD l (G .a (suc k)) 0 ≡ getD l (G .b (suc k)) 0
-        → Holds (G .a) (G .b) n l (farOf G (suc k ∷ es))
+        → HoldsLabels (G .a) (G .b) n l (farOf G (suc k ∷ es))
     holds-idled h eq = rw (at-far h .1) (holds-idle (G .a) (G .b) n l (suc k) (farOf G es) hp hq holds eq)

@@ -1,5 +1,5 @@
 -- What the search for the least 1-tree answers, and every byte that it leaves in the lists that it is lent, for every input: the first
--- fault, and nothing changed; or the least 1-tree, or that there is none.
+-- fault; or the least 1-tree, or that there is none.
 --   Lists             what is lent: the tree, the charges, the order and the labels
 --   nothingFor        the answer without a tree: for a fault, or for none
 --   TreeFound         the answer and the lists where there is no fault
@@ -46,9 +46,13 @@ pub record TreeFound (g : Graph) (d : List ℤ) (r : Found) (after : Lists) : Ty
   pub hinted : r .any ≡ true → Hinted (g .mark) (g .m) (after .order) (r .live)
   pub nothing : r .any ≡ false → (r ≡ nothingFor 0) × (after .tree ≡ blank) × (after .order ≡ blank)
 
+-- the charges are blanked before all else, and a fault changes nothing more
+abbrev pub blanked : Lists → Lists
+blanked l = lists (l .tree) blank (l .order) (l .labels)
+
 abbrev pub FoundByFault : ℕ → Graph → List ℤ → Lists → Found → Lists → Type 0
 FoundByFault zero g d before r after = TreeFound g d r after
-FoundByFault (suc fault) g d before r after = (r ≡ nothingFor (suc fault)) × (after ≡ before)
+FoundByFault (suc fault) g d before r after = (r ≡ nothingFor (suc fault)) × (after ≡ blanked before)
 
 -- lent is the length of the list for an answer, and later the fault that the caller has left to tell
 abbrev pub LeastOrRefused : Graph → List ℤ → ℕ → ℕ → Lists → Found → Lists → Type 0
@@ -56,7 +60,7 @@ LeastOrRefused g d lent later before r after = FoundByFault (inputFault g d lent
 
 -- ---- how code shows it, and what a caller has
 
-pub by-fault : (fault f : ℕ) (g : Graph) (d : List ℤ) (before : Lists) → f ≡ fault → f ≢ 0 → FoundByFault fault g d before (nothingFor f) before
+pub by-fault : (fault f : ℕ) (g : Graph) (d : List ℤ) (before : Lists) → f ≡ fault → f ≢ 0 → FoundByFault fault g d before (nothingFor f) (blanked before)
 by-fault zero f g d before e n = absurd (n e)
 by-fault (suc fault) f g d before e n = rw e (refl, refl)
 
@@ -66,7 +70,7 @@ by-tree zero g d before r after e h = h
 by-tree (suc fault) g d before r after e h = absurd (let z : suc fault ≡ 0 = e in omega arith)
 
 pub by-refused : (fault : ℕ) (g : Graph) (d : List ℤ) (before : Lists) (r : Found) (after : Lists) → FoundByFault fault g d before r after
-    → r .fault ≢ 0 → (r .fault ≡ fault) × (after ≡ before)
+    → r .fault ≢ 0 → (r .fault ≡ fault) × (after ≡ blanked before)
 by-refused zero g d before r after h n = absurd (n (h .faultless))
 by-refused (suc fault) g d before r after h n = rw (h .0) (refl, h .1)
 

@@ -17,7 +17,7 @@ use Rattle.graph.specs.Network.{network}
 use Rattle.graph.specs.Places.{network-a, network-b}
 use Rattle.graph.specs.Valid as value
 use Rattle.spanning.specs.Walks.{label, label-le, label-edge, label-idem, walk-label, walk-mono, walk-respects}
-use Rattle.spanning.specs.Held.{Holds}
+use Rattle.spanning.specs.Held.{HoldsLabels}
 use Rattle.tree_theory.specs.OneTree.{Edges}
 use Rattle.tree_theory.specs.Valid.{needed, isNear, far, others-in, far-within}
 use Rattle.tree_theory.specs.Arrays.{needed-at, network-valid}
@@ -143,7 +143,7 @@ module _ (g : Graph) (c ks : List ℕ) (f : ℕ) (o : InKeyOrder g c ks f) (r : 
       let w = far-within (network g) (network-valid g v) e (of-far e m .0) in
       omega (arith, others-in (network g) (network g .a e) (w .0) .0, others-in (network g) (network g .b e) (w .1) .0)
 
-  pub merges : (l : List ℕ) → length l ≡ maxLabels → Holds (network g .a) (network g .b) maxLabels l joining → Merges g l
+  pub merges : (l : List ℕ) → length l ≡ maxLabels → HoldsLabels (network g .a) (network g .b) maxLabels l joining → Merges g l
   merges l long holds =
       let p = network g .a in
       let o = network g .b in

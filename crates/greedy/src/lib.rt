@@ -104,8 +104,9 @@ pub fn nothing(tree: &mut [u8; MAX_EDGES], order: &mut [u8; MAX_EDGES]) -> Found
 
 // The first fault of a graph, its multipliers and the list lent for an answer, or else `later`, what the caller refuses after them. Where
 // there is none, the least 1-tree by the greedy choice, from any hint: one byte an edge; each edge's charge; the order in which edges were
-// looked at, a hint for the next time; and the labels that required edges give the vertices.
-// Ruled out: of two 1-trees of equal bound the one with the higher-numbered edge; a byte of a lent list changed where there is a fault.
+// looked at, a hint for the next time; and the labels that required edges give the vertices. The charges are blanked before all else: the compiler
+// then sees that a caller need not have done it.
+// Ruled out: of two 1-trees of equal bound the one with the higher-numbered edge; a byte of the tree changed where there is a fault.
 pub fn least<'a>(
     sizes: Sizes,
     a: &'a [u8; MAX_EDGES],
@@ -125,6 +126,7 @@ pub fn least<'a>(
         (lists (now (tree .entry)) (now (charges .entry)) (now (order .entry)) (now (labels .entry))) r
         (lists (now (tree .exit)) (now (charges .exit)) (now (order .exit)) (now (labels .exit))) ⌝ }
 {
+    *charges = [0; MAX_EDGES];
     let n = sizes.n;
     let m = sizes.m;
     let fault = refusals::input_fault(n, m, a, b, cost, mark, multipliers, sizes.lent, later);
@@ -137,7 +139,6 @@ pub fn least<'a>(
         };
     }
     *tree = [0; MAX_EDGES];
-    *charges = [0; MAX_EDGES];
     *order = [0; MAX_EDGES];
     let f = find(
         n,

@@ -8,7 +8,7 @@ pub mod Rows
 pub mod Weights
 pub mod Same
 pub mod Fill
-pub mod Filled
+pub mod FilledFrom
 pub mod Hits
 pub mod Sets
 pub mod Filling

@@ -37,7 +37,7 @@ use Rattle.machine.specs.Trimmed.{network-trimmed, valid-trimmed}
 use Rattle.machine.specs.NodeTours.{Agrees, Inside, tours, allowed-agrees, agrees-allowed}
 use Rattle.machine.specs.Kept.{Sized}
 use Rattle.tours.specs.Renumbering.{Simple, one-sym, renumbered, renumbered-same}
-use Rattle.machine.specs.Invariant.{Good, Holds, Fine, fine, before-last}
+use Rattle.machine.specs.Invariant.{Good, FineSearch, Fine, fine, before-last}
 
 -- what the machine says after a list of calls: its answers are said as they are
 abbrev pub Says : List Call → Opening → Verdict → Type 0
@@ -251,7 +251,7 @@ module _ (cs ds : List Call) (o p : Opening) (vo : value.Valid (o .graph)) (vp :
 record Leaves (cs : List Call) (o : Opening) (total : ℕ) : Type 0 where
   search : Progress
   left : leaves cs ≡ searching search
-  holds : Holds search o total
+  holds : FineSearch search o total
 
 leaves-search : (cs : List Call) (o : Opening) (total : ℕ) → history cs ≡ since o total → Leaves cs o total
 leaves-search cs o total e = go (leaves cs) refl (subst (λ (h : History). Fine (leaves cs) h) e (fine cs))

@@ -15,7 +15,7 @@ use Rattle.machine.specs.Machine.{openNode, settled, openTop, finished, 
 use Rattle.machine.specs.Calls.{Call, opens, run, tell, show, close, Reply, fault, openedBy, runBy, shownBy, step, leaves}
 use Rattle.machine.specs.Calls.{stateAfter, isAccepted, History, noOpening, since, granted, noted, historyAfter, history}
 use Rattle.machine.specs.Calls.{freeAtStart}
-use Rattle.machine.specs.Runs.{Turn, opens-top, empty, full, turn, ran-opens, ran-empty, ran-full, ran-keeps}
+use Rattle.machine.specs.Runs.{RunTurn, opens-top, empty, full, turn, ran-opens, ran-empty, ran-full, ran-keeps}
 use Rattle.machine.specs.BranchAndBound.{Reached, start, next, room, room-some, budget}
 use Rattle.machine.specs.NodeTours.{tours}
 use Rattle.machine.specs.Kept.{Kept}
@@ -89,7 +89,7 @@ unfolding ran
 good-ran zero s total h = good-same s total (total + 0) (omega arith) h
 good-ran (suc allowed) s total h = go (turn s) (λ r n. good-ran allowed r n)
   where
-    go : Turn s → ((r : Progress) (n : ℕ) → Good r n → Good (ran allowed r) (n + allowed))
+    go : RunTurn s → ((r : Progress) (n : ℕ) → Good r n → Good (ran allowed r) (n + allowed))
         → Good (ran (suc allowed) s) (total + suc allowed)
     go (opens-top x rest e l) below =
         rw (ran-opens allowed s x rest e l)
@@ -105,7 +105,7 @@ good-ran (suc allowed) s total h = go (turn s) (λ r n. good-ran allowed r n)
 -- ---- states and lists of calls
 
 -- the state holds the search of the last accepted opening
-pub record Holds (s : Progress) (o : Opening) (total : ℕ) : Type 0 where
+pub record FineSearch (s : Progress) (o : Opening) (total : ℕ) : Type 0 where
   pub opening : s .opening ≡ held o
   pub good : Good s total
 
@@ -113,7 +113,7 @@ abbrev pub Fine : State → History → Type 0
 Fine noSearch noOpening = Unit {0}
 Fine noSearch (since o total) = ⊥
 Fine (searching s) noOpening = ⊥
-Fine (searching s) (since o total) = Holds s o total
+Fine (searching s) (since o total) = FineSearch s o total
 
 -- the history after a reply
 abbrev after : Call → Reply → History → History

@@ -12,15 +12,15 @@ use Rattle.lists.specs.Bools.{by-cases}
 use Rattle.graph.specs.Limits.{maxCount}
 use Rattle.machine.specs.Machine.{Marks, Progress, openTop, isEmpty, finished, ran}
 
-pub data Turn (s : Progress) : Type 0 where
-  opens-top : (x : Marks) (rest : List Marks) → s .stack ≡ x ∷ rest → s .count < maxCount → Turn s
-  empty : s .stack ≡ [] → Turn s
-  full : maxCount ≤ s .count → Turn s
+pub data RunTurn (s : Progress) : Type 0 where
+  opens-top : (x : Marks) (rest : List Marks) → s .stack ≡ x ∷ rest → s .count < maxCount → RunTurn s
+  empty : s .stack ≡ [] → RunTurn s
+  full : maxCount ≤ s .count → RunTurn s
 
-pub turn : (s : Progress) → Turn s
+pub turn : (s : Progress) → RunTurn s
 turn s = go (s .stack) refl (decLe (suc (s .count)) maxCount)
   where
-    go : (st : List Marks) → s .stack ≡ st → Dec (s .count < maxCount) → Turn s
+    go : (st : List Marks) → s .stack ≡ st → Dec (s .count < maxCount) → RunTurn s
     go [] e l = empty e
     go (x ∷ rest) e (yes l) = opens-top x rest e l
     go (x ∷ rest) e (no l) = full (omega arith)
@@ -63,7 +63,7 @@ unfolding ran
 ran-keeps P opened zero s h = h
 ran-keeps P opened (suc budget) s h = go (turn s) (λ r i. ran-keeps P opened budget r i)
   where
-    go : Turn s → ((r : Progress) → P r → P (ran budget r)) → P (ran (suc budget) s)
+    go : RunTurn s → ((r : Progress) → P r → P (ran budget r)) → P (ran (suc budget) s)
     go (opens-top x rest e l) below = rw (ran-opens budget s x rest e l) (below (openTop s (x ∷ rest)) (opened s x rest e l h))
     go (empty e) below = rw (ran-empty (suc budget) s e) h
     go (full l) below = rw (ran-full (suc budget) s l) h

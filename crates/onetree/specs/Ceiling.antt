@@ -78,10 +78,10 @@ pub by-fault : (fault : ℕ) (g : Graph) (d : List ℤ) (ceiling : ℤ) (before 
 by-fault zero g d ceiling before r after e n same = absurd (n e)
 by-fault (suc fault) g d ceiling before r after e n same = (e, same)
 
-pub by-none : (fault : ℕ) (g : Graph) (d : List ℤ) (ceiling : ℤ) (before : PassLists) (r : Found) (after : PassLists) → fault ≡ 0
+pub by-accepted : (fault : ℕ) (g : Graph) (d : List ℤ) (ceiling : ℤ) (before : PassLists) (r : Found) (after : PassLists) → fault ≡ 0
     → AgainstCeiling g d ceiling r after → RuledByFault fault g d ceiling before r after
-by-none zero g d ceiling before r after e h = h
-by-none (suc fault) g d ceiling before r after e h = absurd (let z : suc fault ≡ 0 = e in omega arith)
+by-accepted zero g d ceiling before r after e h = h
+by-accepted (suc fault) g d ceiling before r after e h = absurd (let z : suc fault ≡ 0 = e in omega arith)
 
 pub ruled-refused : (fault : ℕ) (g : Graph) (d : List ℤ) (ceiling : ℤ) (before : PassLists) (r : Found) (after : PassLists)
     → RuledByFault fault g d ceiling before r after → r .fault ≢ 0 → (r .fault ≡ fault) × (after ≡ before)

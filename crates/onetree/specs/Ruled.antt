@@ -22,7 +22,7 @@ use Rattle.tree_theory.specs.Inputs.{multiplier}
 use Rattle.onetree.specs.Answers.{rulingByte}
 use Rattle.tree_theory.specs.Arrays.{bytes, of-edge, mark-required, mark-excluded}
 use Rattle.swaps.specs.Extremes.{Least}
-use Rattle.lists.specs.Filled.{Updated}
+use Rattle.lists.specs.FilledFrom.{Updated}
 use Rattle.swaps.specs.Visiting.{Rooting, edgeAt}
 use Rattle.swaps.specs.RootedTree.{RootedIn}
 use Rattle.swaps.specs.Swaps.{aAt, markAt, Below, over-in, over-once, over-all}

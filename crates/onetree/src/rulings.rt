@@ -13,7 +13,7 @@ ghost use Rattle.graph.specs.Valid.{graphOf};
 ghost use Rattle.tree_theory.specs.Arrays.{blank};
 ghost use Rattle.tree_theory.specs.Spans.{Spans};
 ghost use Rattle.tree_theory.specs.Merges.{Merges};
-ghost use Rattle.lists.specs.Filled.{Updated};
+ghost use Rattle.lists.specs.FilledFrom.{Updated};
 ghost use Rattle.swaps.specs.RootedTree.{labelOf};
 ghost use Rattle.onetree.specs.Verdicts.{noCharge, barByte, forceByte};
 ghost use Rattle.onetree.specs.Candidates.{BelowRoot, Weighed, NearIs};

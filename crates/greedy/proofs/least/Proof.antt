@@ -20,13 +20,12 @@ abbrev lent : tie.Start → Lists
 lent c = let a = c .args in lists (a .tree .now) (a .charges .now) (a .order .now) (a .labels .now)
 
 abbrev start : tie.After-input-fault → tie.Start
-start c = c .before .before
+start c = c .before .before .before
 
 abbrev at-if1 : tie.After-find-arg4 → tie.Else1
 at-if1 c =
     let at-find-arg = c .before .before .before in
-    let at-charges = at-find-arg .before .before in
-    at-charges .before .before
+    at-find-arg .before .before .before
 
 -- the input has no fault
 faultless : (c : tie.Else1) → let s = start (c .before) in

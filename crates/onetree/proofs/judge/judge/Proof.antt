@@ -19,7 +19,7 @@ use Rattle.onetree.specs.Ceiling.{
   PassLists,
   passLists,
   by-fault,
-  by-none,
+  by-accepted,
   found-fits,
   ceiling-missing,
   ceiling-over,
@@ -121,7 +121,7 @@ returns-2 c =
     let at = at-least at-if1 in
     let a = start at .args in
     let r = faultless at-if1 in
-    by-none _ (of (start at)) (a .multipliers .now) (a .ceiling) (lent (start at)) (at .least .result) _ (r .0)
+    by-accepted _ (of (start at)) (a .multipliers .now) (a .ceiling) (lent (start at)) (at .least .result) _ (r .0)
     (ceiling-missing (of (start at)) (a .multipliers .now) (a .ceiling) (at .least .result) (found at) (r .1)
     (not-true _ (c .if2 .taken)))
 
@@ -139,7 +139,7 @@ returns-3 c =
     let a = start at .args in
     let r = faultless (at-if1 tested) in
     let none = c .nothing .ensures in
-    by-none _ (of (start at)) (a .multipliers .now) (a .ceiling) (lent (start at)) (c .nothing .result) _ (r .0)
+    by-accepted _ (of (start at)) (a .multipliers .now) (a .ceiling) (lent (start at)) (c .nothing .result) _ (r .0)
     (ceiling-over (of (start at)) (a .multipliers .now) (a .ceiling) (at .least .result) (found at) (r .1)
     (not-false _ (tested .if2 .left)) (sym (compared (at-if3 .before)) ∙ at-if3 .if3 .taken) (c .nothing .result) _ _
     (none .0) (none .1) (none .2))
@@ -179,7 +179,7 @@ returns-4 c =
     let slack =
     rw (toZ-ofZ (start at .fits .ceiling), back64 (at .least .result .bound) (r .1 .found .fits)) at (at-slack .slack-of .ensures) in
     let ruled = c .rulings .ensures in
-    by-none _ (of (start at)) (a .multipliers .now) (a .ceiling) (lent (start at)) (at .least .result) _ (r .0)
+    by-accepted _ (of (start at)) (a .multipliers .now) (a .ceiling) (lent (start at)) (at .least .result) _ (r .0)
     (ceiling-within (of (start at)) (a .multipliers .now) (a .ceiling) (at .least .result) (found at) (r .1)
     (not-false _ (tested .if2 .left)) (sym (compared compares) ∙ at-slack .before .if3 .left)
     (at-slack .slack-of .result) (slack .0) (slack .1) _ (ruled .0 (a .cost .now) (spans tested) (r .1 .merges)) (ruled .1))

@@ -5,7 +5,7 @@ use Prim.Native.Nat.{ℕ, _≤_, _-_}
 use mathlib.Core.Path.{_≡_, subst}
 use lib.ListN.{length}
 use Rattle.graph.specs.Limits.{maxEdges}
-use Rattle.lists.specs.Filled.{Updated, updated-none, updated-more}
+use Rattle.lists.specs.FilledFrom.{Updated, updated-none, updated-more}
 use Rattle.onetree.specs.Ruled.{finalAt}
 use Rattle.onetree.proofs.rulings.finish.Statement.{statement}
 use Rattle.onetree.proofs.rulings.finish.Tie as tie

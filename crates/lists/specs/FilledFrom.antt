@@ -9,14 +9,14 @@ use lib.Seq.{getD-set-same, getD-set-other}
 use Rattle.lists.specs.Rows.{zeros}
 
 -- of the places from low on, those below k have f; all others have 0
-pub record Filled (f : ℕ → ℕ) (low : ℕ) (l : List ℕ) (k : ℕ) : Type 0 where
+pub record FilledFrom (f : ℕ → ℕ) (low : ℕ) (l : List ℕ) (k : ℕ) : Type 0 where
   pub done : (j : ℕ) → low ≤ j → j < k → getD l j 0 ≡ f j
   pub rest : (j : ℕ) → k ≤ j → getD l j 0 ≡ 0
 
-pub filled-none : (f : ℕ → ℕ) (low n : ℕ) → Filled f low (replicate n 0) low
+pub filled-none : (f : ℕ → ℕ) (low n : ℕ) → FilledFrom f low (replicate n 0) low
 filled-none f low n = record { done = λ j a b. absurd (omega arith); rest = λ j h. zeros n j }
 
-pub filled-more : (f : ℕ → ℕ) (low : ℕ) (l : List ℕ) (k x : ℕ) → k < length l → Filled f low l k → x ≡ f k → Filled f low (set l k x)
+pub filled-more : (f : ℕ → ℕ) (low : ℕ) (l : List ℕ) (k x : ℕ) → k < length l → FilledFrom f low l k → x ≡ f k → FilledFrom f low (set l k x)
     (k + 1)
 filled-more f low l k x room h e = record { done = λ j a b. doneAt j a b (ℕ-discrete j k); rest = restAt }
   where

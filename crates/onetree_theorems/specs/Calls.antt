@@ -1,6 +1,6 @@
 -- DEMAND 2 OF THE CALLS in plain words, with demand 1's refusals: what the definitions come to that the contracts of `tree` and `rule` cite
 -- (onetree/specs/Answers), for every graph value, multipliers, ceiling and lent list; when an opening is refused; and that only legs 1 to m
--- count. They are stated by OneTree, Least, Infeasible, Barred and Forced (onetree/specs/OneTree), which speak of all sets of edges, and by
+-- count. They are stated by OneTree, Least, Infeasible, Barred and Forced (tree_theory/specs/OneTree), which speak of all sets of edges, and by
 -- Valid (graph/specs/Valid). Statements only. Theorems proves them of all arguments: `tree-exactly` is TreeExactly, `rule-exactly` RuleExactly,
 -- `opening-exactly` OpeningExactly; SameCharts proves SameAnswers of any two values of one chart (`same-answers`).
 use mathlib.Core.Path.{_≡_}

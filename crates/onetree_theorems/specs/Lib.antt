@@ -1,4 +1,4 @@
--- what a reader must believe: the statements, and what they are stated by: of onetree OneTree, `multiplier` in Inputs and Reply in Answers, of
+-- what a reader must believe: the statements, and what they are stated by: of tree_theory OneTree and `multiplier` in Inputs, of onetree Reply in Answers, of
 -- graph Limits, Network, Valid and Same, of integers `up` and `dn` in Parts, InRange and `sumZ`, of lists `bit`, `_∈_`, `select`, `upTo` and
 -- `row`, of spanning Walk. That the contracts cite treeReply, treeLeaves, ruleReply and ruleLeaves is to be seen in onetree/src; how these
 -- go through all sets need not be read.

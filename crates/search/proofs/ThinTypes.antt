@@ -1,4 +1,4 @@
--- The crate's record, its answer and the pair of the two, as Thin.antt takes them. Assumes nothing.
+-- The crate's record, its answer and the pair of the two, as the laws of crate thin take them. Assumes nothing.
 use denote.Struct.Laws as LL
 use denote.Enum.Laws as EL
 use Rattle.search.proofs.Search as S

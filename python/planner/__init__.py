@@ -12,8 +12,10 @@ from __future__ import annotations
 import os
 from collections.abc import Sequence
 
+from . import ceilings as _ceilings
 from . import library as _library
 from . import search as _search
+from .ceilings import Falling
 from .faults import Faults
 from .formats import load, parse, save
 from .library import EXCLUDED, FREE, MARKS, REQUIRED, RULINGS, Edge, Graph, Ran, Refused, Rulings, Search, Told, Tree, check, read, write
@@ -42,8 +44,13 @@ def rule(chart: Chart, ceiling: int, multipliers: Sequence[int] | None = None) -
     return _library.rule(graph_of(chart), ceiling, multipliers)
 
 
+def falling(chart: Chart, high: int, low: int, multipliers: Sequence[int] | None = None) -> Falling | None:
+    """Which rulings appear where the ceiling falls from `high` to `low`; None where the sea is dead at `high`."""
+    return _ceilings.falling(graph_of(chart), high, low, multipliers)
+
+
 __all__ = [
     "EXCLUDED", "FREE", "MARKS", "REQUIRED", "RULINGS",
-    "Answer", "Edge", "Faults", "Graph", "Ran", "Refused", "Rulings", "Search", "Told", "Tree",
-    "check", "graph_of", "load", "order", "parse", "read", "rule", "save", "solve", "tree", "write",
+    "Answer", "Edge", "Falling", "Faults", "Graph", "Ran", "Refused", "Rulings", "Search", "Told", "Tree",
+    "check", "falling", "graph_of", "load", "order", "parse", "read", "rule", "save", "solve", "tree", "write",
 ]  # fmt: skip

@@ -77,7 +77,11 @@ COMMANDS = (
     ),
     Command(
         "rule", on_graph(run_rule), "what a ceiling forces and bars, leg by leg",
-        {**FILE, "--ceiling": {**CEILING, "required": True, "help": "the highest cost of interest"}, **DUES, **JSON},
+        {
+            **FILE, "--ceiling": {**CEILING, "help": "the highest cost of interest"},
+            "--ceilings": {**CEILING, "nargs": 2, "metavar": ("HIGH", "LOW"), "help": "instead: which rulings appear where as the ceiling falls"},
+            **DUES, **JSON,
+        },
         "rule examples/four.txt --ceiling 12",
     ),
     Command(

@@ -10,6 +10,7 @@ from pathlib import Path
 
 from . import formats
 from .calls import run_script
+from .ceilings import falling
 from .drawing import Drawing
 from .faults import Faults
 from .library import RULINGS, Graph, Refused, rule, tree
@@ -113,6 +114,32 @@ def run_tree(arguments: argparse.Namespace, name: str, graph: Graph) -> int:
 
 def run_rule(arguments: argparse.Namespace, name: str, graph: Graph) -> int:
     """planner rule"""
+    if (arguments.ceiling is None) == (arguments.ceilings is None):
+        raise Faults("planner rule: allowed is one of --ceiling C and --ceilings HIGH LOW; see planner rule --help")
+    return rule_at(arguments, name, graph) if arguments.ceilings is None else rule_falling(arguments, name, graph)
+
+
+def rule_falling(arguments: argparse.Namespace, name: str, graph: Graph) -> int:
+    """planner rule --ceilings"""
+    high, low = arguments.ceilings
+    if high < low:
+        raise Faults(f"--ceilings {high} {low}: the higher ceiling comes first")
+    found = falling(graph, high, low, arguments.dues)
+    if arguments.json:
+        new = [{"ceiling": at, "leg": leg, "ruling": RULINGS[ruling]} for at, leg, ruling in found.appear] if found else []
+        answer = {"bound": found.bound, "appear": new, "dead": found.dead} if found else {"verdict": "dead"}
+        say_json(file=name, ceilings=[high, low], **answer)
+    elif found:
+        legs = ((at, number, graph.edges[number - 1], RULINGS[ruling]) for at, number, ruling in found.appear)
+        lines = [f"{at}: {number} {leg.a}-{leg.b} {word}" for at, number, leg, word in legs]
+        say("\n".join([f"bound {found.bound} ceilings {high} {low}", *lines, *([] if found.dead is None else [f"{found.dead}: dead"])]))
+    else:
+        say("dead")
+    return ANSWERED if found else NEGATIVE
+
+
+def rule_at(arguments: argparse.Namespace, name: str, graph: Graph) -> int:
+    """planner rule --ceiling"""
     found = rule(graph, arguments.ceiling, arguments.dues)
     if arguments.json:
         rulings = [RULINGS[ruling] for ruling in found.rulings] if found else []

@@ -1,4 +1,4 @@
-//! Ways to make the reference wrong, each in one sentence of document 01 or of docs/RECORD.md. The self-test bends the law so and expects a suite to notice.
+//! Ways to make the reference wrong, each in one sentence of document 01, of document 02 or of docs/RECORD.md. The self-test bends the law so and expects a suite to notice.
 
 use crate::report::Bend;
 
@@ -200,4 +200,14 @@ pub const FEWER_REQUIRED: Bend = Bend {
 pub const JUNK_PAST_DEPTH: Bend = Bend {
     what: "a record's nodes past its depth count for nothing",
     bend: |law| law.zeros_past_depth = false,
+};
+
+pub const RULED_STAYS_ABOVE: Bend = Bend {
+    what: "what the lower ceiling rules is ruled so under the higher",
+    bend: |law| law.ruled_stays_below = false,
+};
+
+pub const DEAD_TOO: Bend = Bend {
+    what: "rulings stay where the lower ceiling is dead",
+    bend: |law| law.unless_dead = false,
 };

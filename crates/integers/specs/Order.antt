@@ -21,6 +21,9 @@ lt-le x y h = parts-le x y (omega (arith, lt-parts x y h))
 pub le-lt-clash : (x y : ℤ) → x ≤ℤ y → y <ℤ x → ⊥
 le-lt-clash x y h k = let z : suc 0 ≤ 0 = omega (arith, le-parts x y h, lt-parts y x k) in omega arith
 
+pub le-lt-trans : (x y z : ℤ) → x ≤ℤ y → y <ℤ z → x <ℤ z
+le-lt-trans x y z h k = parts-lt x z (omega (arith, le-parts x y h, lt-parts y z k))
+
 pub le-or-lt : (x y : ℤ) → (x ≤ℤ y) ⊎ (y <ℤ x)
 le-or-lt x y = go (decLe (up x + dn y) (up y + dn x))
   where

@@ -3,8 +3,10 @@
 -- `row`, of spanning Walk. That the contracts cite treeReply, treeLeaves, ruleReply and ruleLeaves is to be seen in onetree/src; how these
 -- go through all sets need not be read.
 pub mod Calls
+pub mod TwoCeilings
 -- their proofs
 pub mod Refusing
 pub mod Bytes
 pub mod Theorems
 pub mod SameCharts
+pub mod LowerCeiling

@@ -1,4 +1,4 @@
-//! What document 01 and, of a record's check, docs/RECORD.md fix and a reader could get wrong, as a
+//! What documents 01 and 02 and, of a record's check, docs/RECORD.md fix and a reader could get wrong, as a
 //! value. Every suite runs with `Law::AS_WRITTEN`; the self-test bends one field and expects the
 //! suite to notice.
 
@@ -56,6 +56,11 @@ pub struct Law {
     /// a required edge is not swapped out
     pub required_stay: bool,
 
+    /// C-15: "every leg barred or forced under the higher is ruled the same under the lower"
+    pub ruled_stays_below: bool,
+    /// C-15: "unless the lower is dead"
+    pub unless_dead: bool,
+
     /// "sweeps (0 to 15)"
     pub max_sweeps: u32,
     /// "a step (0 to 10,000)"
@@ -111,6 +116,8 @@ impl Law {
         max_ceiling: 50_000_000,
         ceiling_within: true,
         required_stay: true,
+        ruled_stays_below: true,
+        unless_dead: true,
         max_sweeps: 15,
         max_step: 10_000,
         below_tour: 1,

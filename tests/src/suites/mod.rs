@@ -14,6 +14,8 @@ pub mod check;
 #[cfg(feature = "library")]
 pub mod damage;
 #[cfg(feature = "library")]
+pub mod falling_ceilings;
+#[cfg(feature = "library")]
 pub mod layout;
 #[cfg(feature = "library")]
 pub mod library_searches;
@@ -54,6 +56,8 @@ pub fn all() -> Vec<Suite> {
         tree::SUITE,
         #[cfg(feature = "library")]
         rule::SUITE,
+        #[cfg(feature = "library")]
+        falling_ceilings::SUITE,
         #[cfg(feature = "library")]
         records::SUITE,
         #[cfg(feature = "library")]

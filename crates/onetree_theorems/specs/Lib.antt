@@ -4,9 +4,11 @@
 -- go through all sets need not be read.
 pub mod Calls
 pub mod TwoCeilings
+pub mod Previews
 -- their proofs
 pub mod Refusing
 pub mod Bytes
 pub mod Theorems
 pub mod SameCharts
 pub mod LowerCeiling
+pub mod PreviewLaws

@@ -47,7 +47,7 @@ module _ (g : Graph) (d : List ℤ) (ceiling : ℤ) (len : ℕ) where
   fine : ruleFault g d ceiling len ≡ 0 → Fine (ruleAsks g d ceiling len)
   fine e = fault-none _ (ruleTests g d len ceiling) .0 (sym (rule-fault g d len ceiling) ∙ e)
 
-  gave-fine : GaveRulings (ruleReply g d ceiling len) → Fine (ruleAsks g d ceiling len)
+  pub gave-fine : GaveRulings (ruleReply g d ceiling len) → Fine (ruleAsks g d ceiling len)
   unfolding ruleReply
   gave-fine h = fine (go (ruleFault g d ceiling len) says h)
     where
@@ -73,7 +73,7 @@ not-none (refused number place) h e = absurd h
 not-none none h e = absurd h
 not-none (bounded b) h e = let z : _≡_ {A = ℕ} 0 1 = cc in omega arith
 
-gave : (g : Graph) (d : List ℤ) (ceiling : ℤ) (out : List ℕ) → GaveRulings (ruleReply g d ceiling (length out))
+pub gave : (g : Graph) (d : List ℤ) (ceiling : ℤ) (out : List ℕ) → GaveRulings (ruleReply g d ceiling (length out))
     → GivesRulings g d ceiling (ruleReply g d ceiling (length out)) (ruleLeaves g d ceiling out)
 gave g d ceiling out h =
     rule-exactly g d ceiling out .otherwise (gave-fine g d ceiling (length out) h) (not-none (ruleReply g d ceiling (length out)) h)

@@ -69,14 +69,14 @@ fault-none (x ∷ xs) t = go (t .0) (t .1) (fault-none xs (t .3))
 
 -- ---- what each test decides
 
-decides : (b : Bool) {P : Type 0} → (b ≡ true → P) → (P → b ≡ true) → Says b P
+pub decides : (b : Bool) {P : Type 0} → (b ≡ true → P) → (P → b ≡ true) → Says b P
 decides true f k = f refl
 decides false f k = λ p. false≢true (k p)
 
-abbrev lengthsFit : Graph → List ℤ → ℕ → Bool
+abbrev pub lengthsFit : Graph → List ℤ → ℕ → Bool
 lengthsFit g d len = eqb (length d) (g .n) && eqb len (g .m)
 
-lengths : (g : Graph) (d : List ℤ) (len : ℕ) → Says (lengthsFit g d len) (LengthsFit g d len)
+pub lengths : (g : Graph) (d : List ℤ) (len : ℕ) → Says (lengthsFit g d len) (LengthsFit g d len)
 lengths g d len =
     decides (eqb (length d) (g .n) && eqb len (g .m))
     (λ e. let b = and-both (eqb (length d) (g .n)) (eqb len (g .m)) e in
@@ -89,7 +89,7 @@ first-zero d h =
     let r = within-range 0 (multiplier d 1) (and-both (everyOf (within maxMultiplier) d) (within 0 (multiplier d 1)) h .1) in
     eq-of-parts (multiplier d 1) (pos 0) (omega (arith, r .high, r .low))
 
-multipliers : (d : List ℤ) → Says (multipliersFit d) (MultipliersFit d)
+pub multipliers : (d : List ℤ) → Says (multipliersFit d) (MultipliersFit d)
 unfolding multiplier
 multipliers d =
     decides (multipliersFit d)
@@ -100,7 +100,7 @@ ceilings : (z : ℤ) → Says (ceilingFits z) (InRange maxCeiling z)
 unfolding ceilingFits
 ceilings z = decides (within maxCeiling z) (within-range maxCeiling z) (range-within maxCeiling z)
 
-graphs : (g : Graph) → Says (valid g) (Valid g)
+pub graphs : (g : Graph) → Says (valid g) (Valid g)
 graphs g = decides (valid g) (valid-true g) (true-valid g)
 
 sweeps : (x y : ℕ) → Says (leb x maxSweeps && leb y maxStep) ((x ≤ maxSweeps) × (y ≤ maxStep))

@@ -79,7 +79,7 @@ refused-none : (e p : ℕ) → refused e p ≡ none → ⊥
 refused-none e p h = let z : _≡_ {A = ℕ} 0 1 = cc in omega arith
 
 -- a reply that refuses nothing
-abbrev NoRefusal : Reply → Type 0
+abbrev pub NoRefusal : Reply → Type 0
 NoRefusal r = (e p : ℕ) → r ≡ refused e p → ⊥
 
 bounded-refuses-nothing : (b : ℤ) → NoRefusal (bounded b)
@@ -102,24 +102,24 @@ rule-refuses-nothing ceiling (aTree b t) = go (ltZ ceiling b)
 
 -- ---- by the fault
 
--- a reply refuses with the fault
-module _ (r : Reply) (n : NoRefusal r) where
-  refused-fault : (f e p : ℕ) → unlessFault f r ≡ refused e p → (k : ℕ) × (f ≡ suc k) × (e ≡ suc k) × (p ≡ 0)
-  refused-fault zero e p h = absurd (n e p h)
-  refused-fault (suc f) e p h =
-      let u : suc f ≡ e = cc in
-      let v : 0 ≡ p = cc in
-      (f, refl, sym u, sym v)
+-- a reply refuses with the fault, where nothing else refuses
+refused-fault : (r : Reply) (f e p : ℕ) → (f ≡ 0 → NoRefusal r) → unlessFault f r ≡ refused e p
+    → (k : ℕ) × (f ≡ suc k) × (e ≡ suc k) × (p ≡ 0)
+refused-fault r zero e p n h = absurd (n refl e p h)
+refused-fault r (suc f) e p n h =
+    let u : suc f ≡ e = cc in
+    let v : 0 ≡ p = cc in
+    (f, refl, sym u, sym v)
 
 fault-refused : (r : Reply) (f : ℕ) → 0 < f → unlessFault f r ≡ refused f 0
 fault-refused r zero h = absurd (let z : suc 0 ≤ 0 = h in omega arith)
 fault-refused r (suc f) h = refl
 
 -- where tests decide what is asked, the reply refuses with the first that applies
-refuses-exactly : (r : Reply) → NoRefusal r → (f : ℕ) (xs : List Asked) (t : Tests xs) → f ≡ faultBy xs t → (e p : ℕ)
+pub refuses-exactly : (r : Reply) (f : ℕ) → (f ≡ 0 → NoRefusal r) → (xs : List Asked) (t : Tests xs) → f ≡ faultBy xs t → (e p : ℕ)
     → (unlessFault f r ≡ refused e p) ↔ (First xs e × (p ≡ 0))
-refuses-exactly r n f xs t same e p = (
-  λ h. let q = refused-fault r n f e p h in (rw (q .2) (fault-first xs t (q .0) (sym same ∙ q .1)), q .3),
+refuses-exactly r f n xs t same e p = (
+  λ h. let q = refused-fault r f e p n h in (rw (q .2) (fault-first xs t (q .0) (sym same ∙ q .1)), q .3),
   λ q. let b = first-fault xs t e (q .0) in
       let s : f ≡ e = same ∙ b .0 in rw (s, q .1) (fault-refused r e (b .1)),
 )
@@ -160,7 +160,7 @@ module _ (g : Graph) (d : List ℤ) (out : List ℕ) where
   unfolding treeReply treeLeaves
   tree-exactly = record {
     refuses =
-        refuses-exactly (treeSays x) (tree-refuses-nothing x) (treeFault g d (length out)) (treeAsks g d (length out))
+        refuses-exactly (treeSays x) (treeFault g d (length out)) (λ z. tree-refuses-nothing x) (treeAsks g d (length out))
         (treeTests g d (length out)) (tree-fault g d (length out));
     refusalLeaves = λ e p h. refused-leaves (treeSays x) (tree-refuses-nothing x) (treeFault g d (length out)) e p out _ h;
     missing = λ f. rw (tree-fine f) (missing-says x right);
@@ -249,7 +249,7 @@ module _ (g : Graph) (d : List ℤ) (ceiling : ℤ) (out : List ℕ) where
   unfolding ruleReply ruleLeaves
   rule-exactly = record {
     refuses =
-        refuses-exactly (ruleSays ceiling x) (rule-refuses-nothing ceiling x) (ruleFault g d ceiling (length out))
+        refuses-exactly (ruleSays ceiling x) (ruleFault g d ceiling (length out)) (λ z. rule-refuses-nothing ceiling x)
         (ruleAsks g d ceiling (length out)) (ruleTests g d (length out) ceiling) (rule-fault g d (length out) ceiling);
     refusalLeaves = λ e p h.
         refused-leaves (ruleSays ceiling x) (rule-refuses-nothing ceiling x) (ruleFault g d ceiling (length out)) e p out _ h;

@@ -9,7 +9,7 @@
  * Refusals. Reading: 1 under 8 bytes; 2 n not 3 to 20; 3 a header zero byte not zero; 4 r over 1,000 or a wrong length; 5 head or next above
  * r; 6 record met before; 7 not 1 <= a < b <= n; 8 mark above 2 or a zero byte not zero; 9 cost out of range; 10 pair met before.
  * Other calls: 15 a graph that breaks the rules; 11 a list of wrong length; 12 a multiplier out of range, or the first not 0; 13 ceiling;
- * 14 sweeps or step. Of a record: 24 it fails its check; 20 no search is open; 21 one is open; 22 show while going on; 23 show after 'none'.
+ * 14 sweeps or step; 30 a preview of no edge, or of a mark that is not 1 or 2; 31 of an edge that is not free. Of a record: 24 it fails its check; 20 no search is open; 21 one is open; 22 show while going on; 23 show after 'none'.
  */
 #ifndef PLANNER_H
 #define PLANNER_H
@@ -25,7 +25,7 @@ enum {
     PLANNER_VERTICES = 20,   /* at most */
     PLANNER_EDGES = 190,     /* at most */
     PLANNER_NODES = 22,      /* a search has at most n + 2 nodes waiting */
-    PLANNER_NONE = 1000,     /* tree: no tree; rule: no 1-tree is within the ceiling */
+    PLANNER_NONE = 1000,     /* tree, preview: no tree; rule: no 1-tree is within the ceiling */
     PLANNER_GOING_ON = 1001, /* run, tell */
     PLANNER_FINISHED = 1002, /* run */
     PLANNER_NO_TOUR = 1003,  /* tell: finished, and there is no tour within the ceiling */
@@ -79,6 +79,10 @@ planner_said planner_write(planner_graph g, uint8_t *out, size_t length);
 /* The least 1-tree: 0 with its bound as value, and in out a byte for each edge, 1 in, 0 out; or PLANNER_NONE, which leaves out as it was; 15,
  * 11 or 12. */
 planner_said planner_tree(planner_graph g, const int32_t *multipliers, size_t multipliers_length, uint8_t *out, size_t length);
+
+/* The least 1-tree of a copy of the graph in which the free edge (1 to m) has the mark 1 or 2, as planner_tree answers; 15, 11, 12, 30 or 31. */
+planner_said planner_preview(planner_graph g, const int32_t *multipliers, size_t multipliers_length, size_t edge, uint32_t mark, uint8_t *out,
+                             size_t length);
 
 /* The rulings: 0 with the bound as value, and in out a byte for each edge, 0 keep, 1 force, 2 bar, 3 already required, 4 already excluded; or
  * PLANNER_NONE, which leaves out as it was; 15, 11, 12 or 13. */

@@ -39,6 +39,11 @@ def tree(chart: Chart, multipliers: Sequence[int] | None = None) -> Tree | None:
     return _library.tree(graph_of(chart), multipliers)
 
 
+def preview(chart: Chart, edge: int, mark: int, multipliers: Sequence[int] | None = None) -> Tree | None:
+    """The least 1-tree if this free edge were required (mark 1) or struck (mark 2), or None for 'no tree'. The chart is untouched."""
+    return _library.preview(graph_of(chart), edge, mark, multipliers)
+
+
 def rule(chart: Chart, ceiling: int, multipliers: Sequence[int] | None = None) -> Rulings | None:
     """The rulings under a ceiling, or None for 'dead'."""
     return _library.rule(graph_of(chart), ceiling, multipliers)
@@ -52,5 +57,5 @@ def falling(chart: Chart, high: int, low: int, multipliers: Sequence[int] | None
 __all__ = [
     "EXCLUDED", "FREE", "MARKS", "REQUIRED", "RULINGS",
     "Answer", "Edge", "Falling", "Faults", "Graph", "Ran", "Refused", "Rulings", "Search", "Told", "Tree",
-    "check", "falling", "graph_of", "load", "order", "parse", "read", "rule", "save", "solve", "tree", "write",
+    "check", "falling", "graph_of", "load", "order", "parse", "preview", "read", "rule", "save", "solve", "tree", "write",
 ]  # fmt: skip

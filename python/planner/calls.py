@@ -1,7 +1,7 @@
 """A script of calls, one answer a line: what a line says is sent to the library as it is, and the library judges it.
 
 One search record serves the whole script. Settings print nothing: the current chart ('sea', 'chart'), the dues, the length of the next list
-that is lent ('list'). Calls print one line: tree, rule, open, run, tell, show, close.
+that is lent ('list'). Calls print one line: tree, preview, rule, open, run, tell, show, close.
 """
 from __future__ import annotations
 
@@ -12,13 +12,14 @@ from typing import IO
 from .faults import Faults, shown, whole_number
 from .formats import LONGEST, load
 from .library import (
-    BYTE, EXCLUDED, FREE, INT32, INT64, REQUIRED, UINT32, UINT64, Edge, Graph, Refused, Search, rule, tree,
+    BYTE, EXCLUDED, FREE, INT32, INT64, REQUIRED, UINT32, UINT64, Edge, Graph, Refused, Search, Tree, preview, rule, tree,
 )  # fmt: skip
 from .output import Progress, complain, listed
 
 LEG = re.compile(r"([0-9]+)-([0-9]+):(-?[0-9]+)(?:([rs])|m([0-9]+))?")
 FORMS = {
     "tree": "tree",
+    "preview": "preview LEG MARK",
     "rule": "rule CEILING",
     "open": "open CEILING SWEEPS STEP",
     "run": "run BUDGET",
@@ -85,10 +86,12 @@ class Script:
 
     def tree(self) -> Answer:
         """The least 1-tree."""
-        found = tree(self.graph, self.dues, self.next_length())
-        if found is None:
-            return "no tree", {"verdict": "no tree"}
-        return f"bound {found.bound} legs {listed(found.edges)}", {"bound": found.bound, "legs": found.edges}
+        return said_tree(tree(self.graph, self.dues, self.next_length()))
+
+    def preview(self, leg: str, mark: str) -> Answer:
+        """The least 1-tree if a leg had a mark."""
+        number, byte = whole_number(leg, "leg", UINT64), whole_number(mark, "mark", UINT32)
+        return said_tree(preview(self.graph, number, byte, self.dues, self.next_length()))
 
     def rule(self, ceiling: str) -> Answer:
         """The rulings under a ceiling."""
@@ -152,6 +155,13 @@ class Script:
         except Refused as refused:
             fields = {"refused": refused.number, "place": refused.place, "meaning": refused.meaning}
             return f"refused {refused.number} at {refused.place}", fields
+
+
+def said_tree(found: Tree | None) -> Answer:
+    """What the tree call and the preview say."""
+    if found is None:
+        return "no tree", {"verdict": "no tree"}
+    return f"bound {found.bound} legs {listed(found.edges)}", {"bound": found.bound, "legs": found.edges}
 
 
 def taken(words: list[str], allowed: str) -> list[str]:

@@ -11,10 +11,10 @@ from typing import Any, NamedTuple, NoReturn
 
 from . import formats
 from .faults import Faults, shown, whole_number
-from .library import INT32, INT64, UINT64
+from .library import INT32, INT64, UINT32, UINT64
 from .output import OutputLost, complain, say, silence
 from .search import LONG
-from .subcommands import LOST, WRONG, on_graph, run_calls, run_convert, run_draw, run_regrade, run_rule, run_solve, run_tree
+from .subcommands import LOST, WRONG, on_graph, run_calls, run_convert, run_draw, run_preview, run_regrade, run_rule, run_solve, run_tree
 
 ABOUT = "The cheapest round of a sea of 3 to 20 buoys, every answer by proved calls of the library. docs/USING.md walks through all of it."
 STATUSES = "Exit status: 0 answered; 1 'none', 'no tree', 'dead' or a wrong record; 2 bad usage or refused; 3 undecided; 4 output lost."
@@ -45,6 +45,11 @@ def number_of(what: str, allowed: range) -> Callable[[str], int]:
             raise argparse.ArgumentTypeError(str(fault)) from None
 
     return read
+
+
+def mark(word: str) -> int:
+    """A mark of the command line, by word or number."""
+    return {"required": 1, "struck": 2}.get(word) or number_of("mark", UINT32)(word)
 
 
 def dues(text: str) -> list[int]:
@@ -88,6 +93,14 @@ COMMANDS = (
         "tree", on_graph(run_tree), "the cheapest 1-tree, its bound and its legs",
         {**FILE, **DUES, **JSON},
         "tree examples/four.txt --dues 0,0,1,-1",
+    ),
+    Command(
+        "preview", on_graph(run_preview), "what requiring or striking a free leg would do to the bound",
+        {
+            **FILE, "leg": {"metavar": "LEG", "nargs": "?", "type": number_of("leg", UINT64), "help": "its number; every free leg if not said"},
+            "mark": {"metavar": "MARK", "nargs": "?", "type": mark, "help": "required or struck, 1 or 2"}, **DUES, **JSON,
+        },
+        "preview examples/four.txt 1 struck",
     ),
     Command(
         "regrade", run_regrade, "hold the recorded costs of a folder of charts to the library",

@@ -56,6 +56,8 @@ MEANINGS = {
     22: "show while the hunt is going on",
     23: "show after 'none'",
     24: "the record fails its check",
+    30: "no such leg, or a new mark that is not 1 or 2",
+    31: "the leg is not free",
 }
 
 
@@ -115,6 +117,7 @@ _CALLS = {
     "planner_read": (CSaid, (POINTER(CGraph), _BYTES, c_size_t)),
     "planner_write": (CSaid, (CGraph, _BYTES, c_size_t)),
     "planner_tree": (CSaid, (CGraph, *_DUES, _BYTES, c_size_t)),
+    "planner_preview": (CSaid, (CGraph, *_DUES, c_size_t, c_uint32, _BYTES, c_size_t)),
     "planner_rule": (CSaid, (CGraph, *_DUES, c_int64, _BYTES, c_size_t)),
     "planner_fresh": (CSearch, ()),
     "planner_open": (CSaid, (_RECORD, CGraph, *_DUES, CSettings)),
@@ -287,6 +290,15 @@ def tree(graph: Graph, multipliers: Sequence[int] | None = None, length: int | N
     out, told = _list(graph.m, length)
     lent, count = _multipliers(graph, multipliers)
     said = _accepted(library().planner_tree(graph.c, lent, count, out, told))
+    return None if said.number == NONE else Tree(said.value, _chosen(out, graph.m))
+
+
+def preview(graph: Graph, edge: int, mark: int, multipliers: Sequence[int] | None = None, length: int | None = None) -> Tree | None:
+    """The least 1-tree of a copy in which this free edge has this mark (1 required, 2 struck), or None for 'no tree'."""
+    out, told = _list(graph.m, length)
+    lent, count = _multipliers(graph, multipliers)
+    edge, mark = _fits(edge, UINT64, "leg"), _fits(mark, UINT32, "mark")
+    said = _accepted(library().planner_preview(graph.c, lent, count, edge, mark, out, told))
     return None if said.number == NONE else Tree(said.value, _chosen(out, graph.m))
 
 

@@ -13,7 +13,7 @@ from .calls import run_script
 from .ceilings import falling
 from .drawing import Drawing
 from .faults import Faults
-from .library import RULINGS, Graph, Refused, rule, tree
+from .library import FREE, RULINGS, Graph, Refused, Tree, preview, rule, tree
 from .output import Progress, complain, listed, say, write_file
 from .regrading import COLUMNS, Grade, regrade, row, summary
 from .search import Answer, order, solve
@@ -101,15 +101,44 @@ def say_answer(graph: Graph, answer: Answer) -> None:
 
 def run_tree(arguments: argparse.Namespace, name: str, graph: Graph) -> int:
     """planner tree"""
-    found = tree(graph, arguments.dues)
-    if arguments.json:
-        say_json(file=name, **({"bound": found.bound, "legs": found.edges} if found else {"verdict": "no tree"}))
+    return say_tree(graph, tree(graph, arguments.dues), {"file": name}, arguments.json)
+
+
+def say_tree(graph: Graph, found: Tree | None, fields: dict[str, object], as_json: bool) -> int:
+    """A 1-tree in lines, or as one object that has these fields too."""
+    if as_json:
+        say_json(**fields, **({"bound": found.bound, "legs": found.edges} if found else {"verdict": "no tree"}))
     elif found:
         legs = ((number, graph.edges[number - 1]) for number in found.edges)
         say("\n".join([f"bound {found.bound}", *(f"{number} {leg.a}-{leg.b} {leg.cost}" for number, leg in legs)]))
     else:
         say("no tree")
     return ANSWERED if found else NEGATIVE
+
+
+def run_preview(arguments: argparse.Namespace, name: str, graph: Graph) -> int:
+    """planner preview"""
+    if arguments.leg is None:
+        return preview_all(arguments, name, graph)
+    if arguments.mark is None:
+        raise Faults("planner preview: allowed is FILE, or FILE LEG MARK; see planner preview --help")
+    found = preview(graph, arguments.leg, arguments.mark, arguments.dues)
+    return say_tree(graph, found, {"file": name, "leg": arguments.leg, "mark": arguments.mark}, arguments.json)
+
+
+def preview_all(arguments: argparse.Namespace, name: str, graph: Graph) -> int:
+    """planner preview without a leg: both bounds for every free leg"""
+    now = tree(graph, arguments.dues)
+    free = [(number, leg) for number, leg in enumerate(graph.edges, 1) if leg.mark == FREE]
+    bounds = [[found.bound if found else None for found in (preview(graph, number, mark, arguments.dues) for mark in (1, 2))] for number, _ in free]
+    if arguments.json:
+        rows = [{"leg": number, "required": one, "struck": two} for (number, _), (one, two) in zip(free, bounds)]
+        say_json(file=name, **({"bound": now.bound} if now else {"verdict": "no tree"}), previews=rows)
+    else:
+        words = [["no tree" if bound is None else str(bound) for bound in pair] for pair in bounds]
+        lines = [f"{number} {leg.a}-{leg.b} required {one} struck {two}" for (number, leg), (one, two) in zip(free, words)]
+        say("\n".join([f"bound {now.bound}" if now else "no tree", *lines]))
+    return ANSWERED if now else NEGATIVE
 
 
 def run_rule(arguments: argparse.Namespace, name: str, graph: Graph) -> int:

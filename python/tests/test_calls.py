@@ -65,6 +65,13 @@ sea 4 1-2:4r 1-3:3r 1-4:5r 2-3:2 2-4:6 3-4:1
 tree > no tree
 rule 99 > dead
 
+# What one mark more would do; the chart keeps its own.
+{FOUR}
+preview 1 2 > bound 11 legs 2 3 4 6
+preview 5 1 > bound 14 legs 1 2 5 6
+preview 6 2 > bound 15 legs 1 2 4 5
+tree > bound 10 legs 1 2 4 6
+
 # Marks as letters and as bytes.
 sea 4 1-2:4m0 1-3:3s 1-4:5m1 2-3:-2r 2-4:6 3-4:1m2
 tree > bound 13 legs 1 3 4 5
@@ -141,6 +148,25 @@ open 50000000 16 0 > refused 14 at 0
 open 50000000 15 10001 > refused 14 at 0
 open 50000000 4294967295 4294967295 > refused 14 at 0
 
+# Of a preview: 15, 11, 12, then 30, then 31.
+preview 0 3 > refused 30 at 0
+preview 7 1 > refused 30 at 0
+preview 18446744073709551615 1 > refused 30 at 0
+preview 6 0 > refused 30 at 0
+preview 6 4294967295 > refused 30 at 0
+list 5
+preview 0 3 > refused 11 at 0
+dues 0 0 0 1000001
+preview 0 3 > refused 12 at 0
+sea 4 1-2:4r 1-3:3 1-4:5r 2-3:2 2-4:6 3-4:1s
+preview 1 2 > refused 31 at 0
+preview 1 0 > refused 30 at 0
+preview 6 1 > refused 31 at 0
+preview 2 1 > no tree
+sea 4 2-1:5
+preview 1 1 > refused 15 at 0
+{FOUR}
+
 # A list of wrong length serves one call, refused or not; a setting in between leaves it, a sea does not.
 list 5
 tree > refused 11 at 0
@@ -216,7 +242,7 @@ class Scripts(unittest.TestCase):
 
     def test_lines_that_cannot_be_read(self):
         """Each says its line on standard error; the script goes on, settings as they were; the status is 2."""
-        names = "allowed are sea, chart, dues, list, tree, rule, open, run, tell, show, close"
+        names = "allowed are sea, chart, dues, list, tree, preview, rule, open, run, tell, show, close"
         wide = "allowed is -9223372036854775808 to 9223372036854775807"
         no_leg = "is no leg; allowed is A-B:COST, with r, s or mK behind it"
         wrong = (
@@ -226,7 +252,8 @@ class Scripts(unittest.TestCase):
             ("open 1 2", "too few words; allowed is open CEILING SWEEPS STEP"),
             ("run", "too few words; allowed is run BUDGET"),
             ("tell me", "too many words; allowed is tell"),
-            ("preview 1 2", f"'preview' is unknown; {names}"),
+            ("preview 1", "too few words; allowed is preview LEG MARK"),
+            ("preview 1 2 3", "too many words; allowed is preview LEG MARK"),
             ("save 1", f"'save' is unknown; {names}"),
             ("lifting yes", f"'lifting' is unknown; {names}"),
             ("denominator 2", f"'denominator' is unknown; {names}"),
@@ -367,7 +394,7 @@ class Scripts(unittest.TestCase):
 
     def step(self, source, graph, search):
         """A random line, the chart after it, and what the line should print."""
-        kind = source.choice(("sea", "tree", "rule", "open", "run", "run", "tell", "show", "show", "close"))
+        kind = source.choice(("sea", "tree", "preview", "rule", "open", "run", "run", "tell", "show", "show", "close"))
         ceiling = source.choice((-20, 40, 90, 50_000_001))
         if kind == "sea":
             graph = random_graph(source, most=6)
@@ -375,6 +402,9 @@ class Scripts(unittest.TestCase):
             return graph, f"sea {graph.n} {' '.join(legs)}", None
         if kind == "tree":
             return graph, kind, lambda: bound_and(library.tree(graph), "legs", "no tree")
+        if kind == "preview":
+            edge, mark = source.randint(0, graph.m + 1), source.choice((0, 1, 1, 2, 2, 3))
+            return graph, f"preview {edge} {mark}", lambda: bound_and(library.preview(graph, edge, mark), "legs", "no tree")
         if kind == "rule":
             return graph, f"rule {ceiling}", lambda: bound_and(library.rule(graph, ceiling), "rulings", "dead")
         if kind == "open":

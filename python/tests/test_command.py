@@ -39,6 +39,12 @@ class Answers(unittest.TestCase):
             (("tree", "examples/four.txt", "--dues", "0,0,1,-1"), ("bound 12\n1 1-2 4\n2 1-3 3\n4 2-3 2\n6 3-4 1\n", "", 0)),
             (("tree", "examples/four.txt", "--dues=-1,0,0,0"),
                 ("", "examples/four.txt: refused 12 at 0: a due out of range, or the first not 0\n", 2)),
+            (("preview", "examples/four.txt", 5, "required"), ("bound 14\n1 1-2 4\n2 1-3 3\n5 2-4 6\n6 3-4 1\n", "", 0)),
+            (("preview", "examples/four.txt", 6, 2), ("bound 15\n1 1-2 4\n2 1-3 3\n4 2-3 2\n5 2-4 6\n", "", 0)),
+            (("preview", "examples/four.txt", 7, 1),
+                ("", "examples/four.txt: refused 30 at 0: no such leg, or a new mark that is not 1 or 2\n", 2)),
+            (("preview", "examples/four.txt", 1, 0),
+                ("", "examples/four.txt: refused 30 at 0: no such leg, or a new mark that is not 1 or 2\n", 2)),
             (("tree", "examples/regrade/loop.chart"), ("", "examples/regrade/loop.chart: refused 6 at 3: record met before\n", 2)),
         ):  # fmt: skip
             with self.subTest(words):
@@ -129,7 +135,7 @@ class Usage(unittest.TestCase):
         out, _, status = command("--help")
         self.assertEqual(status, 0)
         names = re.findall(r"^    (\w+) ", out, re.MULTILINE)
-        self.assertEqual(names, ["solve", "rule", "tree", "regrade", "convert", "draw", "calls"])
+        self.assertEqual(names, ["solve", "rule", "tree", "preview", "regrade", "convert", "draw", "calls"])
         for name in names:
             out, complaints, status = command(name, "--help")
             self.assertEqual((out.startswith(f"usage: planner {name} "), complaints, status), (True, "", 0))
@@ -142,7 +148,8 @@ class Usage(unittest.TestCase):
                       ("solve", "examples/four.txt", "--ceiling", 2**63), ("solve", "examples/four.txt", "--ceiling", long),
                       ("tree", "examples/four.txt", "--dues", "0,x"),
                       ("tree", "examples/four.txt", "--dues", 2**31), ("tree", "examples/four.txt", "--dues", long),
-                      ("convert", "examples/four.txt"),
+                      ("convert", "examples/four.txt"), ("preview", "examples/four.txt", 1), ("preview", "examples/four.txt", "x", 1),
+                      ("preview", "examples/four.txt", 1, "free"), ("preview", "examples/four.txt", 1, 2**32),
                       ("convert", "examples/four.txt", "-", "--to", "tapes"), ("solve", "examples/four.txt", "--nodes", -1), ("draw",),
                       (long,)):  # fmt: skip
             out, complaints, status = command(*words)

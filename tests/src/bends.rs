@@ -211,3 +211,23 @@ pub const DEAD_TOO: Bend = Bend {
     what: "rulings stay where the lower ceiling is dead",
     bend: |law| law.unless_dead = false,
 };
+
+pub const LEGS_FROM_ZERO: Bend = Bend {
+    what: "a preview counts legs from 0",
+    bend: |law| law.first_leg = 0,
+};
+
+pub const NEW_MARK_OF_THREE: Bend = Bend {
+    what: "a preview takes the mark 3",
+    bend: |law| law.max_new_mark = 3,
+};
+
+pub const FREE_BEFORE_LEG: Bend = Bend {
+    what: "31 comes before 30",
+    bend: |law| law.preview_free_last = false,
+};
+
+pub const PREVIEW_WITHOUT_MARK: Bend = Bend {
+    what: "a preview leaves the mark as it is",
+    bend: |law| law.preview_marks = false,
+};

@@ -1,7 +1,8 @@
-// The tree call and the rule call: 0 and the bound as the value; or 1,000, 'no tree' or 'dead'; or a refusal.
+// The tree call, the preview and the rule call: 0 and the bound as the value; or 1,000, 'no tree' or 'dead'; or a refusal.
 ghost use mathlib.Core.Path.{_≡_};
 ghost use lib.ListN.{length};
 ghost use Rattle.onetree.specs.Answers.{treeReply, treeLeaves, ruleReply, ruleLeaves};
+ghost use Rattle.preview.specs.Preview.{previewReply, previewLeaves};
 ghost use Rattle.ffi.specs.Answers.{bound, saidReply};
 use crate::NONE;
 use crate::Said;
@@ -31,6 +32,29 @@ pub extern "C" fn planner_tree(g: Graph, multipliers: &[i32], out: &mut [u8]) ->
         ⌝ }
 {
     let answer = onetree::tree(g, multipliers, out);
+    match answer {
+        TreeAnswer::Bound(value) => bound(value),
+        TreeAnswer::NoTree => plain(NONE, 0),
+        TreeAnswer::Refused(number, at) => plain(number, at),
+    }
+}
+
+// Ruled out: the edge's mark left as it is; an answer for an edge that is not free.
+#[no_mangle]
+pub extern "C" fn planner_preview(
+    g: Graph,
+    multipliers: &[i32],
+    edge: usize,
+    mark: u32,
+    out: &mut [u8],
+) -> Said
+    ensures { λ r.
+        ⌜
+        (r ≡ saidReply (previewReply g (now (multipliers .entry)) edge mark (length (now (out .entry)))))
+        × (now (out .exit) ≡ previewLeaves g (now (multipliers .entry)) edge mark (now (out .entry)))
+        ⌝ }
+{
+    let answer = preview::preview(g, multipliers, edge, mark, out);
     match answer {
         TreeAnswer::Bound(value) => bound(value),
         TreeAnswer::NoTree => plain(NONE, 0),

@@ -53,7 +53,9 @@ impl Refusal {
             22 => "the search is going on",
             23 => "the search found no tour",
             24 => "the record fails its own check",
-            _ => "a number that document 01 does not have",
+            30 => "a preview of no edge, or of a mark that is not 1 or 2",
+            31 => "a preview of an edge that is not free",
+            _ => "a number that documents 01 and 02 do not have",
         }
     }
 }
@@ -193,6 +195,17 @@ pub enum Tree {
     Found { bound: i64, edges: Vec<bool> },
 }
 
+impl Tree {
+    fn of(said: Said, out: &[u8]) -> Result<Tree, Refusal> {
+        if said.number == raw::NONE {
+            return Ok(Tree::None);
+        }
+        let bound = said.accepted()?.value;
+        let edges = bits(out);
+        Ok(Tree::Found { bound, edges })
+    }
+}
+
 /// What a ceiling does to an edge.
 #[derive(Clone, Copy, PartialEq, Eq, Debug)]
 pub enum Ruling {
@@ -239,12 +252,30 @@ pub fn tree(graph: &Graph, multipliers: &[i32]) -> Result<Tree, Refusal> {
             out.len(),
         )
     };
-    if said.number == raw::NONE {
-        return Ok(Tree::None);
-    }
-    let bound = said.accepted()?.value;
-    let edges = bits(&out);
-    Ok(Tree::Found { bound, edges })
+    Tree::of(said, &out)
+}
+
+/// The least 1-tree of a copy of the graph in which a free edge, numbered from 1, is required or excluded; 15, 11, 12, 30, 31.
+pub fn preview(
+    graph: &Graph,
+    multipliers: &[i32],
+    edge: usize,
+    mark: Mark,
+) -> Result<Tree, Refusal> {
+    let mut out = vec![0; graph.places()];
+    // SAFETY: as in `tree`.
+    let said = unsafe {
+        raw::planner_preview(
+            *graph,
+            multipliers.as_ptr(),
+            multipliers.len(),
+            edge,
+            mark as u32,
+            out.as_mut_ptr(),
+            out.len(),
+        )
+    };
+    Tree::of(said, &out)
 }
 
 /// What a ceiling rules for each edge, under n multipliers; 15, 11, 12, 13.

@@ -10,7 +10,7 @@ pub const NODES: usize = VERTICES + 2;
 
 /// A call is accepted. No refusal has this number or one of those below.
 pub const ACCEPTED: u32 = 0;
-/// `planner_tree`: no tree; `planner_rule`: no 1-tree is within the ceiling.
+/// `planner_tree`, `planner_preview`: no tree; `planner_rule`: no 1-tree is within the ceiling.
 pub const NONE: u32 = 1000;
 /// `planner_run`, `planner_tell`.
 pub const GOING_ON: u32 = 1001;
@@ -95,6 +95,15 @@ extern "C" {
         g: Graph,
         multipliers: *const i32,
         multipliers_length: usize,
+        out: *mut u8,
+        length: usize,
+    ) -> Said;
+    pub fn planner_preview(
+        g: Graph,
+        multipliers: *const i32,
+        multipliers_length: usize,
+        edge: usize,
+        mark: u32,
         out: *mut u8,
         length: usize,
     ) -> Said;

@@ -56,6 +56,15 @@ pub struct Law {
     /// a required edge is not swapped out
     pub required_stay: bool,
 
+    /// C-11: legs are "1 to m"
+    pub first_leg: usize,
+    /// C-11: "the new mark .. 1 or 2"
+    pub max_new_mark: u32,
+    /// C-11: 31 follows 30
+    pub preview_free_last: bool,
+    /// C-11: "a copy of the chart with that mark"
+    pub preview_marks: bool,
+
     /// C-15: "every leg barred or forced under the higher is ruled the same under the lower"
     pub ruled_stays_below: bool,
     /// C-15: "unless the lower is dead"
@@ -116,6 +125,10 @@ impl Law {
         max_ceiling: 50_000_000,
         ceiling_within: true,
         required_stay: true,
+        first_leg: 1,
+        max_new_mark: 2,
+        preview_free_last: true,
+        preview_marks: true,
         ruled_stays_below: true,
         unless_dead: true,
         max_sweeps: 15,

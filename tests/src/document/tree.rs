@@ -259,3 +259,34 @@ pub fn call(
     admit(law, graph, multipliers, Some(length))?;
     Ok(least(law, method, graph, multipliers))
 }
+
+/// Document 02's C-11: "It answers exactly as the tree call does on a copy of the chart with that
+/// mark". "30 when the leg is not 1 to m or the new mark not 1 or 2, and 31 when the leg is not free;
+/// they follow 15, 11 and 12 in that order."
+pub fn preview(
+    law: &Law,
+    method: Method,
+    graph: &Graph,
+    multipliers: &[i32],
+    (leg, mark): (usize, u32),
+    length: usize,
+) -> Result<Option<Tree>, Refusal> {
+    admit(law, graph, multipliers, Some(length))?;
+    let place = leg.wrapping_sub(law.first_leg);
+    let known = place < graph.m && (1..=law.max_new_mark).contains(&mark);
+    let free = place < graph.m && graph.mark[place] == FREE;
+    if !law.preview_free_last && place < graph.m && !free {
+        return refuse(31, 0);
+    }
+    if !known {
+        return refuse(30, 0);
+    }
+    if !free {
+        return refuse(31, 0);
+    }
+    let mut copy = graph.clone();
+    if law.preview_marks {
+        copy.mark[place] = mark as u8;
+    }
+    Ok(least(law, method, &copy, multipliers))
+}

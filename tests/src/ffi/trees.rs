@@ -1,10 +1,10 @@
-//! The tree call and the rule call.
+//! The tree call, the preview and the rule call.
 
 use super::lent::Lent;
 use super::{by_value, call, Reply};
 use crate::document::graph::Graph;
 use crate::report::Hex;
-use planner::raw::{planner_rule, planner_tree, Said};
+use planner::raw::{planner_preview, planner_rule, planner_tree, Said};
 
 /// Makes a call with multipliers and a list lent.
 fn lending(
@@ -26,6 +26,26 @@ pub fn tree(graph: &Graph, multipliers: &[i32], length: usize) -> Reply {
     let g = by_value(graph);
     lending(multipliers, length, |d, out| {
         call!(planner_tree(g, d, multipliers.len(), out, length))
+    })
+}
+
+pub fn preview(
+    graph: &Graph,
+    multipliers: &[i32],
+    (leg, mark): (usize, u32),
+    length: usize,
+) -> Reply {
+    let g = by_value(graph);
+    lending(multipliers, length, |d, out| {
+        call!(planner_preview(
+            g,
+            d,
+            multipliers.len(),
+            leg,
+            mark,
+            out,
+            length
+        ))
     })
 }
 

@@ -12,7 +12,7 @@ use crate::generate;
 use crate::random::Random;
 use crate::report::{hex, Outcome};
 use crate::suites::rule::{arguments, Arguments};
-use crate::suites::{check, read, rule, tree, write};
+use crate::suites::{check, preview, read, rule, tree, write};
 
 pub const FILES: Kind = Kind {
     name: "files",
@@ -39,6 +39,8 @@ pub const VALUES: Kind = Kind {
         bends::CEILING_NOT_WITHIN,
         bends::HIGHER_MULTIPLIER,
         bends::PAST_M_JUDGED,
+        bends::FREE_BEFORE_LEG,
+        bends::PREVIEW_WITHOUT_MARK,
     ],
 };
 
@@ -99,6 +101,12 @@ fn values(random: &mut Random, watch: &mut Watch) -> Outcome {
     let expected = tree::expected(watch.law, Method::Kruskal, graph, multipliers, *length);
     watch.compare("tree", input, expected, || {
         trees::tree(graph, multipliers, *length)
+    })?;
+    let asked = preview::asked(random, graph);
+    let (law, method) = (watch.law, Method::Kruskal);
+    let expected = preview::expected(law, method, graph, multipliers, asked, *length);
+    watch.compare("preview", input, expected, || {
+        trees::preview(graph, multipliers, asked, *length)
     })?;
     let expected = rule::expected(watch.law, Method::Kruskal, &given);
     watch.compare("rule", input, expected, || {

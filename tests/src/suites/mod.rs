@@ -19,6 +19,8 @@ pub mod falling_ceilings;
 pub mod layout;
 #[cfg(feature = "library")]
 pub mod library_searches;
+#[cfg(feature = "library")]
+pub mod preview;
 #[cfg(feature = "rulings")]
 pub mod programs;
 #[cfg(feature = "library")]
@@ -54,6 +56,8 @@ pub fn all() -> Vec<Suite> {
         round_trips::SUITE,
         #[cfg(feature = "library")]
         tree::SUITE,
+        #[cfg(feature = "library")]
+        preview::SUITE,
         #[cfg(feature = "library")]
         rule::SUITE,
         #[cfg(feature = "library")]

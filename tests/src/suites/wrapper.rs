@@ -113,8 +113,17 @@ fn ruling(byte: u8) -> Ruling {
 /// What the tree call must answer; its list has the right length.
 fn expected_tree(law: &Law, given: &Arguments) -> Result<Tree, planner::Refusal> {
     let (graph, multipliers) = (&given.graph, &given.multipliers);
-    let tree = tree::call(law, Method::Kruskal, graph, multipliers, graph.m);
-    Ok(match tree.map_err(refusal)? {
+    found(tree::call(
+        law,
+        Method::Kruskal,
+        graph,
+        multipliers,
+        graph.m,
+    ))
+}
+
+fn found(answer: Result<Option<tree::Tree>, Refusal>) -> Result<Tree, planner::Refusal> {
+    Ok(match answer.map_err(refusal)? {
         Some(tree) => Tree::Found {
             bound: tree.bound,
             edges: bits(&tree.edges),
@@ -152,6 +161,13 @@ fn trees(law: &Law, tally: &mut Tally, random: &mut Random, wrong: bool) -> Outc
     tally.compare("check", input, &fits, &graph.check().is_ok())?;
     let got = planner::tree(&graph, multipliers);
     tally.compare("tree", input, &expected_tree(law, &given), &got)?;
+    let edge = random.below(given.graph.m.min(190) + 2);
+    let mark = random.pick(&[Mark::Required, Mark::Excluded, Mark::Free]);
+    let asked = (edge, mark as u32);
+    let method = Method::Kruskal;
+    let wanted = tree::preview(law, method, &given.graph, multipliers, asked, given.graph.m);
+    let got = planner::preview(&graph, multipliers, edge, mark);
+    tally.compare("preview", input, &found(wanted), &got)?;
     let got = planner::rule(&graph, multipliers, ceiling);
     tally.compare("rule", input, &expected_rulings(law, &given), &got)
 }

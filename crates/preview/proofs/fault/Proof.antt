@@ -23,14 +23,17 @@ start c = c .before .before
 checked : (c : tie.Else1) → valid (start c .args .g) ≡ true
 checked c = sym (c .before .check .ensures) ∙ not-false _ (c .if1 .left)
 
+abbrev at-multipliers-length : tie.Else3 → tie.Else2
+at-multipliers-length c = c .before .before
+
 abbrev at-check : tie.Else3 → tie.Else1
-at-check c = c .before .before .before .before
+at-check c = at-multipliers-length c .before .before
 
 lengths : (c : tie.Else3) → let a = start (at-check c) .args in
     (eqb (length (a .multipliers .now)) (a .g .n) && eqb (a .len) (a .g .m)) ≡ true
 lengths c =
     let a = start (at-check c) .args in
-    let two = c .before .before in
+    let two = at-multipliers-length c in
     let vertices : two .before .wide .result ≡ a .g .n = two .before .wide .ensures .0 in
     let edges : c .before .wide2 .result ≡ a .g .m = c .before .wide2 .ensures .0 in
     rw (eq-eqb (length (a .multipliers .now)) (a .g .n) (two .if2 .left ∙ vertices), eq-eqb (a .len) (a .g .m) (c .if3 .left ∙ edges))

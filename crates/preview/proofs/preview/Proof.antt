@@ -35,7 +35,7 @@ cast-marks : tie.Need-cast-marks
 cast-marks c = record { fits = omega (arith, faultless (c .before) .is-mark) }
 
 sub-marks : tie.Need-sub-marks
-sub-marks c = faultless (c .before) .least
+sub-marks c = omega (arith, faultless (c .before) .least)
 
 array-write-marks : tie.Need-array-write-marks
 array-write-marks c = let f = faultless (c .before) in omega (arith, f .least, f .most, f .is-valid .few)

@@ -1,4 +1,6 @@
+-- What a reader must believe: each answer in numbers, what the calls on a lent record give, and demand 3 of the exported calls
 pub mod Answers
 pub mod Searches
 pub mod Demand3
+-- It holds.
 pub mod Theorem

@@ -13,13 +13,14 @@ HEADING, LEGEND = 44, 262
 LONGEST_NAME = 40  # letters in the heading, whose letters are some 12 wide
 MOST_COSTS = 60  # beyond so many edges only the costs of the tour and of required and forced ones are written
 
-# What an edge is, in the order drawn: words for the legend, and how it looks.
+# What an edge is, in the order drawn: words for the legend, and how it looks. Dash and width say it too, and blue and orange are told apart by
+# whoever cannot tell red from green.
 STYLES = {
-    "struck": ("struck", 'stroke="#8f9baa" stroke-width="1.3" stroke-dasharray="1.5 4" stroke-linecap="round"'),
-    "bar": ("barred", 'stroke="#c0392b" stroke-width="1.8" stroke-dasharray="8 5"'),
+    "struck": ("struck", 'stroke="#6f7c8b" stroke-width="1.3" stroke-dasharray="1.5 4" stroke-linecap="round"'),
+    "bar": ("barred", 'stroke="#b8430a" stroke-width="1.8" stroke-dasharray="8 5"'),
     "free": ("free", 'stroke="#5f7890" stroke-width="1.8"'),
     "keep": ("kept", 'stroke="#5f7890" stroke-width="1.8"'),
-    "force": ("forced", 'stroke="#0a7f62" stroke-width="4"'),
+    "force": ("forced", 'stroke="#0063b1" stroke-width="4"'),
     "required": ("required", 'stroke="#14213d" stroke-width="6"'),
 }
 TOUR = 'stroke="#fbcb5b" stroke-width="15" stroke-linecap="round"'
@@ -44,18 +45,23 @@ def stroke(line: Line, look: str) -> str:
 class Drawing:
     """All that is drawn of a graph."""
 
+    with_positions = (720, 560)  # the field, without heading and legend
+    on_a_circle = (560, 42)  # the field's side: at least so much, and so much for each vertex
+
     def __init__(self, name: str, graph: Graph, answer: Answer | None, rulings: Rulings | None, ceiling: int | None):
         self.name, self.graph = shown(name), graph
         self.kinds = [RULINGS[byte] for byte in rulings.rulings] if rulings else [MARKS[edge.mark] for edge in graph.edges]
         self.tour = {number - 1 for number in answer.tour} if answer else set()
-        self.notes = [f"rulings at ceiling {ceiling}", f"bound {rulings.bound}"] if rulings else []
+        self.told = [f"rulings at ceiling {ceiling}", f"bound {rulings.bound}"] if rulings else []
+        self.notes: list[str] = []  # on the drawing itself
         if answer:
-            self.notes.append({"cost": f"cheapest round: cost {answer.cost}", "none": "there is no round"}.get(answer.verdict, "round not found yet"))
+            self.told.append({"cost": f"cheapest round: cost {answer.cost}", "none": "there is no round"}.get(answer.verdict, "round not found yet"))
         one_place = len(graph.positions) == graph.n and len(set(graph.positions.values())) == 1
         self.positions = {} if one_place else graph.positions
         if one_place:
             self.notes.append("all positions are one place: drawn on a circle")
-        self.field = (720, 560) if self.positions else (max(560, 42 * graph.n),) * 2
+        least, each = self.on_a_circle
+        self.field = self.with_positions if self.positions else (max(least, each * graph.n),) * 2
         self.places = self.placed(answer)
         self.lines = lines(self.places, ((edge.a, edge.b) for edge in graph.edges))
         self.boxes = self.costs()
@@ -149,7 +155,7 @@ class Drawing:
             drawn.append(stroke(Line((x + inset, y), (x + 46 - inset, y)), look))
             drawn.append(text(x + 62, y + 4.5, words, 'font-size="14" fill="#14213d"'))
             y += 30
-        for note in self.notes:
+        for note in self.told + self.notes:
             for words in textwrap.wrap(note, 32, break_on_hyphens=False):
                 drawn.append(text(x, y + 12, words, 'font-size="13" fill="#33415c"'))
                 y += 19

@@ -14,7 +14,7 @@ from .faults import Faults, shown, whole_number
 from .library import INT32, INT64, UINT32, UINT64
 from .output import OutputLost, complain, say, silence
 from .search import LONG
-from .subcommands import LOST, WRONG, on_graph, run_calls, run_convert, run_draw, run_preview, run_regrade, run_rule, run_solve, run_tree
+from .subcommands import LOST, WRONG, on_graph, run_calls, run_convert, run_draw, run_page, run_preview, run_regrade, run_rule, run_solve, run_tree
 
 ABOUT = "The cheapest round of a sea of 3 to 20 buoys, every answer by proved calls of the library. docs/USING.md walks through all of it."
 STATUSES = "Exit status: 0 answered; 1 'none', 'no tree', 'dead' or a wrong record; 2 bad usage or refused; 3 undecided; 4 output lost."
@@ -126,6 +126,16 @@ COMMANDS = (
             "--no-round": {"action": "store_true", "help": "leave the round out"}, "--nodes": MOST,
         },
         "draw examples/sea.txt sea.svg --ceiling 350",
+    ),
+    Command(
+        "page", on_graph(run_page), "write one page for a class: a ceiling that falls, what it rules, previews",
+        {
+            **FILE, "-o": {"dest": "out", "metavar": "OUT", "default": "-", "help": "the file to write, .html; standard output if not said"},
+            "--high": {**CEILING, "help": "the highest ceiling to show; just above the first that rules something if not said"},
+            "--low": {**CEILING, "help": "the lowest; the first at which the sea is dead if not said"},
+            **DUES, "--no-round": {"action": "store_true", "help": "leave the round out"}, "--nodes": MOST,
+        },
+        "page examples/sea.txt -o sea.html",
     ),
     Command(
         "calls", run_calls, "make the calls of a script, one answer a line",

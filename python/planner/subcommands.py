@@ -4,7 +4,7 @@ from __future__ import annotations
 import argparse
 import json
 import sys
-from collections.abc import Callable, Iterator
+from collections.abc import Callable, Iterator, Sequence
 from contextlib import contextmanager
 from pathlib import Path
 
@@ -15,11 +15,14 @@ from .drawing import Drawing
 from .faults import Faults
 from .library import FREE, RULINGS, Graph, Refused, Tree, preview, rule, tree
 from .output import Progress, complain, listed, say, write_file
+from .page import Page
 from .regrading import COLUMNS, Grade, regrade, row, summary
 from .search import Answer, order, solve
+from .showing import Showing
 
 ANSWERED, NEGATIVE, WRONG, UNDECIDED, LOST = range(5)  # exit statuses
 NO_SVG = (*formats.ENDINGS, ".png", ".jpg", ".jpeg", ".gif", ".pdf")  # ends of names that no drawing has
+NO_PAGE = (*NO_SVG, ".svg")  # and no page
 
 
 # What is printed
@@ -201,11 +204,16 @@ def run_convert(arguments: argparse.Namespace, name: str, graph: Graph) -> int:
     return ANSWERED
 
 
+def not_named(out: str, endings: Sequence[str], form: str) -> None:
+    """A file is not given another form's name, so that no sea is written over."""
+    if Path(out).suffix.lower() in endings:
+        raise Faults(f"{formats.shown_path(out)}: the name says another form; {form}")
+
+
 def run_draw(arguments: argparse.Namespace, name: str, graph: Graph) -> int:
     """planner draw"""
     not_over_input(arguments.out, arguments.file)
-    if Path(arguments.out).suffix.lower() in NO_SVG:
-        raise Faults(f"{formats.shown_path(arguments.out)}: the name says another form; a drawing is SVG, named .svg")
+    not_named(arguments.out, NO_SVG, "a drawing is SVG, named .svg")
     found = rule(graph, arguments.ceiling) if arguments.ceiling is not None else None
     if arguments.ceiling is not None and found is None:
         complain(f"{name}: dead: no 1-tree is within ceiling {arguments.ceiling}, so no round is")
@@ -214,10 +222,35 @@ def run_draw(arguments: argparse.Namespace, name: str, graph: Graph) -> int:
     with faults_of(name):
         drawing = Drawing(Path(name).name, graph, answer, found, arguments.ceiling)
     write_file(arguments.out, drawing.svg().encode("utf-8", "replace"))
+    return without_round(name, answer, "drawn")
+
+
+def without_round(name: str, answer: Answer | None, made: str) -> int:
+    """Where a round was asked for and none is shown, that is said."""
     if answer is None or answer.verdict == "cost":
         return ANSWERED
-    complain(f"{name}: {'there is no round' if answer.verdict == 'none' else f'going on after {answer.nodes} nodes'}; drawn without one")
+    complain(f"{name}: {'there is no round' if answer.verdict == 'none' else f'going on after {answer.nodes} nodes'}; {made} without one")
     return NEGATIVE if answer.verdict == "none" else UNDECIDED
+
+
+def run_page(arguments: argparse.Namespace, name: str, graph: Graph) -> int:
+    """planner page"""
+    not_over_input(arguments.out, arguments.file)
+    not_named(arguments.out, NO_PAGE, "a page is HTML, named .html")
+    if None not in (arguments.high, arguments.low) and arguments.high < arguments.low:
+        raise Faults(f"--high {arguments.high} --low {arguments.low}: allowed is a lowest ceiling that is not above the highest")
+    showing = Showing(graph, arguments.dues)
+    high, low = showing.ends(arguments.high, arguments.low)
+    stops = showing.stops(high, low)
+    answer = None if arguments.no_round else solved(graph, None, arguments.nodes)
+    with faults_of(name):
+        page = Page(Path(name).name, showing, answer, stops)
+    write_file(arguments.out, page.html().encode("utf-8", "replace"))
+    status = without_round(name, answer, "written")
+    if status == ANSWERED and stops[0].found is None:
+        complain(f"{name}: dead at ceiling {high} already; written so")
+        return NEGATIVE
+    return status
 
 
 def run_regrade(arguments: argparse.Namespace) -> int:

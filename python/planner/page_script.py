@@ -123,8 +123,9 @@ SCRIPT = r"""
   const legOf = (event) => Number(event.target.dataset?.leg ?? 0);
   sea.addEventListener("pointerover", (event) => point(legOf(event)));
   sea.addEventListener("pointerleave", () => point(0));
-  sea.addEventListener("focusin", (event) => point(legOf(event)));
-  sea.addEventListener("focusout", () => point(0));
+  // On the figure: a browser gives the focus to a drawing that listens for it.
+  sea.parentNode.addEventListener("focusin", (event) => point(legOf(event)));
+  sea.parentNode.addEventListener("focusout", () => point(0));
   sea.addEventListener("click", (event) => { if (legOf(event)) choose(legOf(event)); });
   at("table").addEventListener("click", (event) => { const row = event.target.closest("tr[data-leg]"); if (row) choose(Number(row.dataset.leg)); });
   slider.addEventListener("input", () => go(Number(slider.value)));

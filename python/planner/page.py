@@ -15,7 +15,7 @@ from .page_picture import RANKS, Picture, kinds_of
 from .page_script import SCRIPT
 from .page_style import style
 from .search import Answer
-from .showing import Showing, Stop
+from .showing import BAR, FORCE, Showing, Stop
 
 WORDS = {**{kind: words for kind, (words, _) in STYLES.items()}, "dead": "dead"}
 MOST_NEW = 12  # legs named of those that become forced or barred at one ceiling
@@ -87,10 +87,11 @@ class Page:
     def says(self, stop: Stop) -> str:
         """A ceiling in words."""
         if stop.found is None:
-            why = "there is no 1-tree" if self.showing.bound is None else f"the bound {self.showing.bound} is above the ceiling"
-            return f"Dead: {why}, so no round costs so little." if self.showing.bound is not None else f"Dead: {why}, so there is no round."
-        counts = [f"{count} {WORDS[kind]}" for kind, count in zip(RULINGS[1:3] + RULINGS[:1], self.counted(stop, (1, 2, 0)))]
-        return ", ".join(counts) + "."
+            if self.showing.bound is None:
+                return "Dead: there is no 1-tree, so there is no round."
+            return f"Dead: the bound {self.showing.bound} is above the ceiling, so no round costs so little."
+        forced, barred, kept = self.counted(stop, (FORCE, BAR, 0))
+        return f"{forced} forced, {barred} barred, {kept} kept."
 
     def counted(self, stop: Stop, rulings: Iterable[int]) -> list[int]:
         """How many edges have each of these rulings."""
@@ -101,7 +102,7 @@ class Page:
         if stop.found is None or not stop.new:
             return ""
         parts = []
-        for ruling in (1, 2):
+        for ruling in (FORCE, BAR):
             new = [self.names[number - 1] for number in stop.new if stop.found.rulings[number - 1] == ruling]
             parts += [f"{WORDS[RULINGS[ruling]]} {some(new)}"] if new else []
         return f"New: {'; '.join(parts)}."
@@ -196,7 +197,7 @@ class Page:
             f'<input type="range" id="slider" min="0" max="{last}" step="1" value="0" aria-label="ceiling, from high to low"{"" if last else " disabled"}>',
             element("button", "&#9654;", type="button", id="lower", aria_label="lower ceiling", title="lower ceiling"),
         ])  # fmt: skip
-        wanted = f'<input class="field" id="wanted" inputmode="numeric" autocomplete="off" size="11" value="{self.stops[0].ceiling}" aria-describedby="fault">'
+        wanted = '<input class="field" id="wanted" inputmode="numeric" autocomplete="off" size="11" aria-describedby="fault">'
         typed = element("label", "Ceiling", for_="wanted") + wanted + element("button", "Set") + element("p", "", class_="fault", id="fault", role="alert")
         lay = element("button", "Cheapest round (R)", type="button", id="lay", aria_pressed="false") if self.laid else ""
         controls = element("div", mover, class_="mover") + element("form", typed, class_="typed", id="typed") + lay
@@ -233,7 +234,7 @@ class Page:
         says = element("p", escape(self.says(first)), id="says", class_=None if first.found else "dead-word")
         words = element("p", big, class_="big") + says + element("p", escape(self.news(first)), id="news")
         state = element("section", words, class_="state", role="status", aria_atomic="true")
-        return element("aside", state + element("p", "", id="laid", role="status", class_="skip") + self.card() + self.table())
+        return element("aside", state + element("p", "", id="laid", role="status", class_="unseen") + self.card() + self.table())
 
     def card(self) -> str:
         """The leg that is pointed at or chosen."""
@@ -252,9 +253,9 @@ class Page:
         head = "".join(element("th", words, scope="col", class_=what) for what, words in COLUMNS)
         head += element("th", "Round", scope="col", class_="in-round") if self.laid else ""
         rows = "".join(self.row(number, kind) for number, kind in enumerate(kinds, 1))
-        caption = element("caption", f'Every leg at ceiling <span id="at">{first.ceiling}</span>, and the bound if it were required or struck')
+        caption = f'Every leg at ceiling <span id="at">{first.ceiling}</span>, and the bound if it were required or struck'
         without = "<noscript><p>Without scripts the page stays at its highest ceiling; the column 'Ruled' says what lower ones do.</p></noscript>"
-        table = element("table", caption + element("thead", element("tr", head)) + element("tbody", rows))
+        table = element("table", element("caption", caption) + element("thead", element("tr", head)) + element("tbody", rows))
         return without + element("div", table, class_="table", id="table", role="region", tabindex="0", aria_label="Every leg, as a table")
 
     def row(self, number: int, kind: str) -> str:
@@ -269,9 +270,9 @@ class Page:
 
     def about(self) -> str:
         """What the words and the keys mean, and where the numbers come from."""
-        source = "Every number on this page was answered by proved calls of the planner's library when the page was written; the page itself computes none."
+        source = "Every cost, bound and ruling on this page was answered by proved calls of the planner's library when it was written; it computes none."
         switch = '<label><input type="checkbox" id="keys" checked> Keys work wherever the focus is</label>'
-        keys = element("h2", "Keys") + defined(KEYS) + element("p", switch)
+        keys = element("h2", "Keys") + defined({key: does for key, does in KEYS.items() if self.laid or key != "R"}) + element("p", switch)
         low, high = self.stops[-1].ceiling, self.stops[0].ceiling
         reach = f"Ceilings {low} to {high} can be shown. What is ruled stays ruled under every lower ceiling, until the sea is dead."
         words = element("h2", "Words") + defined(MEANINGS)

@@ -26,7 +26,7 @@ body { margin: 0; }
 h1, h2, p, figure, dl, dd, ul { margin: 0; padding: 0; }
 h1 { font-size: 1.25rem; overflow-wrap: anywhere; }
 h2 { font-size: 1rem; }
-.skip { position: absolute; left: -200vw; }
+.skip, .unseen { position: absolute; left: -200vw; }
 .skip:focus { left: 0.5rem; top: 0.5rem; z-index: 9; padding: 0.5rem; background: #fff; outline: 3px solid #14213d; }
 .screen { display: flex; flex-direction: column; gap: 0.6rem; padding: 0.6rem 0.8rem; }
 .strip { display: flex; flex-wrap: wrap; align-items: center; gap: 0.4rem 1.2rem; }
@@ -116,7 +116,7 @@ kbd { font: inherit; font-weight: bold; }
 @media print {
   :root { font-size: 10pt; }
   .strip header { max-width: none; }
-  .controls, .skip, .live .controls, .live .card, .keys { display: none; }
+  .controls, .skip, .unseen, .live .controls, .live .card, .keys { display: none; }
   .screen, main, aside, .about { display: block; padding: 0; }
   #sea { max-height: 15cm; print-color-adjust: exact; -webkit-print-color-adjust: exact; }
   .table { overflow: visible; border: 0; margin-top: 0.5rem; }

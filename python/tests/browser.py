@@ -1,4 +1,9 @@
-"""A headless Chromium to look at pages with, from Debian's packages, spoken to over two pipes (its DevTools protocol): no port, no other package."""
+"""A headless Chromium to look at pages with, from Debian's packages, spoken to over two pipes (its DevTools protocol): no port, no other package.
+
+    python3 python/tests/browser.py PAGE.html OUT.png KEY ..
+
+presses keys on a page and takes a picture of it. So docs/page.png is made, of examples/sea.txt, with PageDown*9 r Tab*28 Enter.
+"""
 from __future__ import annotations
 
 import base64
@@ -15,7 +20,7 @@ from pathlib import Path
 NAMES = ("chromium", "chromium-browser", "chromium-headless-shell", "google-chrome")
 PACKAGE = "chromium"
 PATIENCE = 60  # seconds for one answer
-INSTALLING = 300  # seconds for a package
+INSTALLING = 240  # seconds for what apt-get does
 # What a browser does of its own accord is turned off, so that a request that is seen is the page's.
 QUIET = (
     "--headless", "--no-sandbox", "--disable-gpu", "--disable-dev-shm-usage", "--no-first-run", "--disable-extensions", "--disable-sync",
@@ -39,9 +44,10 @@ def chromium() -> str | None:
     if found() is None and shutil.which("apt-get") and os.geteuid() == 0:
         print(f"{PACKAGE} is missing: it is installed from Debian's packages", file=sys.stderr, flush=True)
         environment = {**os.environ, "DEBIAN_FRONTEND": "noninteractive"}
-        for words in (("update",), ("install", "-y", "--no-install-recommends", PACKAGE)):
+        apt = ["apt-get", "-q", "-o", "DPkg::Lock::Timeout=60"]
+        for words in (["update"], ["install", "-y", "--no-install-recommends", PACKAGE]):
             try:
-                subprocess.run(["apt-get", "-q", *words], env=environment, stdin=subprocess.DEVNULL, capture_output=True, timeout=INSTALLING, check=True)
+                subprocess.run([*apt, *words], env=environment, stdin=subprocess.DEVNULL, capture_output=True, timeout=INSTALLING, check=True)
             except (OSError, subprocess.SubprocessError):
                 break
     return found()
@@ -66,7 +72,7 @@ class Browser:
         os.close(to_browser)
         os.close(from_browser)
         os.set_blocking(self.read, False)
-        self.number, self.session, self.rest = 0, "", b""
+        self.number, self.session, self.rest = 0, "", b""  # of the last call; of the page; of a message that is not whole yet
         self.requests: list[str] = []
         self.complaints: list[str] = []
         self.loaded = False
@@ -170,9 +176,9 @@ class Browser:
         """Whether pages opened from now on may run scripts."""
         self.ask("Emulation.setScriptExecutionDisabled", value=not allowed)
 
-    def size(self, width: int, height: int) -> None:
-        """The window's size."""
-        self.ask("Emulation.setDeviceMetricsOverride", width=width, height=height, deviceScaleFactor=1, mobile=False)
+    def size(self, width: int, height: int, scale: float = 1) -> None:
+        """The window's size, and how large its pictures are."""
+        self.ask("Emulation.setDeviceMetricsOverride", width=width, height=height, deviceScaleFactor=scale, mobile=False)
 
     def picture(self) -> bytes:
         """A PNG of the window."""
@@ -181,3 +187,20 @@ class Browser:
     def printed(self) -> bytes:
         """A PDF of the page, as it is printed."""
         return base64.b64decode(self.ask("Page.printToPDF", preferCSSPageSize=True, paperWidth=8.27, paperHeight=11.69)["data"])
+
+
+def main(page: str, out: str, *keys: str) -> None:
+    """A picture of a page after these keys, `KEY*4` being four times."""
+    browser = Browser()
+    browser.size(1280, 720, 0.7)
+    browser.open(Path(page).resolve())
+    for key in keys:
+        name, _, times = key.partition("*")
+        browser.key(name, int(times or 1))
+    time.sleep(0.5)  # until lines have the width that they are going to have
+    Path(out).write_bytes(browser.picture())
+    browser.close()
+
+
+if __name__ == "__main__":
+    main(*sys.argv[1:])

@@ -135,7 +135,7 @@ class Usage(unittest.TestCase):
         out, _, status = command("--help")
         self.assertEqual(status, 0)
         names = re.findall(r"^    (\w+) ", out, re.MULTILINE)
-        self.assertEqual(names, ["solve", "rule", "tree", "preview", "regrade", "convert", "draw", "calls"])
+        self.assertEqual(names, ["solve", "rule", "tree", "preview", "regrade", "convert", "draw", "page", "calls"])
         for name in names:
             out, complaints, status = command(name, "--help")
             self.assertEqual((out.startswith(f"usage: planner {name} "), complaints, status), (True, "", 0))
@@ -151,6 +151,7 @@ class Usage(unittest.TestCase):
                       ("convert", "examples/four.txt"), ("preview", "examples/four.txt", 1), ("preview", "examples/four.txt", "x", 1),
                       ("preview", "examples/four.txt", 1, "free"), ("preview", "examples/four.txt", 1, 2**32),
                       ("convert", "examples/four.txt", "-", "--to", "tapes"), ("solve", "examples/four.txt", "--nodes", -1), ("draw",),
+                      ("page",), ("page", "examples/four.txt", "b.html"), ("page", "examples/four.txt", "--low", "x"),
                       (long,)):  # fmt: skip
             out, complaints, status = command(*words)
             self.assertEqual((out, complaints.count("\n"), status), ("", 1, 2), words)
@@ -167,7 +168,7 @@ class Usage(unittest.TestCase):
                                   (empty, "the file is empty; allowed is a sea as a table, a chart's bytes, CSV or TSPLIB"),
                                   (line, "No such file or directory")):  # fmt: skip
                 shown = str(path).replace("\n", "?")
-                for words in (("solve", path), ("tree", path), ("rule", path, "--ceiling", 1), ("draw", path), ("convert", path, "-")):
+                for words in (("solve", path), ("tree", path), ("rule", path, "--ceiling", 1), ("draw", path), ("page", path), ("convert", path, "-")):
                     self.assertEqual(command(*words), ("", f"{shown}: {message}\n", 2))
             self.assertEqual(command("calls", folder), ("", f"{folder}: Is a directory\n", 2))
             self.assertEqual(command("calls", f"{folder}/none"), ("", f"{folder}/none: No such file or directory\n", 2))
@@ -219,7 +220,7 @@ class Lost(unittest.TestCase):
         "solve examples/four.txt", "solve examples/four.txt --json", "rule examples/four.txt --ceiling 12", "tree examples/four.txt",
         "regrade examples/regrade",
         "regrade examples/regrade --csv", "regrade examples/regrade --json", "convert examples/four.txt -",
-        "convert examples/four.txt - --to chart", "draw examples/four.txt",
+        "convert examples/four.txt - --to chart", "draw examples/four.txt", "page examples/four.txt",
         "--help", "solve --help", "calls <<< tell", "calls --json <<< tell",
     )  # fmt: skip
 
@@ -228,14 +229,14 @@ class Lost(unittest.TestCase):
             verb, *given = words.split(" <<< ")
             said = shell(f"./planner {verb} > /dev/full" + (f" <<< {given[0]}" if given else ""))
             self.assertEqual(said, ("planner: standard output: No space left on device\n", 4), words)
-        for words in ("convert examples/four.txt /dev/full --to csv", "draw examples/four.txt /dev/full"):
+        for words in ("convert examples/four.txt /dev/full --to csv", "draw examples/four.txt /dev/full", "page examples/four.txt -o /dev/full"):
             self.assertEqual(shell(f"./planner {words}"), ("planner: /dev/full: No space left on device\n", 4))
         self.assertEqual(shell("./planner solve examples/four.txt > /dev/full 2> /dev/full"), ("", 4))
 
     def test_nothing_half_written(self):
         """A limit on the size of files stands for a disk that fills up while a file is written."""
         with tempfile.TemporaryDirectory() as folder:
-            for words in (f"draw examples/sea.txt {folder}/x.svg", f"convert examples/regrade/gulf.txt {folder}/x.csv"):
+            for words in (f"draw examples/sea.txt {folder}/x.svg", f"page examples/sea.txt -o {folder}/x.html", f"convert examples/regrade/gulf.txt {folder}/x.csv"):
                 out = words.split()[-1]
                 self.assertEqual(shell(f"ulimit -f 1; ./planner {words}"), (f"planner: {out}: File too large\n", 4))
                 self.assertEqual(os.listdir(folder), [])

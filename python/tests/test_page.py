@@ -16,10 +16,12 @@ from unittest import mock
 import planner
 from browser import Browser, chromium
 from planner.drawing import STYLES
+from planner.library import CEILINGS
 from planner.page import NOTHING, WORDS, Page
 from planner.showing import Showing, Stop
-from support import FOUR, distances, planner as command, random_graph
+from support import EXAMPLES, FOUR, ROOT, distances, planner as command, random_graph
 
+SEA = planner.load(EXAMPLES / "sea.txt")
 SAFE = 2**53 - 1  # whole numbers up to here are exact in a script
 
 
@@ -129,7 +131,7 @@ class Facts(unittest.TestCase):
                 elif leg["from"] == "in the chart":
                     self.assertNotEqual(edge.mark, planner.FREE)
                 elif leg["from"].endswith(" always"):
-                    self.assertEqual(words_at(graph, 50_000_000, dues)[number - 1], leg["from"].split()[0])
+                    self.assertEqual(words_at(graph, CEILINGS[-1], dues)[number - 1], leg["from"].split()[0])
                 else:
                     self.assertEqual(leg["from"], "never" if now else NOTHING)
                     self.assertEqual(words_at(graph, now.bound, dues)[number - 1] if now else "dead", "kept" if now else "dead")
@@ -139,10 +141,10 @@ class Facts(unittest.TestCase):
         for graph, _ in seas(random.Random(33), 40):
             showing = Showing(graph)
             high, low = showing.ends(None, None)
-            highest = planner.rule(graph, 50_000_000)
+            highest = planner.rule(graph, CEILINGS[-1])
             self.assertEqual(planner.rule(graph, high), highest)
             if highest is None:
-                self.assertEqual((high, low), (50_000_000, 50_000_000))
+                self.assertEqual((high, low), (CEILINGS[-1], CEILINGS[-1]))
             else:
                 self.assertNotEqual(planner.rule(graph, high - 1), highest)
                 self.assertEqual([planner.rule(graph, ceiling) is None for ceiling in (low + 1, low)], [False, True])
@@ -155,19 +157,22 @@ class Facts(unittest.TestCase):
 
     def test_words(self):
         page = page_of(FOUR)
-        self.assertEqual([page.says(stop) for stop in page.stops][::5], ["0 forced, 0 barred, 6 kept.", "Dead: the bound 10 is above the ceiling, so no round costs so little."])
+        first, *_, last = map(page.says, page.stops)
+        self.assertEqual(first, "0 forced, 0 barred, 6 kept.")
+        self.assertEqual(last, "Dead: the bound 10 is above the ceiling, so no round costs so little.")
         self.assertEqual([page.news(stop) for stop in page.stops],
             ["", "New: forced 3-4.", "New: forced 2-3; barred 2-4.", "New: forced 1-3.", "New: forced 1-2; barred 1-4.", ""])  # fmt: skip
-        self.assertEqual(page_of(planner.Graph(3)).says(page_of(planner.Graph(3)).stops[0]), "Dead: there is no 1-tree, so there is no round.")
+        page = page_of(planner.Graph(3))
+        self.assertEqual(page.says(page.stops[0]), "Dead: there is no 1-tree, so there is no round.")
         full = planner.Graph(20, [(a, b, 5 if a == 1 else 1) for a, b in itertools.combinations(range(1, 21), 2)])
-        longest = max((page.news(stop) for page in [page_of(full)] for stop in page.stops), key=len)
-        self.assertLess(len(longest), 200)
+        page = page_of(full)
+        self.assertLess(max(len(page.news(stop)) for stop in page.stops), 200)
 
 
 class Files(unittest.TestCase):
     def test_needs_nothing(self):
         """One file: nothing is fetched, and its own policy forbids it; style and script are those that the policy knows."""
-        for graph in (FOUR, planner.load("examples/sea.txt"), planner.Graph(3)):
+        for graph in (FOUR, SEA, planner.Graph(3)):
             page = page_of(graph).html()
             for word in ("http:", "https:", "url(", "@import", "src=", "import(", "fetch", "XMLHttp", "eval("):
                 self.assertNotIn(word, page)
@@ -176,10 +181,12 @@ class Files(unittest.TestCase):
             self.assertLessEqual({tag for tag, _ in elements.met}, set(
                 "html head meta title style body a div header h1 h2 p input button form label figure svg rect g line path circle text ul li span b main "
                 "aside section select option dl dt dd table caption thead tbody tr th td noscript footer script".split()))  # fmt: skip
-            self.assertFalse([attributes for _, attributes in elements.met if "style" in attributes or any(name.startswith("on") for name in attributes)])
+            names = {name for _, attributes in elements.met for name in attributes}
+            self.assertFalse([name for name in names if name == "style" or name.startswith("on")])
             policy = next(attributes["content"] for _, attributes in elements.met if "http-equiv" in attributes)
-            known = ["'sha256-" + base64.b64encode(hashlib.sha256(text.encode()).digest()).decode() + "'" for text in (elements.texts["style"], elements.texts["script"])]
-            self.assertEqual(policy, f"default-src 'none'; style-src {known[0]}; script-src {known[1]}; base-uri 'none'; form-action 'none'")
+            look, does = (base64.b64encode(hashlib.sha256(elements.texts[tag].encode()).digest()).decode() for tag in ("style", "script"))
+            self.assertEqual(policy,
+                f"default-src 'none'; style-src 'sha256-{look}'; script-src 'sha256-{does}'; base-uri 'none'; form-action 'none'")  # fmt: skip
 
     def test_names(self):
         """Whatever a file is called, it is shown and ends nothing."""
@@ -213,7 +220,7 @@ class Files(unittest.TestCase):
         stops = [Stop(limit, planner.rule(FOUR, 20), ()), Stop(limit - 1, planner.rule(FOUR, 14), (6,)), Stop(-limit, None, ())]
         facts = Page("t", Showing(FOUR), None, stops).facts()
         self.assertEqual([stop["ceiling"] for stop in facts["stops"]], [limit, limit - 1, -limit])
-        self.assertTrue(all(abs(end) <= SAFE for end in (*planner.library.CEILINGS[:1], *planner.library.CEILINGS[-1:], limit)))
+        self.assertTrue(all(abs(end) <= SAFE for end in (CEILINGS[0], CEILINGS[-1], limit)))
 
     def test_command(self):
         """The same file each time; on standard output too."""
@@ -222,7 +229,7 @@ class Files(unittest.TestCase):
             self.assertEqual(command("page", "examples/sea.txt", "-o", out), ("", "", 0))
             written = out.read_text("utf-8")
             self.assertEqual(command("page", "examples/sea.txt"), (written, "", 0))
-            self.assertEqual(command("page", "-", given=Path("examples/sea.txt").read_text("utf-8"))[0], written.replace("sea.txt", "standard input"))
+            self.assertEqual(command("page", "-", given=(EXAMPLES / "sea.txt").read_text("utf-8"))[0], written.replace("sea.txt", "standard input"))
             stops = Elements(written).facts["stops"]
             self.assertEqual((stops[0]["ceiling"], stops[-1]["ceiling"], stops[-1]["rulings"]), (380, 333, None))
             self.assertEqual(command("page", "examples/sea.txt", "-o", out, "--high", 350, "--low", 340, "--no-round"), ("", "", 0))
@@ -231,6 +238,12 @@ class Files(unittest.TestCase):
             self.assertEqual((elements.facts["round"], "lay" in elements.texts), (None, False))
             self.assertEqual(command("page", "examples/four.txt", "-o", out, "--dues", "0,0,1,-1")[2], 0)
             self.assertEqual(Elements(out.read_text("utf-8")).texts["bound"], "12")
+
+    def test_picture_of_it(self):
+        """README shows one, and it is small."""
+        self.assertTrue("](docs/page.png)" in (ROOT / "README.md").read_text("utf-8"))
+        picture = (ROOT / "docs/page.png").read_bytes()
+        self.assertEqual((picture[:8], len(picture) < 150_000), (b"\x89PNG\r\n\x1a\n", True))
 
     def test_faults(self):
         with tempfile.TemporaryDirectory() as folder:
@@ -244,28 +257,31 @@ class Files(unittest.TestCase):
             out = Path(folder, "out.html")
             for words, said in (
                 (("--high", 9, "--low", 20), "--high 9 --low 20: allowed is a lowest ceiling that is not above the highest\n"),
-                (("--high", 50000001), "examples/four.txt: refused 13 at 0: ceiling out of range\n"),
-                (("--low", -50000001), "examples/four.txt: refused 13 at 0: ceiling out of range\n"),
+                (("--high", CEILINGS[-1] + 1), "examples/four.txt: refused 13 at 0: ceiling out of range\n"),
+                (("--low", CEILINGS[0] - 1), "examples/four.txt: refused 13 at 0: ceiling out of range\n"),
                 (("--dues", "1,0,0,0"), "examples/four.txt: refused 12 at 0: a due out of range, or the first not 0\n"),
-                (("--high", "x"), f"planner page: argument --high: ceiling 'x' is not a whole number; allowed is {-2**63} to {2**63 - 1}; see planner page --help\n"),
+                (("--high", "x"), f"planner page: argument --high: ceiling 'x' is not a whole number; allowed is {-2**63} to {2**63 - 1}; "
+                    "see planner page --help\n"),
             ):  # fmt: skip
                 self.assertEqual(command("page", "examples/four.txt", "-o", out, *words), ("", said, 2))
                 self.assertFalse(out.exists())
-            self.assertEqual(command("page", "examples/regrade/loop.chart", "-o", out)[1:], ("examples/regrade/loop.chart: refused 6 at 3: record met before\n", 2))
-            given = "buoys 3\nat 1 0 0\n1-2 1\n1-3 1\n2-3 1\n"
-            self.assertEqual(command("page", "-", "-o", out, given=given)[1:], ("standard input: buoy 2 has no line 'at'; allowed are positions for all buoys or for none\n", 2))
+            said = command("page", "examples/regrade/loop.chart", "-o", out)[1:]
+            self.assertEqual(said, ("examples/regrade/loop.chart: refused 6 at 3: record met before\n", 2))
+            said = command("page", "-", "-o", out, given="buoys 3\nat 1 0 0\n1-2 1\n1-3 1\n2-3 1\n")[1:]
+            self.assertEqual(said, ("standard input: buoy 2 has no line 'at'; allowed are positions for all buoys or for none\n", 2))
             self.assertFalse(out.exists())
 
     def test_answers(self):
         """No round, an undecided one and a sea that is dead at once are written, and the status says so."""
         with tempfile.TemporaryDirectory() as folder:
             out = Path(folder, "out.html")
-            for words, said, status, in_it in (
-                (("examples/regrade/split.txt",), "examples/regrade/split.txt: there is no round; written without one\n", 1, "there is no round"),
-                (("examples/regrade/gulf.txt", "--nodes", 0), "examples/regrade/gulf.txt: going on after 0 nodes; written without one\n", 3, "none costs 412 or less"),
-                (("examples/four.txt", "--high", 9), "examples/four.txt: dead at ceiling 9 already; written so\n", 1, "Dead: the bound 10 is above the ceiling"),
+            for name, words, said, status, in_it in (
+                ("regrade/split", (), "there is no round; written without one", 1, "there is no round"),
+                ("regrade/gulf", ("--nodes", 0), "going on after 0 nodes; written without one", 3, "none costs 412 or less"),
+                ("four", ("--high", 9), "dead at ceiling 9 already; written so", 1, "Dead: the bound 10 is above the ceiling"),
             ):
-                self.assertEqual(command("page", *words, "-o", out), ("", said, status))
+                file = f"examples/{name}.txt"
+                self.assertEqual(command("page", file, *words, "-o", out), ("", f"{file}: {said}\n", status))
                 self.assertIn(in_it, out.read_text("utf-8"))
                 out.unlink()
 
@@ -289,12 +305,20 @@ class InABrowser(unittest.TestCase):
     @classmethod
     def setUpClass(cls):
         if chromium() is None:
-            print("no Chromium here, and none can be installed: the page is not tried in a browser", file=sys.stderr)
-            raise unittest.SkipTest("no browser")
-        cls.browser = Browser()
+            cls.leave("no Chromium here, and none can be installed")
+        try:
+            cls.browser = Browser()
+        except (OSError, TimeoutError) as error:
+            cls.leave(f"Chromium does not start here ({error})")
         cls.addClassCleanup(cls.browser.close)
         cls.folder = tempfile.TemporaryDirectory()
         cls.addClassCleanup(cls.folder.cleanup)
+
+    @staticmethod
+    def leave(why):
+        """One line, and no test."""
+        print(f"{why}: the page is not tried in a browser", file=sys.stderr)
+        raise unittest.SkipTest(why)
 
     def show(self, page):
         """Opens a page in a window as large as a projector's picture."""
@@ -319,7 +343,12 @@ class InABrowser(unittest.TestCase):
         self.assertEqual((seen["dead"], seen["says"].startswith("Dead")), (words[:1] == ["dead"],) * 2 if words else (seen["dead"],) * 2)
         return seen
 
+    def box(self, what):
+        """Where something stands in the window: left, top, width, height."""
+        return self.browser.run(f"(({{ left, top, width, height }}) => [left, top, width, height])(document.querySelector({what!r}).getBoundingClientRect())")
+
     def text(self, name):
+        """The words of an element."""
         return self.browser.run(f"document.getElementById({name!r}).textContent")
 
     def over_every_change(self, page, said):
@@ -350,7 +379,7 @@ class InABrowser(unittest.TestCase):
 
     def test_every_change(self):
         """On the examples as the command `rule` prints it; on other seas as the call says it."""
-        for path in ("examples/sea.txt", "examples/four.txt"):
+        for path in (EXAMPLES / "sea.txt", EXAMPLES / "four.txt"):
             self.over_every_change(page_of(planner.load(path)), self.by_command(path))
         source = random.Random(35)
         ring = planner.Graph(4, [(1, 2, 3, 1), (2, 3, -4, 1), (3, 4, 5, 1), (1, 4, 6, 1), (1, 3, 1, 2)])
@@ -364,7 +393,7 @@ class InABrowser(unittest.TestCase):
 
     def test_looks(self):
         """Each ruling has its dash, its width and its colour, and what is ruled in lies on top."""
-        self.show(page_of(planner.load("examples/sea.txt"), 350))
+        self.show(page_of(SEA, 350))
         script = "(() => { const s = getComputedStyle(document.querySelector('.line.%s')); return [s.strokeDasharray, s.strokeWidth] })()"
         for kind in planner.RULINGS:
             wanted = dict(re.findall(r'([a-z-]+)="([^"]*)"', STYLES[kind][1]))
@@ -374,13 +403,13 @@ class InABrowser(unittest.TestCase):
         self.assertEqual(order, sorted(order, key=list(STYLES).index))
 
     def test_slider_by_pointer(self):
-        page = page_of(planner.load("examples/sea.txt"))
+        page = page_of(SEA)
         self.show(page)
         self.facts = page.facts()
-        box = self.browser.run("(() => { const r = document.getElementById('slider').getBoundingClientRect(); return [r.left, r.top, r.width, r.height] })()")
+        left, top, width, height = self.box("#slider")
         places = set()
         for share in (0.98, 0.5, 0.02):
-            self.browser.pointer(box[0] + share * box[2], box[1] + box[3] / 2, click=True)
+            self.browser.pointer(left + share * width, top + height / 2, click=True)
             stop = page.stops[int(self.browser.run("document.getElementById('slider').value"))]
             self.look(words_at(page.graph, stop.ceiling), stop.ceiling, stop.new)
             places.add(stop.ceiling)
@@ -430,8 +459,9 @@ class InABrowser(unittest.TestCase):
         self.assertLessEqual(*self.browser.run("[document.documentElement.scrollWidth, innerWidth]"))
 
     def test_keys(self):
-        self.show(page_of(planner.load("examples/sea.txt")))
-        for key, ceiling in (("End", 333), ("PageUp", 337), ("Home", 380), ("PageDown", 379), ("ArrowRight", 368), ("ArrowLeft", 379), ("ArrowDown", 368), ("ArrowUp", 379)):
+        self.show(page_of(SEA))
+        for key, ceiling in (("End", 333), ("PageUp", 337), ("Home", 380), ("PageDown", 379), ("ArrowRight", 368), ("ArrowLeft", 379),
+                             ("ArrowDown", 368), ("ArrowUp", 379)):  # fmt: skip
             self.browser.key(key)
             self.assertEqual(self.text("ceiling"), str(ceiling), key)
         self.browser.key("ArrowDown", modifiers=2)
@@ -453,7 +483,7 @@ class InABrowser(unittest.TestCase):
 
     def test_legs_by_key(self):
         """Tab from leg to leg, each with its cost and both previews; Enter and the space bar choose it, Escape lets it go."""
-        graph = planner.load("examples/sea.txt")
+        graph = SEA
         self.show(page_of(graph, 350))
         words = words_at(graph, 350)
         self.browser.run("document.getElementById('lay').focus()")
@@ -476,15 +506,20 @@ class InABrowser(unittest.TestCase):
 
     def test_legs_by_pointer(self):
         """A leg under the pointer is shown, also by its cost; a click keeps it, so does a click on its row and the list."""
-        graph = planner.load("examples/sea.txt")
+        graph = SEA
         self.show(page_of(graph))
-        middle = "(() => { const r = document.querySelector('#cost-%d rect').getBoundingClientRect(); return [r.left + r.width / 2, r.top + r.height / 2] })()"
         nobody = self.shown()[0]
+
+        def point(number, click=False):
+            left, top, width, height = self.box(f"#cost-{number} rect")
+            self.browser.pointer(left + width / 2, top + height / 2, click)
+
         for number in (1, 3, 24):
             edge = graph.edges[number - 1]
-            self.browser.pointer(*self.browser.run(middle % number))
-            self.assertEqual(self.shown(), [f"Leg {number}: {edge.a}-{edge.b}, cost {edge.cost}", words_at(graph, 380)[number - 1], *bounds(graph, number)])
-        self.browser.pointer(*self.browser.run(middle % 5), click=True)
+            point(number)
+            wanted = [f"Leg {number}: {edge.a}-{edge.b}, cost {edge.cost}", words_at(graph, 380)[number - 1], *bounds(graph, number)]
+            self.assertEqual(self.shown(), wanted)
+        point(5, click=True)
         self.browser.pointer(5, 5)
         self.assertEqual(self.shown()[0], "Leg 5: 2-3, cost 88")
         self.browser.key("PageDown")
@@ -498,7 +533,7 @@ class InABrowser(unittest.TestCase):
 
     def test_round(self):
         """R and the button lay the cheapest round and take it away, in the picture and in the table."""
-        self.show(page_of(planner.load("examples/sea.txt")))
+        self.show(page_of(SEA))
         bands = "getComputedStyle(document.getElementById('bands')).display"
         for press in (lambda: self.browser.key("r"), lambda: self.browser.run("document.getElementById('lay').click()")):
             self.assertEqual(self.browser.run(bands), "none")
@@ -523,7 +558,10 @@ class InABrowser(unittest.TestCase):
             place = f"http://127.0.0.1:{server.getsockname()[1]}/"
             script = """new Promise((done) => {
                 const stopped = [];
-                document.addEventListener("securitypolicyviolation", (event) => { stopped.push(event.effectiveDirective); if (stopped.length === 3) done(stopped.sort()); });
+                document.addEventListener("securitypolicyviolation", (event) => {
+                    stopped.push(event.effectiveDirective);
+                    if (stopped.length === 3) done(stopped.sort());
+                });
                 fetch("%s").catch(() => {});
                 const image = new Image(); image.src = "%s";
                 const script = document.createElement("script"); script.src = "%s"; document.body.append(script);
@@ -533,27 +571,29 @@ class InABrowser(unittest.TestCase):
             with self.assertRaises(TimeoutError):
                 server.accept()
 
+    def displayed(self, *parts):
+        """Those of these parts that are shown."""
+        return self.browser.run(f"{list(parts)}.filter((what) => getComputedStyle(document.querySelector(what)).display !== 'none')")
+
     def test_without_scripts(self):
         """The table and the picture at the highest ceiling, the round laid, and no control that does nothing."""
-        graph = planner.load("examples/sea.txt")
+        graph = SEA
         self.browser.scripts(False)
         try:
             self.show(page_of(graph, 350))
             rulings = self.browser.run("[...document.querySelectorAll('td.ruling')].map((cell) => cell.textContent)")
             self.assertEqual(rulings, words_at(graph, 350))
-            shown = "['.controls', '.card', '#sea', '#table', 'noscript', '#bands'].map((what) => getComputedStyle(document.querySelector(what)).display !== 'none')"
-            self.assertEqual(self.browser.run(shown), [False, False, True, True, True, True])
+            self.assertEqual(self.displayed(".controls", ".card", "#sea", "#table", "noscript", "#bands"), ["#sea", "#table", "noscript", "#bands"])
         finally:
             self.browser.scripts(True)
 
     def test_print(self):
         """On paper: the picture and the whole table at the present ceiling, and no control."""
-        self.show(page_of(planner.load("examples/sea.txt")))
+        self.show(page_of(SEA))
         self.browser.key("PageDown", 5)
         self.browser.ask("Emulation.setEmulatedMedia", media="print")
         try:
-            shown = "['.controls', '.card', '.keys', '#sea', '#table'].map((what) => getComputedStyle(document.querySelector(what)).display !== 'none')"
-            self.assertEqual(self.browser.run(shown), [False, False, False, True, True])
+            self.assertEqual(self.displayed(".controls", ".card", ".keys", "#sea", "#table"), ["#sea", "#table"])
             self.assertEqual(self.browser.run("getComputedStyle(document.getElementById('table')).overflow"), "visible")
             self.assertEqual(self.text("ceiling"), "356")
         finally:
@@ -562,15 +602,19 @@ class InABrowser(unittest.TestCase):
 
     def test_sizes(self):
         """On a projector all of it is in the window and large enough to be read; a narrow window scrolls down and not aside."""
-        graph = planner.load("examples/sea.txt")
+        graph = SEA
         self.show(page_of(graph))
-        inside = "['sea', 'ceiling', 'says', 'pick', 'table', 'slider', 'lay'].every((id) => { const r = document.getElementById(id).getBoundingClientRect(); return r.top >= 0 && r.bottom <= innerHeight && r.left >= 0 && r.right <= innerWidth })"
-        sizes = "['.number', '.cost text', '#says', 'td', '#ceiling'].map((what) => { const e = document.querySelector(what), m = e.getScreenCTM ? e.getScreenCTM().a : 1; return m * parseFloat(getComputedStyle(e).fontSize) })"
+        sizes = """['.number', '.cost text', '#says', 'td', '#ceiling'].map((what) => {
+            const part = document.querySelector(what), scale = part.getScreenCTM ? part.getScreenCTM().a : 1;
+            return scale * parseFloat(getComputedStyle(part).fontSize);
+        })"""
         for width, height in ((1280, 720), (1024, 768), (1920, 1080)):
             self.browser.size(width, height)
             for key in ("Home", "r", "End", "r"):
                 self.browser.key(key)
-                self.assertTrue(self.browser.run(inside), (width, height, key))
+                for part in ("#sea", "#ceiling", "#says", "#pick", "#table", "#slider", "#lay", ".legend"):
+                    left, top, wide, high = self.box(part)
+                    self.assertTrue(left >= 0 and top >= 0 and left + wide <= width and top + high <= height, (width, height, key, part))
             for least, size in zip((16, 14, 15, 12.5, 36), self.browser.run(sizes)):
                 self.assertGreater(size, least)
             self.assertLessEqual(*self.browser.run("[document.getElementById('table').scrollWidth, document.getElementById('table').clientWidth]"))
@@ -580,7 +624,7 @@ class InABrowser(unittest.TestCase):
 
     def test_everything_has_a_name(self):
         """Whatever can be operated says what it is to who cannot see it."""
-        self.show(page_of(planner.load("examples/sea.txt")))
+        self.show(page_of(SEA))
         nodes = self.browser.ask("Accessibility.getFullAXTree")["nodes"]
         roles = {"button": 0, "slider": 0, "textbox": 0, "combobox": 0, "checkbox": 0, "region": 0, "table": 0, "status": 0}
         for node in nodes:

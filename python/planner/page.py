@@ -77,6 +77,7 @@ class Page:
     def __init__(self, name: str, showing: Showing, answer: Answer | None, stops: Sequence[Stop]):
         self.name, self.showing, self.answer = shown(name), showing, answer
         self.graph, self.stops = showing.graph, stops
+        self.round = answer if answer and answer.verdict == "cost" else None  # that can be laid
         # At the lowest living ceiling everything is ruled that any ceiling rules, so that each cost that is ever wanted has its room.
         self.picture = Picture(name, self.graph, answer, showing.fullest, None)
         self.names = [f"{edge.a}-{edge.b}" for edge in self.graph.edges]
@@ -133,11 +134,6 @@ class Page:
             return f"round not found yet; none costs {self.answer.above} or less"
         return f"cheapest round: cost {self.answer.cost}" if self.answer.verdict == "cost" else "there is no round"
 
-    @property
-    def laid(self) -> bool:
-        """Whether there is a round to lay."""
-        return self.answer is not None and self.answer.verdict == "cost"
-
     # What the script looks up
 
     def facts(self) -> dict[str, object]:
@@ -148,7 +144,7 @@ class Page:
             "ranks": RANKS,
             "stops": [self.stop_facts(stop) for stop in self.stops],
             "legs": [self.leg_facts(number) for number in range(1, self.graph.m + 1)],
-            "round": self.answer.cost if self.laid and self.answer else None,
+            "round": self.round.cost if self.round else None,
             "laid": f"{self.round_words()}.",
         }
 
@@ -199,7 +195,7 @@ class Page:
         ])  # fmt: skip
         wanted = '<input class="field" id="wanted" inputmode="numeric" autocomplete="off" size="11" aria-describedby="fault">'
         typed = element("label", "Ceiling", for_="wanted") + wanted + element("button", "Set") + element("p", "", class_="fault", id="fault", role="alert")
-        lay = element("button", "Cheapest round (R)", type="button", id="lay", aria_pressed="false") if self.laid else ""
+        lay = element("button", "Cheapest round (R)", type="button", id="lay", aria_pressed="false") if self.round else ""
         controls = element("div", mover, class_="mover") + element("form", typed, class_="typed", id="typed") + lay
         return element("div", element("header", heading) + element("div", controls, class_="controls"), class_="strip")
 
@@ -209,9 +205,9 @@ class Page:
         says = f"The sea at ceiling {first.ceiling}. The table has the same facts."
         met = [kind for kind in reversed(STYLES) if any(kind in kinds_of(stop.found, self.graph.m) for stop in self.stops)]
         rows = [self.sample(kind, f'{WORDS[kind]} <b id="count-{kind}">{self.count(first, kind)}</b>') for kind in met]
-        if self.laid:
+        if self.round:
             rows.append(self.sample("round", f'{escape(self.round_words())}<span id="above"></span>', "in-round"))
-        notes = [*([self.round_words()] if self.answer and not self.laid else []), *self.picture.notes]
+        notes = [*([self.round_words()] if self.answer and not self.round else []), *self.picture.notes]
         said = "".join(element("p", escape(note), class_="note") for note in notes)
         return element("figure", self.picture.inside(first.found, says) + element("ul", "".join(rows), class_="legend") + said)
 
@@ -251,7 +247,7 @@ class Page:
         first = self.stops[0]
         kinds = kinds_of(first.found, self.graph.m)
         head = "".join(element("th", words, scope="col", class_=what) for what, words in COLUMNS)
-        head += element("th", "Round", scope="col", class_="in-round") if self.laid else ""
+        head += element("th", "Round", scope="col", class_="in-round") if self.round else ""
         rows = "".join(self.row(number, kind) for number, kind in enumerate(kinds, 1))
         caption = f'Every leg at ceiling <span id="at">{first.ceiling}</span>, and the bound if it were required or struck'
         without = "<noscript><p>Without scripts the page stays at its highest ceiling; the column 'Ruled' says what lower ones do.</p></noscript>"
@@ -264,15 +260,15 @@ class Page:
         cells = element("th", str(number), scope="row")
         for what, _ in COLUMNS[1:]:
             cells += element("td", escape(WORDS[kind] if what == "ruling" else leg[what]), class_=what)
-        if self.laid and self.answer:
-            cells += element("td", "yes" if number in self.answer.tour else NOTHING, class_="in-round")
+        if self.round:
+            cells += element("td", "yes" if number in self.round.tour else NOTHING, class_="in-round")
         return element("tr", cells, id=f"row-{number}", class_=kind, data_leg=number)
 
     def about(self) -> str:
         """What the words and the keys mean, and where the numbers come from."""
-        source = "Every cost, bound and ruling on this page was answered by proved calls of the planner's library when it was written; it computes none."
+        source = "Bounds, rulings and the round were answered by proved calls of the planner's library when this page was written; it computes none of them."
         switch = '<label><input type="checkbox" id="keys" checked> Keys work wherever the focus is</label>'
-        keys = element("h2", "Keys") + defined({key: does for key, does in KEYS.items() if self.laid or key != "R"}) + element("p", switch)
+        keys = element("h2", "Keys") + defined({key: does for key, does in KEYS.items() if self.round or key != "R"}) + element("p", switch)
         low, high = self.stops[-1].ceiling, self.stops[0].ceiling
         reach = f"Ceilings {low} to {high} can be shown. What is ruled stays ruled under every lower ceiling, until the sea is dead."
         words = element("h2", "Words") + defined(MEANINGS)

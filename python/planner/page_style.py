@@ -56,7 +56,7 @@ figure { display: flex; flex-direction: column; gap: 0.3rem; min-width: 0; }
 .dead .core { display: none; }
 .halo { stroke: none; stroke-width: 13; stroke-linecap: round; }
 .halo.new { stroke: #c2308c; stroke-opacity: 0.45; stroke-width: 13; }
-.halo.pointed, .halo.chosen { stroke: #14213d; stroke-opacity: 0.45; stroke-width: 14; }
+.halo.pointed, .halo.chosen { stroke: #14213d; stroke-opacity: 0.6; stroke-width: 14; }
 .hit { stroke: #000; stroke-opacity: 0; stroke-width: 16; pointer-events: stroke; outline: none; }
 .live .hit, .live .cost { cursor: pointer; }
 .buoy { fill: #fff; stroke: #14213d; stroke-width: 2.5; }

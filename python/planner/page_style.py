@@ -90,7 +90,7 @@ aside { display: flex; flex-direction: column; gap: 0.6rem; min-width: 0; }
 .table { overflow: auto; border: 2px solid #14213d; border-radius: 0.5rem; }
 table { width: 100%; border-collapse: separate; border-spacing: 0; font-size: 0.8rem; font-variant-numeric: tabular-nums; }
 caption { padding: 0.2rem 0.6rem; text-align: left; font-weight: bold; }
-th, td { padding: 0.12rem 0.26rem; text-align: right; white-space: nowrap; border-top: 1px solid #c3ccd6; }
+th, td { padding: 0.12rem 0.24rem; text-align: right; white-space: nowrap; border-top: 1px solid #c3ccd6; }
 thead th { position: sticky; top: 0; background: #14213d; color: #fff; font-size: 0.78rem; vertical-align: bottom; white-space: normal; line-height: 1.15; }
 td.ruling, td.from, th.ruling, th.from { text-align: left; }
 tr.force td.ruling, tr.required td.ruling { font-weight: bold; }
@@ -104,7 +104,7 @@ kbd { font: inherit; font-weight: bold; }
 
 @media screen and (min-width: 58rem) and (min-height: 30rem) {
   .live .screen { height: 100vh; }
-  main { flex: 1; min-height: 0; display: grid; grid-template: minmax(0, 1fr) / minmax(0, 1.38fr) minmax(25rem, 1fr); gap: 1rem; }
+  main { flex: 1; min-height: 0; display: grid; grid-template: minmax(0, 1fr) / minmax(0, 1.26fr) minmax(27rem, 1fr); gap: 1rem; }
   figure { min-height: 0; }
   .live #sea { flex: 1 1 0; }
   .live .state { min-height: 6.4rem; }

@@ -24,7 +24,7 @@ INSTALLING = 240  # seconds for what apt-get does
 # What a browser does of its own accord is turned off, so that a request that is seen is the page's.
 QUIET = (
     "--headless", "--no-sandbox", "--disable-gpu", "--disable-dev-shm-usage", "--no-first-run", "--disable-extensions", "--disable-sync",
-    "--disable-background-networking", "--disable-component-update", "--disable-default-apps", "--hide-scrollbars", "--mute-audio",
+    "--disable-background-networking", "--disable-component-update", "--disable-default-apps", "--mute-audio",
 )  # fmt: skip
 KEYS = {
     "ArrowLeft": 37, "ArrowUp": 38, "ArrowRight": 39, "ArrowDown": 40, "Home": 36, "End": 35, "PageUp": 33, "PageDown": 34, "Tab": 9,

@@ -71,6 +71,11 @@ def some(names: list[str]) -> str:
     return ", ".join(names[:MOST_NEW]) + more
 
 
+def unbroken(text: str) -> str:
+    """A text whose lines end between words and not within a leg's name."""
+    return " ".join(element("span", escape(word), class_="word") if "-" in word else escape(word) for word in text.split(" "))
+
+
 class Page:
     """All that is written of a graph: these ceilings from high to low, and the answer of a search where one was asked."""
 
@@ -208,7 +213,7 @@ class Page:
         if self.round:
             rows.append(self.sample("round", f'{escape(self.round_words())}<span id="above"></span>', "in-round"))
         notes = [*([self.round_words()] if self.answer and not self.round else []), *self.picture.notes]
-        said = "".join(element("p", escape(note), class_="note") for note in notes)
+        said = element("div", "".join(element("p", unbroken(note)) for note in notes), class_="notes") if notes else ""
         return element("figure", self.picture.inside(first.found, says) + element("ul", "".join(rows), class_="legend") + said)
 
     def count(self, stop: Stop, kind: str) -> object:

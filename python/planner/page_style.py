@@ -73,7 +73,8 @@ figure { display: flex; flex-direction: column; gap: 0.3rem; min-width: 0; }
 .legend li { display: flex; align-items: center; gap: 0.4rem; }
 .legend svg { width: 3rem; height: 1.3rem; flex: none; }
 .sample { fill: none; }
-.note { font-size: 0.85rem; }
+.notes { font-size: 0.85rem; }
+.word { white-space: nowrap; }
 aside { display: flex; flex-direction: column; gap: 0.6rem; min-width: 0; }
 .big { display: flex; flex-wrap: wrap; align-items: baseline; gap: 0 1.2rem; font-size: 1.15rem; }
 .big b { font-size: 2.5rem; line-height: 1.1; font-variant-numeric: tabular-nums; }
@@ -107,6 +108,7 @@ kbd { font: inherit; font-weight: bold; }
   main { flex: 1; min-height: 0; display: grid; grid-template: minmax(0, 1fr) / minmax(0, 1.26fr) minmax(27rem, 1fr); gap: 1rem; }
   figure { min-height: 0; }
   .live #sea { flex: 1 1 0; }
+  .live .notes { max-height: 4.8rem; overflow: auto; }
   .live .state { min-height: 6.4rem; }
   .live .card { min-height: 7.6rem; }
   aside { min-height: 0; }

@@ -114,6 +114,16 @@ class Facts(unittest.TestCase):
                 seen[kind] += sum(str(ruling) in (stop["rulings"] or "") for stop in stops)
         self.assertTrue(all(count > 20 for count in seen.values()), seen)
 
+    def test_no_change_is_missed(self):
+        """On large seas: just above each change all is as at the change before it."""
+        source = random.Random(37)
+        for graph in (distances(source, 20, 999), random_graph(source, costs=1_000_000), SEA):
+            stops = page_of(graph).stops
+            for stop, following in zip(stops, stops[1:]):
+                self.assertEqual(planner.rule(graph, following.ceiling + 1), stop.found)
+                self.assertEqual(planner.rule(graph, following.ceiling), following.found)
+            self.assertGreater(len(stops), 10)
+
     def test_legs(self):
         """Costs and both previews of every leg; and the ceilings at which it is ruled, by the call on both sides of the line."""
         source = random.Random(32)
@@ -465,9 +475,11 @@ class InABrowser(unittest.TestCase):
             self.browser.key(key)
             self.assertEqual(self.text("ceiling"), str(ceiling), key)
         self.browser.key("ArrowDown", modifiers=2)
-        self.browser.run("document.getElementById('table').focus()")
-        self.browser.key("ArrowDown")
-        self.assertEqual(self.text("ceiling"), "379")
+        for name in ("table", "wanted", "pick"):
+            self.browser.run(f"document.getElementById({name!r}).focus()")
+            for key in ("ArrowDown", "End") if name == "table" else ("ArrowDown", "End", "r"):
+                self.browser.key(key)
+        self.assertEqual((self.text("ceiling"), self.browser.run("document.documentElement.className")), ("379", "live"))
         self.browser.run("document.activeElement.blur(), document.getElementById('keys').click()")
         for key in ("ArrowDown", "End", "r"):
             self.browser.key(key)

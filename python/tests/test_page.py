@@ -17,7 +17,7 @@ import planner
 from browser import Browser, chromium
 from planner.drawing import STYLES
 from planner.library import CEILINGS
-from planner.page import NOTHING, WORDS, Page
+from planner.page import NOTHING, WORDS, Page, embedded
 from planner.showing import Showing, Stop
 from support import EXAMPLES, FOUR, ROOT, distances, planner as command, random_graph
 
@@ -206,7 +206,8 @@ class Files(unittest.TestCase):
         self.assertEqual(elements.texts["h1"], name)
         self.assertEqual(page.count("</script>"), 2)
         self.assertEqual(elements.facts["stops"][0]["ceiling"], 15)
-        self.assertNotIn("<", elements.texts["facts"])
+        self.assertFalse(set("<>&") & set(embedded(name)))
+        self.assertEqual(json.loads(embedded(name)), name)
         self.assertEqual(Elements(page_of(FOUR, name="W" * 300).html()).texts["h1"], "W" * 58 + "..")
 
     def test_without_scripts(self):
@@ -559,8 +560,9 @@ class InABrowser(unittest.TestCase):
             press()
         self.assertEqual(self.browser.run(bands), "none")
         self.browser.key("r")
-        self.browser.key("End")
-        self.assertEqual(self.text("above"), ", above this ceiling")
+        for ceiling, words in ((380, ""), (348, ""), (347, ", above this ceiling"), (333, ", above this ceiling")):
+            self.typed(str(ceiling))
+            self.assertEqual(self.text("above"), words)
 
     def test_no_request_can_leave(self):
         """What a page could ask for is stopped by its policy before it comes to anything: nobody calls at a port that listens."""

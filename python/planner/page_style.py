@@ -106,7 +106,6 @@ kbd { font: inherit; font-weight: bold; }
 @media screen and (min-width: 58rem) and (min-height: 30rem) {
   .live .screen { height: 100vh; }
   main { flex: 1; min-height: 0; display: grid; grid-template: minmax(0, 1fr) / minmax(0, 1.26fr) minmax(27rem, 1fr); gap: 1rem; }
-  figure { min-height: 0; }
   .live #sea { flex: 1 1 0; }
   .live .notes { max-height: 4.8rem; overflow: auto; }
   .live .state { min-height: 6.4rem; }

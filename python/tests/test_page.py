@@ -522,6 +522,7 @@ class InABrowser(unittest.TestCase):
         graph = SEA
         self.show(page_of(graph))
         nobody = self.shown()[0]
+        self.assertEqual(self.displayed("#shown-name", "#facts-of-leg"), ["#shown-name"])
 
         def point(number, click=False):
             left, top, width, height = self.box(f"#cost-{number} rect")

@@ -10,7 +10,7 @@ use lib.ListN.{length}
 use Rattle.lists.specs.Members.{_∈_}
 use Rattle.lists.specs.Distinct.{Distinct}
 use Rattle.spanning.specs.Walks.{Walk, label, label-idem, label-walk}
-use Rattle.spanning.specs.Components.{rank, Within, label-in, rank-roots}
+use Rattle.spanning.specs.Components.{rank, Within, Inside, label-in, rank-roots}
 use Rattle.spanning.specs.Roots.{roots, some-root, two-roots, one-root}
 
 module _ (p q : ℕ → ℕ) (vs es : List ℕ) (d : Distinct vs) (w : Within p q vs es) (r : ℕ) (m : r ∈ vs) where
@@ -40,3 +40,8 @@ module _ (p q : ℕ → ℕ) (vs es : List ℕ) (d : Distinct vs) (w : Within p 
           two =
               two-roots vs (label p q es) (label p q es u) (label p q es v)
               (label-in p q vs es w u i) (label-in p q vs es w v j) (label-idem p q es u) (label-idem p q es v)
+
+  -- and then no edge among these vertices joins two components
+  pub rank-inside : rank p q es + 1 ≡ length vs → (xs : List ℕ) → Within p q vs xs → Inside p q xs es
+  unfolding Inside
+  rank-inside h xs i e k = label-walk p q es (p e) (q e) .1 (rank-joined h (p e) (q e) (i e k .0) (i e k .1))

@@ -8,6 +8,7 @@ use Prim.Native.Nat.{ℕ, suc, _+_, _≤_}
 use native.Mathlib.Omega.{arith}
 use lib.ListN.{length}
 use Rattle.lists.specs.Bools.{bit}
+use Rattle.lists.specs.Members.{in-right}
 use Rattle.lists.specs.Select.{keep, select, select-in, select-append}
 use Rattle.lists.specs.Weights.{keep-length}
 use Rattle.lists.specs.Sets.{NumberSet}
@@ -99,6 +100,20 @@ module _ (p q : ℕ → ℕ) where
   pub greedy-all : (es : List ℕ) → Forest es → greedy es ≡ es
   unfolding greedy Forest
   greedy-all es h = choose-full (joins p q) es (greedy-length es ∙ h)
+
+  -- of edges within the components of those behind it takes none
+  pub greedy-idle : (xs es : List ℕ) → Inside p q xs es → greedy (xs ++ es) ≡ greedy es
+  unfolding greedy choose Inside
+  greedy-idle [] es h = refl
+  greedy-idle (x ∷ xs) es h = go (joins-is p q (xs ++ es) x) (greedy-idle xs es (λ e m. h e (inr m)))
+    where
+      same : label p q (xs ++ es) (p x) ≡ label p q (xs ++ es) (q x)
+      same = inside-label p q es (xs ++ es) (sub-inside p q es (xs ++ es) (λ k m. in-right k xs es m)) (p x) (q x) (h x (inl refl))
+
+      go : Joining p q (xs ++ es) x (joins p q (xs ++ es) x) → greedy (xs ++ es) ≡ greedy es
+          → keep (joins p q (xs ++ es) x) x (greedy (xs ++ es)) ≡ greedy es
+      go (inl k) below = absurd (k .1 same)
+      go (inr k) below = rw (k .0) below
 
   -- no forest has more edges among those looked at
   pub greedy-dominates : (t : NumberSet) (base es : List ℕ) → Forest (select t (es ++ base)) → Dominates (joins p q) t base es

@@ -3,6 +3,8 @@
 pub mod Inputs
 pub mod OneTree
 pub mod Enumeration
+-- and of document 02's C-12 at how many edges the loop looks that joins the vertices
+pub mod Looked
 -- What follows is proved, or says what code knows.
 -- the values are what the words say, and the only such
 pub mod Agree
@@ -18,6 +20,8 @@ pub mod Weight
 pub mod Minimum
 pub mod Exchange
 pub mod Criteria
+-- at how many edges the loop looks is one number, told by rank
+pub mod Looking
 -- a graph value's arrays and the lists beside it, as code has them
 pub mod Arrays
 pub mod Multipliers

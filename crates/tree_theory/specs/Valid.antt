@@ -56,6 +56,11 @@ length-others g h = but-one (g .n) h
 
 -- ---- marks
 
+abbrev pub isFree : Mark → Bool
+isFree free = true
+isFree required = false
+isFree excluded = false
+
 abbrev pub isRequired : Mark → Bool
 isRequired free = false
 isRequired required = true

@@ -12,6 +12,7 @@ pub mod Sorting
 pub mod Falling
 pub mod Keys
 pub mod Making
+pub mod Hinting
 -- the greedy choice, edge by edge
 pub mod Relabelling
 pub mod Growth
@@ -20,3 +21,5 @@ pub mod ChoiceSoFar
 pub mod Queue
 pub mod Required
 pub mod Kruskal
+-- and that the loop may end as soon as the vertices are connected; at how many edges it then looked
+pub mod Stopping

@@ -1,23 +1,25 @@
-// The greedy choice: of the edges in order, the first two at vertex 1, and of the others each that joins two components.
+// The greedy choice: of the edges at vertex 1 the first two, and of the others, in order, each that joins two components.
 ghost use mathlib.Core.Path.{_≡_};
 ghost use mathlib.Core.Bool.{cond};
-ghost use Prim.Native.Nat.{ℕ, _+_, _%_, _<_, _≤_, min, max};
+ghost use Prim.Native.Nat.{ℕ, _+_, _*_, _%_, _<_, _≤_, min, max};
 ghost use lib.Dec.{eqb};
 ghost use lib.ListN.{length, getD};
 ghost use Rattle.lists.specs.Bools.{Says};
 ghost use Rattle.graph.specs.Limits.{maxEdges};
 ghost use Rattle.spanning.specs.Walks.{relabel};
-ghost use Rattle.greedy.specs.ChoiceSoFar.{Joins, ChoiceByEnds};
+ghost use Rattle.greedy.specs.Charged.{maxCharge};
+ghost use Rattle.greedy.specs.ChoiceSoFar.{Joins, ChoiceByEnds, TwoTaken};
 ghost use Rattle.greedy.specs.Required.{Small};
+ghost use Rattle.greedy.specs.Stopping.{LooksAsSaid};
 use crate::MAX_LABELS;
 use crate::charges::long;
 use crate::order::place;
 use graph::MAX_EDGES;
 use graph::wide;
 
-// What the greedy choice came to: how many edges at vertex 1 it met, how many others it took, and the sum of the charges of those taken.
+// What the greedy choice among the edges away from vertex 1 came to: the turn that is next, how many it took, and the sum of their charges.
 pub(crate) struct Grown {
-    pub near: usize,
+    pub next: usize,
     pub far: usize,
     pub sum: u64,
 }
@@ -87,72 +89,94 @@ pub(crate) fn required(keys: &[u32; MAX_EDGES], f: usize) -> usize
     i
 }
 
-// From the key at `from` to that before `to`, onto what t says of those before: the labels l, and one byte an edge in w.
+// From the key at t .next to that before `to`, onto what t says of those before: the labels l, and one byte an edge in w. It ends as soon as
+// `enough` edges are taken.
 pub(crate) fn grow<'a>(
     a: &'a [u8; MAX_EDGES],
     b: &'a [u8; MAX_EDGES],
     c: &'a [u32; MAX_EDGES],
     keys: &'a [u32; MAX_EDGES],
-    from: usize,
     to: usize,
+    enough: usize,
     t: Grown,
     l: &mut [u8; MAX_LABELS],
     w: &mut [u8; MAX_EDGES],
 ) -> Grown
-    requires { ⌜ (from ≤ to) × (to ≤ maxEdges) × ((i : ℕ) → i < to → Joins (now a) (now b) (now c) (getD (now keys) i 0 % 256))
-        × ChoiceByEnds (now a) (now b) (now c) (now keys) to from (now l) (now w) (t .near) (t .far) (t .sum) ⌝ }
-    ensures { λ r. ⌜ ChoiceByEnds (now (a .entry)) (now (b .entry)) (now (c .entry)) (now (keys .entry)) to to
-        (now (l .exit)) (now (w .exit)) (r .near) (r .far) (r .sum) ⌝ }
+    requires { ⌜ (t .next ≤ to) × (to ≤ maxEdges) × ((i : ℕ) → i < to → Joins (now a) (now b) (now c) (getD (now keys) i 0 % 256))
+        × ChoiceByEnds (now a) (now b) (now c) (now keys) to (t .next) (now l) (now w) (t .far) (t .sum) ⌝ }
+    ensures { λ r. ⌜ ChoiceByEnds (now (a .entry)) (now (b .entry)) (now (c .entry)) (now (keys .entry)) to (r .next)
+        (now (l .exit)) (now (w .exit)) (r .far) (r .sum)
+        × LooksAsSaid (now (a .entry)) (now (b .entry)) (now (c .entry)) (now (keys .entry)) to enough (t .next) (r .next)
+        × (t .next ≤ r .next) × (r .next ≤ to) × (r .next < to → enough ≤ r .far) ⌝ }
 {
-    let mut near = t.near;
     let mut far = t.far;
     let mut sum = t.sum;
-    let mut i = from;
+    let mut i = t.next;
     while i < to {
+        if far >= enough {
+            break;
+        }
         let k = place(keys[i]);
-        let u = wide(a[k]);
-        let v = wide(b[k]);
-        if u == 1 {
-            if near < 2 {
-                w[k] = 1;
-                sum = sum + long(c[k]);
-            }
-            near = near + 1;
-        } else {
-            let x = l[u];
-            let y = l[v];
-            if x != y {
-                join(l, x, y);
-                w[k] = 1;
-                sum = sum + long(c[k]);
-                far = far + 1;
-            }
+        let x = l[wide(a[k])];
+        let y = l[wide(b[k])];
+        if x != y {
+            join(l, x, y);
+            w[k] = 1;
+            sum = sum + long(c[k]);
+            far = far + 1;
         }
         i = i + 1;
     }
     Grown {
-        near: near,
+        next: i,
         far: far,
         sum: sum,
     }
 }
 
-// Is what was taken a 1-tree? met: how many edges at vertex 1 there were to choose from; far: how many others were taken. All r required
-// edges must be among those taken: `first` of them were met at vertex 1, where two are taken, and `joined` of the others were taken.
-pub(crate) fn whole(n: usize, r: usize, first: usize, joined: usize, met: usize, far: usize) -> bool
-    requires { ⌜ (first ≤ maxEdges) × (joined ≤ maxEdges) × (far ≤ maxEdges) ⌝ }
-    ensures { λ any. ⌜ Says any ((2 ≤ met) × (far + 2 ≡ n) × (first ≤ 2) × (first + joined ≡ r)) ⌝ }
+// The first two of the f edges at vertex 1, or as many as there are, onto the others that are taken: one byte an edge in w, and the sum of charges.
+pub(crate) fn take_two<'a>(
+    c: &'a [u32; MAX_EDGES],
+    keys: &'a [u32; MAX_EDGES],
+    f: usize,
+    sum: u64,
+    w: &mut [u8; MAX_EDGES],
+) -> u64
+    requires { ⌜ (f ≤ maxEdges) × (sum ≤ maxCharge * maxEdges) × (length (now w) ≡ maxEdges)
+        × ((i : ℕ) → i < f → (getD (now keys) i 0 % 256 < maxEdges) × (getD (now c) (getD (now keys) i 0 % 256) 0 ≤ maxCharge)) ⌝ }
+    ensures { λ r. ⌜ TwoTaken (now (c .entry)) (now (keys .entry)) f (now (w .entry)) sum (now (w .exit)) r
+        × (length (now (w .exit)) ≡ maxEdges) × (r ≤ sum + maxCharge * f) ⌝ }
 {
-    if met < 2 {
+    let mut all = sum;
+    let mut i = 0;
+    while i < f {
+        if i == 2 {
+            break;
+        }
+        let k = place(keys[i]);
+        w[k] = 1;
+        all = all + long(c[k]);
+        i = i + 1;
+    }
+    all
+}
+
+// Is what was taken a 1-tree? near: how many edges at vertex 1 there were to choose two from, and must: how many of them are required; far: how many
+// others were taken. The r required ones among these were taken first, and all must have joined two components.
+pub(crate) fn whole(n: usize, near: usize, must: usize, far: usize, r: usize, joined: usize) -> bool
+    requires { ⌜ far ≤ maxEdges ⌝ }
+    ensures { λ any. ⌜ Says any ((2 ≤ near) × (far + 2 ≡ n) × (must ≤ 2) × (joined ≡ r)) ⌝ }
+{
+    if near < 2 {
         return false;
     }
     if far + 2 != n {
         return false;
     }
-    if first > 2 {
+    if must > 2 {
         return false;
     }
-    if first + joined != r {
+    if joined != r {
         return false;
     }
     true

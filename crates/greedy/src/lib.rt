@@ -1,9 +1,12 @@
 // The least 1-tree by the greedy choice, for every input; document 01's 'The 1-tree'.
 ghost use mathlib.Core.Path.{_≡_};
 ghost use lib.ListN.{length};
+ghost use Rattle.graph.specs.Network.{network};
 ghost use Rattle.graph.specs.Valid.{Valid, graphOf};
 ghost use Rattle.tree_theory.specs.Arrays.{blank};
+ghost use Rattle.tree_theory.specs.Inputs.{multiplier};
 ghost use Rattle.tree_theory.specs.Multipliers.{Ranged};
+ghost use Rattle.tree_theory.specs.Looked.{Looked};
 ghost use Rattle.greedy.specs.Least.{lists, nothingFor, Searched, LeastOrRefused};
 
 mod charges;
@@ -42,6 +45,12 @@ pub struct Found {
     pub live: usize,
 }
 
+// What was found, and at how many free edges the loop looked that joins the vertices other than vertex 1 (document 02, C-12).
+pub(crate) struct Outcome {
+    pub found: Found,
+    pub looked: usize,
+}
+
 // The least 1-tree, one byte an edge, into w, and the order in which edges were looked at, both blank before; the charges into c; and the
 // labels that required edges give the vertices into rep.
 pub(crate) fn find<'a>(
@@ -57,33 +66,43 @@ pub(crate) fn find<'a>(
     c: &mut [u32; MAX_EDGES],
     order: &mut [u8; MAX_EDGES],
     rep: &mut [u8; MAX_LABELS],
-) -> Found
+) -> Outcome
     requires { ⌜ Valid (graphOf n m (now a) (now b) (now cost) (now mark)) × Ranged (now multipliers) × (length (now multipliers) ≡ n)
         × (now w ≡ blank) × (now c ≡ blank) × (now order ≡ blank) ⌝ }
     ensures { λ r. ⌜ Searched (graphOf n m (now (a .entry)) (now (b .entry)) (now (cost .entry)) (now (mark .entry)))
-        (now (multipliers .entry)) r (lists (now (w .exit)) (now (c .exit)) (now (order .exit)) (now (rep .exit))) ⌝ }
+        (now (multipliers .entry)) (r .found) (lists (now (w .exit)) (now (c .exit)) (now (order .exit)) (now (rep .exit)))
+        × Looked (network (graphOf n m (now (a .entry)) (now (b .entry)) (now (cost .entry)) (now (mark .entry))))
+        (multiplier (now (multipliers .entry))) (r .looked) ⌝ }
 {
     charges::charges(a, b, cost, m, multipliers, c);
     let mut ks = [0u32; MAX_EDGES];
-    let f = order::order(mark, m, c, hint, &mut ks);
-    order::places(&ks, f, order);
-    let r = kruskal::required(&ks, f);
+    let mut ns = [0u32; MAX_EDGES];
+    let f = order::order(a, mark, m, c, hint, &mut ks, &mut ns);
+    order::places(&ks, f.far, 0, order);
+    order::places(&ns, f.near, f.far, order);
+    let r = kruskal::required(&ks, f.far);
     let mut l = kruskal::labels();
     let none = Grown {
-        near: 0,
+        next: 0,
         far: 0,
         sum: 0,
     };
-    let first = kruskal::grow(a, b, c, &ks, 0, r, none, &mut l, w);
+    let first = kruskal::grow(a, b, c, &ks, r, MAX_EDGES, none, &mut l, w);
     *rep = l;
-    let t = kruskal::grow(a, b, c, &ks, r, f, first, &mut l, w);
-    let any = kruskal::whole(n, r, first.near, first.far, t.near, t.far);
-    let lowest = charges::bound(t.sum, n, charges::total(multipliers));
-    Found {
+    let t = kruskal::grow(a, b, c, &ks, f.far, n - 2, first, &mut l, w);
+    let must = kruskal::required(&ns, f.near);
+    let sum = kruskal::take_two(c, &ns, f.near, t.sum, w);
+    let any = kruskal::whole(n, f.near, must, t.far, r, first.far);
+    let lowest = charges::bound(sum, n, charges::total(multipliers));
+    let found = Found {
         fault: 0,
         any: any,
         bound: lowest,
-        live: f,
+        live: f.far + f.near,
+    };
+    Outcome {
+        found: found,
+        looked: t.next - r,
     }
 }
 
@@ -154,8 +173,8 @@ pub fn least<'a>(
         order,
         labels,
     );
-    if !f.any {
+    if !f.found.any {
         return nothing(tree, order);
     }
-    f
+    f.found
 }

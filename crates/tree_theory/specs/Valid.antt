@@ -86,6 +86,16 @@ required-not free h = refl
 required-not required h = refl
 required-not excluded h = sym h
 
+pub free-is : (x : Mark) → isRequired x ≡ false → isExcluded x ≡ false → isFree x ≡ true
+free-is free h i = refl
+free-is required h i = sym h
+free-is excluded h i = sym i
+
+pub free-not : (x : Mark) → isFree x ≡ true → (isRequired x ≡ false) × (isExcluded x ≡ false)
+free-not free h = (refl, refl)
+free-not required h = absurd (true≢false (sym h))
+free-not excluded h = absurd (true≢false (sym h))
+
 -- ---- the edges that are not excluded: near, at vertex 1, and far, the others
 
 abbrev pub needed : Network → Edges

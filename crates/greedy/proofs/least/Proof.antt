@@ -56,15 +56,16 @@ returns-2 c =
     let tested = at-if1 (at-find .before) in
     let s = start (tested .before) in
     let none = c .nothing .ensures in
-    by-nothing (of s) (s .args .multipliers .now) _ _ (at-find .find .ensures) _ (lent s) (faultless tested)
+    by-nothing (of s) (s .args .multipliers .now) _ _ (at-find .find .ensures .0) _ (lent s) (faultless tested)
     (not-true _ (at-if2 .if2 .taken)) _ _ _ (none .0) (none .1) (none .2)
 
 returns-3 : tie.Need-returns-3
 returns-3 c =
-    let at-find = c .before .before in
+    let at-if2 = c .before in
+    let at-find = at-if2 .before .before in
     let tested = at-if1 (at-find .before) in
     let s = start (tested .before) in
-    by-some (of s) (s .args .multipliers .now) _ _ (at-find .find .ensures) _ (lent s) (faultless tested) (not-false _ (c .if2 .left))
+    by-some (of s) (s .args .multipliers .now) _ _ (at-find .find .ensures .0) _ (lent s) (faultless tested) (not-false _ (at-if2 .if2 .left))
 
 pub least-spec : {M : Type 1} → statement M
 least-spec =

@@ -87,22 +87,26 @@ pub(crate) fn find<'a>(
         far: 0,
         sum: 0,
     };
+    let enough = n - 2;
+    // the required edges are all taken, however few connect the vertices
     let first = kruskal::grow(a, b, c, &ks, r, MAX_EDGES, none, &mut l, w);
     *rep = l;
-    let t = kruskal::grow(a, b, c, &ks, f.far, n - 2, first, &mut l, w);
+    let t = kruskal::grow(a, b, c, &ks, f.far, enough, first, &mut l, w);
     let must = kruskal::required(&ns, f.near);
     let sum = kruskal::take_two(c, &ns, f.near, t.sum, w);
     let any = kruskal::whole(n, f.near, must, t.far, r, first.far);
     let lowest = charges::bound(sum, n, charges::total(multipliers));
+    let live = f.far + f.near;
+    let looked = t.next - r;
     let found = Found {
         fault: 0,
         any: any,
         bound: lowest,
-        live: f.far + f.near,
+        live: live,
     };
     Outcome {
         found: found,
-        looked: t.next - r,
+        looked: looked,
     }
 }
 

@@ -169,6 +169,9 @@ edge c kind ks f o i h =
       from-order c .charges .ensures .0 _ k .2,
     )
 
+sub-enough : tie.Need-sub-enough
+sub-enough c = omega (arith, start (from-required (c .before)) .pre .0 .low)
+
 grow-requires : tie.Need-grow-requires
 grow-requires c κs =
     let l = from-first-args c in
@@ -207,9 +210,6 @@ first c =
     (λ (i : ℕ). ChoiceSoFar (network (lent (start o))) (charges o) (keys o) i
     (c .grow .last .1 .1 .1 .1 .1 .1 .1 .0) (c .grow .last .1 .1 .1 .1 .1 .1 .1 .1 .0) (r .far) (r .sum))
     (all-required c) (looped c)
-
-sub-grow : tie.Need-sub-grow
-sub-grow c = let t = c .before .before in omega (arith, start (ordered t) .pre .0 .low)
 
 grow-requires-2 : tie.Need-grow-requires-2
 grow-requires-2 c κs =
@@ -275,15 +275,15 @@ range c =
     let d = diff-range (c .bound .result) _ _ (c .bound .ensures) in
     (omega (arith, d .0, heavy s), omega (arith, d .1, c .before .total .ensures .1, p .2, p .0 .high))
 
-add-t43 : tie.Need-add-t43
-add-t43 c = let s = c .before .before .before in omega (arith, few (ordered2 (grown s)))
+add-live : tie.Need-add-live
+add-live c = let s = c .before .before .before in omega (arith, few (ordered2 (grown s)))
 
 -- the required edges were passed
 passed : (c : tie.After-grow2) → from-first (from-grow c) .required .result ≤ c .grow2 .result .next
 passed c = omega (arith, c .grow2 .ensures .2, all-required (from-grow c))
 
-sub-t43 : tie.Need-sub-t43
-sub-t43 c = let at-bound = c .before .before in omega (arith, passed (grown (at-bound .before .before)))
+sub-looked : tie.Need-sub-looked
+sub-looked c = let at-bound = c .before .before in omega (arith, passed (grown (at-bound .before .before)))
 
 -- what the greedy choice took: an end before the last edge changes nothing
 taken : (c : tie.After-take-two) → let t = from-must (from-two c) in let o = ordered2 t in
@@ -407,14 +407,14 @@ find-spec =
     places-requires-2
     required-requires
     labels-requires
+    sub-enough
     grow-requires
-    sub-grow
     grow-requires-2
     required-requires-2
     take-two-requires
     whole-requires
     total-requires
     bound-requires
-    add-t43
-    sub-t43
+    add-live
+    sub-looked
     returns)

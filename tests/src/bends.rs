@@ -231,3 +231,18 @@ pub const PREVIEW_WITHOUT_MARK: Bend = Bend {
     what: "a preview leaves the mark as it is",
     bend: |law| law.preview_marks = false,
 };
+
+pub const STOP_ONE_TOO_EARLY: Bend = Bend {
+    what: "the loop ends while one buoy is still apart",
+    bend: |law| law.parts_left = 1,
+};
+
+pub const STOP_ONE_TOO_LATE: Bend = Bend {
+    what: "the loop looks at one leg more",
+    bend: |law| law.looked_beyond = 1,
+};
+
+pub const REQUIRED_LOOKED_AT: Bend = Bend {
+    what: "required legs are looked at in the loop that ends early",
+    bend: |law| law.required_first = false,
+};

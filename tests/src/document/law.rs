@@ -65,6 +65,13 @@ pub struct Law {
     /// C-11: "a copy of the chart with that mark"
     pub preview_marks: bool,
 
+    /// C-12: "ends as soon as those buoys are connected": with no part left to join
+    pub parts_left: usize,
+    /// C-12: and looks at no leg beyond
+    pub looked_beyond: usize,
+    /// C-12: "the required legs among them are all taken first"
+    pub required_first: bool,
+
     /// C-15: "every leg barred or forced under the higher is ruled the same under the lower"
     pub ruled_stays_below: bool,
     /// C-15: "unless the lower is dead"
@@ -129,6 +136,9 @@ impl Law {
         max_new_mark: 2,
         preview_free_last: true,
         preview_marks: true,
+        parts_left: 0,
+        looked_beyond: 0,
+        required_first: true,
         ruled_stays_below: true,
         unless_dead: true,
         max_sweeps: 15,

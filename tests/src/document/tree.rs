@@ -169,6 +169,65 @@ pub fn kruskal(law: &Law, graph: &Graph, order: &[usize]) -> Option<Vec<u8>> {
     (tree.at_first == 2 && tree.others == graph.n - 2).then_some(tree.edges)
 }
 
+/// C-12: "the loop takes the free legs among these buoys by charged cost, of equals the lower number
+/// first, and ends as soon as those buoys are connected": at how many free legs it looked, and what it
+/// took of all legs among these buoys.
+pub fn looked(law: &Law, graph: &Graph, multipliers: &[i32]) -> (usize, Vec<u8>) {
+    let mut tree = Growing {
+        part: std::array::from_fn(|vertex| vertex as u8),
+        edges: vec![0; graph.m],
+        at_first: 0,
+        others: 0,
+    };
+    let all = order(law, graph, multipliers);
+    let among = |mark: u8| {
+        all.iter()
+            .copied()
+            .filter(move |k| graph.a[*k] != 1 && graph.mark[*k] == mark)
+    };
+    let enough = |tree: &Growing| tree.others + law.parts_left >= graph.n - 2;
+    let mut looked = 0;
+    for k in among(REQUIRED) {
+        if !law.required_first {
+            looked += 1;
+        }
+        tree.take(graph, k);
+    }
+    let mut beyond = 0;
+    for k in among(FREE) {
+        if enough(&tree) {
+            if beyond == law.looked_beyond {
+                break;
+            }
+            beyond += 1;
+        }
+        looked += 1;
+        tree.take(graph, k);
+    }
+    (looked, tree.edges)
+}
+
+/// The same from C-12's last demand alone: "the shortest beginning of this order that, with the
+/// required legs, connects them, or at all where none does". No parts are kept: each beginning is
+/// walked through from vertex 2.
+pub fn looked_by_definition(law: &Law, graph: &Graph, multipliers: &[i32]) -> usize {
+    let among = |mark: u8| move |k: &usize| graph.a[*k] != 1 && graph.mark[*k] == mark;
+    let pair = |k: usize| (graph.a[k], graph.b[k]);
+    let order = order(law, graph, multipliers);
+    let free: Vec<_> = order
+        .iter()
+        .copied()
+        .filter(among(FREE))
+        .map(pair)
+        .collect();
+    let required: Vec<_> = (0..graph.m).filter(among(REQUIRED)).map(pair).collect();
+    let connects = |p: &usize| {
+        let legs: Vec<_> = free[..*p].iter().chain(&required).copied().collect();
+        connect_all(graph.n, &legs)
+    };
+    (0..free.len()).find(connects).unwrap_or(free.len())
+}
+
 fn by_kruskal(law: &Law, graph: &Graph, multipliers: &[i32]) -> Option<Tree> {
     let edges = kruskal(law, graph, &order(law, graph, multipliers))?;
     Some(Tree {

@@ -5,6 +5,7 @@ use crate::report::Suite;
 pub mod calls;
 pub mod facts;
 pub mod own_charts;
+pub mod own_looks;
 pub mod own_rulings;
 pub mod own_trees;
 pub mod searches;
@@ -43,6 +44,7 @@ pub fn all() -> Vec<Suite> {
         facts::SUITE,
         own_charts::SUITE,
         own_trees::SUITE,
+        own_looks::SUITE,
         own_rulings::SUITE,
         searches::SUITE,
         calls::SUITE,

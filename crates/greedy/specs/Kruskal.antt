@@ -1,10 +1,10 @@
 -- What the greedy choice over both queues of edges comes to: the least 1-tree where enough edges were taken and no required one was left
 -- out, and otherwise there is none. Assumes nothing.
-use mathlib.Core.Path.{_≡_, refl, _∙_, sym, ap, subst}
+use mathlib.Core.Path.{_≡_, refl, _∙_, sym, ap}
 use mathlib.Core.Logic.{_⊎_, inl, inr}
 use mathlib.Core.Bool.{Bool, true, false, true≢false}
 use mathlib.Core.List.{List, _++_}
-use Prim.Native.Nat.{ℕ, zero, suc, _+_, _<_, _≤_}
+use Prim.Native.Nat.{ℕ, zero, suc, _+_, _≤_}
 use native.Mathlib.Omega.{arith}
 use lib.ListN.{length, getD}
 use lib.IntN.{ℤ}
@@ -27,11 +27,11 @@ use Rattle.tree_theory.specs.Valid.{isExcluded, isNear, near, far, near-in, far
 use Rattle.tree_theory.specs.Link.{to-parts}
 use Rattle.tree_theory.specs.Weight.{oneWeight}
 use Rattle.tree_theory.specs.Minimum.{Chosen, chosen-least, chosen-weight, chosen-tree, chosen-must, chosen-none}
-use Rattle.tree_theory.specs.Arrays.{entry, bytes, network-n, edge-in, excluded-at, network-valid}
+use Rattle.tree_theory.specs.Arrays.{entry, bytes, network-n, edge-in, network-valid}
 use Rattle.greedy.specs.Charged.{offset, Charged, offs}
 use Rattle.greedy.specs.Keys.{nearAt, farAt, queued, queued-length}
 use Rattle.greedy.specs.Growth.{TakenGreedily, nearTaken, farTaken}
-use Rattle.greedy.specs.Queue.{InKeyOrder, Placed, requiredOf, freeOf, placed, Queued, near-queued, far-queued}
+use Rattle.greedy.specs.Queue.{InKeyOrder, requiredOf, freeOf, Queued, near-queued, far-queued}
 use Rattle.greedy.specs.Required.{Small, required-first}
 
 -- what the greedy choice took: of the edges away from vertex 1 and of those at it, each in the order of their keys, the tree, how many it took of the

@@ -1,6 +1,6 @@
 -- The edges of one kind (at vertex 1, or not) in the order of their keys are in the order that the greedy choice wants: the required edges
 -- first, then the others from the lightest on. Assumes nothing.
-use mathlib.Core.Path.{_≡_, refl, _∙_, sym, ap, subst}
+use mathlib.Core.Path.{_≡_, _∙_, sym, ap, subst}
 use mathlib.Core.Logic.{_≢_, _⊎_, inl, inr}
 use mathlib.Core.Bool.{true, false, not}
 use mathlib.Core.List.{List, _++_}
@@ -9,7 +9,7 @@ use native.Mathlib.Omega.{arith}
 use native.Mathlib.Decide.{decLe}
 use lib.ListN.{length, getD}
 use lib.Dec.{eqb}
-use borrow.Author.Tests.{eqb-true, eqb-false, ne-eqb, not-true, not-false}
+use borrow.Author.Tests.{eqb-true, eqb-false, ne-eqb, not-true}
 use Rattle.lists.specs.Members.{_∈_}
 use Rattle.lists.specs.Select.{select, select-in, select-full, select-length}
 use Rattle.lists.specs.Distinct.{Distinct}

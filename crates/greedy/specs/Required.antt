@@ -1,10 +1,10 @@
 -- The required edges of a kind are the first that are looked at: their keys are below 256, and no other edge's is. So the labels after those
 -- away from vertex 1 say which vertices they join. Assumes nothing.
-use mathlib.Core.Path.{_≡_, refl, _∙_, sym, ap, subst}
+use mathlib.Core.Path.{_≡_, _∙_, sym, ap, subst}
 use mathlib.Core.Logic.{_≢_}
 use mathlib.Core.Bool.{true, false, not}
 use mathlib.Core.List.{List}
-use Prim.Native.Nat.{ℕ, zero, suc, _+_, _%_, _<_, _≤_, min}
+use Prim.Native.Nat.{ℕ, zero, suc, _%_, _<_, _≤_, min}
 use native.Mathlib.Omega.{arith}
 use native.Mathlib.Decide.{ℕ-discrete}
 use lib.ListN.{length, getD}

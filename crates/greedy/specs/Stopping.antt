@@ -15,7 +15,7 @@ use Rattle.lists.specs.Bools.{and-both}
 use Rattle.lists.specs.Members.{_∈_, in-left, in-right, in-either}
 use Rattle.lists.specs.Select.{select-in, in-select}
 use Rattle.lists.specs.Numbers.{upTo}
-use Rattle.integers.specs.Parts.{IsDiff, diff-lt, diff-one}
+use Rattle.integers.specs.Parts.{diff-lt, diff-one}
 use Rattle.graph.specs.declared.Graph.{Graph}
 use Rattle.graph.specs.Network.{Network, network}
 use Rattle.graph.specs.Valid as value
@@ -24,9 +24,9 @@ use Rattle.graph.specs.Places.{network-a, network-b}
 use Rattle.spanning.specs.Components.{rank, Within, same-rank}
 use Rattle.spanning.specs.Connected.{rank-most, rank-inside}
 use Rattle.spanning.specs.Choice.{Listing}
-use Rattle.tree_theory.specs.OneTree.{Edges, others, away, charge}
+use Rattle.tree_theory.specs.OneTree.{Edges, others, away}
 use Rattle.tree_theory.specs.Inputs.{multiplier}
-use Rattle.tree_theory.specs.Valid.{isFree, isRequired, isExcluded, needed, isNear, far, far-in, in-far, far-within, in-others, distinct-others, length-others, free-not, free-is, required-not}
+use Rattle.tree_theory.specs.Valid.{isFree, isRequired, needed, isNear, far, far-in, in-far, far-within, in-others, distinct-others, length-others, free-not, free-is, required-not}
 use Rattle.tree_theory.specs.Arrays.{network-n, needed-at, network-valid}
 use Rattle.tree_theory.specs.Looked.{requiredAmong, freeAmong, Before, Sorted, InOrder, Looked}
 use Rattle.tree_theory.specs.Looking.{rankAt, looked-by-rank}

@@ -36,8 +36,8 @@ pub struct Sizes {
     pub lent: usize,
 }
 
-// The fault of an input, 0 where there is none; whether there is a 1-tree, and then the bound of the least and how many edges were looked
-// at.
+// The fault of an input, 0 where there is none; whether there is a 1-tree, and then the bound of the least and how many edges the order
+// lists.
 pub struct Found {
     pub fault: u32,
     pub any: bool,

@@ -2,11 +2,11 @@
 -- less than the number of all vertices. Assumes nothing.
 use mathlib.Core.Path.{_≡_, refl, sym, ap, _∙_, subst}
 use mathlib.Core.Logic.{_⊎_, inl, inr}
-use mathlib.Core.Bool.{true, not, _&&_}
+use mathlib.Core.Bool.{not, _&&_}
 use mathlib.Core.List.{List, [], _∷_, _++_}
 use Prim.Native.Nat.{ℕ, zero, suc, _+_, _<_, _≤_}
 use native.Mathlib.Omega.{arith}
-use native.Mathlib.Decide.{ℕ-discrete, decLe}
+use native.Mathlib.Decide.{decLe}
 use lib.ListN.{length, take}
 use lib.IntN.{ℤ}
 use lib.Dec.{eqb}
@@ -19,9 +19,9 @@ use Rattle.integers.specs.Parts.{lt-parts}
 use Rattle.graph.specs.Network.{Network}
 use Rattle.spanning.specs.Components.{rank, Within}
 use Rattle.spanning.specs.Connected.{joined-rank, rank-joined}
-use Rattle.tree_theory.specs.OneTree.{Edges, others, away, charge}
+use Rattle.tree_theory.specs.OneTree.{Edges, others, away}
 use Rattle.tree_theory.specs.Valid.{Valid, isFree, isRequired, in-others, distinct-others, length-others, far-ends}
-use Rattle.tree_theory.specs.Looked.{Connected, requiredAmong, freeAmong, Before, Sorted, InOrder, Looked}
+use Rattle.tree_theory.specs.Looked.{Connected, requiredAmong, Before, Sorted, InOrder, Looked}
 
 -- ---- one order, one number
 

@@ -1,7 +1,7 @@
 -- The loop keeps `TwoTaken`, of the keys before i; past the second the others are left (two-spare).
 use Prim.Native.Nat.{ℕ, _≤_, _<_, _-_, _+_, _*_, _%_}
-use mathlib.Core.Path.{_≡_, refl, sym, _∙_, ap, subst}
-use lib.ListN.{length, getD, set, length-set}
+use mathlib.Core.Path.{_≡_, sym, _∙_, subst}
+use lib.ListN.{length, getD, length-set}
 use borrow.Author.Needs.{needs}
 use native.Mathlib.Omega.{arith}
 use Rattle.graph.specs.Limits.{maxEdges}

@@ -5,6 +5,8 @@ pub mod Valid
 pub mod Edgeless
 pub mod Same
 -- What follows is proved, or says what code knows.
+-- how large numbers get: laws over the limits
+pub mod Fits
 -- the test is the statement; the network by its places, and a graph by its parts
 pub mod Meaning
 pub mod Places

@@ -1,4 +1,4 @@
--- Every limit of document 01, named once. (The limits of a search stand here too, so that one file has them all.)
+-- Every limit of document 01, as document 02 moves it, named once. (The limits of a search stand here too, so that one file has them all.)
 use Prim.Native.Nat.{ℕ}
 
 -- "n buoys, 1 to n, n from 3 to 20"
@@ -12,9 +12,9 @@ maxVertices = 20
 abbrev pub maxEdges : ℕ
 maxEdges = 190
 
--- "Its cost is a whole number of minutes over the timetable, −1,000,000 to 1,000,000."
+-- document 02, C-14: "Cost runs from −100,000,000 to 100,000,000"
 abbrev pub maxCost : ℕ
-maxCost = 1000000
+maxCost = 100000000
 
 -- "Its mark is 0 free, 1 required or 2 struck."
 abbrev pub maxMark : ℕ
@@ -24,9 +24,9 @@ maxMark = 2
 abbrev pub maxMultiplier : ℕ
 maxMultiplier = 1000000
 
--- "a ceiling (−50,000,000 to 50,000,000)"
+-- C-14: "and the ceiling from −5,000,000,000 to 5,000,000,000"
 abbrev pub maxCeiling : ℕ
-maxCeiling = 50000000
+maxCeiling = 5000000000
 
 -- "sweeps (0 to 15) and a step (0 to 10,000)"
 abbrev pub maxSweeps : ℕ

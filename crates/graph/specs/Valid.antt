@@ -17,8 +17,8 @@ graphOf n m a b cost mark = record { n = n; m = m; a = a; b = b; cost = cost; ma
 
 -- ---- as statements
 
--- "A leg joins a and b, 1 ≤ a < b ≤ n"; "Its cost is a whole number of minutes over the timetable, −1,000,000 to 1,000,000. Its mark
--- is 0 free, 1 required or 2 struck."
+-- "A leg joins a and b, 1 ≤ a < b ≤ n"; "Its cost is a whole number of minutes over the timetable", in the range of document 02, C-14; "Its
+-- mark is 0 free, 1 required or 2 struck."
 pub record EdgeValid (n a b : ℕ) (cost : ℤ) (mark : ℕ) : Type 0 where
   pub from : 1 ≤ a
   pub less : a < b

@@ -17,7 +17,7 @@ pub const MAX_VERTICES: usize = 20;
 
 pub const MAX_EDGES: usize = 190;
 
-pub const MAX_COST: i32 = 1_000_000;
+pub const MAX_COST: i32 = 100_000_000;
 
 // Marks.
 pub const FREE: u8 = 0;

@@ -20,7 +20,7 @@ unfoldable pub multipliersFit : List ℤ → Bool
 unfolding everyOf within multiplier
 multipliersFit d = everyOf (within maxMultiplier) d && within 0 (multiplier d 1)
 
--- "a ceiling (−50,000,000 to 50,000,000)"; otherwise "13 ceiling"
+-- document 02, C-14: "the ceiling from −5,000,000,000 to 5,000,000,000"; otherwise "13 ceiling"
 unfoldable pub ceilingFits : ℤ → Bool
 unfolding within
 ceilingFits ceiling = within maxCeiling ceiling

@@ -14,7 +14,7 @@ use Rattle.tree_theory.specs.Inputs.{multiplier}
 use Rattle.tree_theory.specs.Bound.{Shifted}
 use Rattle.tree_theory.specs.Arrays.{entry, edge-in}
 
--- a charge is a cost and two multipliers, so it is at least −3,000,000
+-- a charge is a cost and two multipliers, so this much makes it positive
 abbrev pub offset : ℕ
 offset = maxCost + 2 * maxMultiplier + 1
 
@@ -32,6 +32,10 @@ lowBound = (maxCost + 1 + 4 * maxMultiplier) * maxVertices
 -- and so how far below a ceiling
 abbrev pub maxSlack : ℕ
 maxSlack = maxCeiling + lowBound
+
+-- what stands for the charge of an edge that is not there: more than any charge, however far a bound lies below the ceiling
+abbrev pub noCharge : ℕ
+noCharge = maxCharge + maxSlack + 1
 
 -- x is the charge of edge k + 1
 pub record ChargeAt (g : Graph) (d : List ℤ) (k x : ℕ) : Type 0 where

@@ -5,6 +5,8 @@ pub mod Charged
 pub mod Found
 pub mod Least
 -- What follows is proved, or says what code knows.
+-- how large the numbers get: laws over the limits
+pub mod Fits
 -- the array of charges, and the bound that a sum of them stands for
 pub mod Charging
 -- the order of the edges: keys, made from a hint or without, and sorted

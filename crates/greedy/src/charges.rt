@@ -19,22 +19,22 @@ use graph::wide;
 const COST_OFFSET: u64 = MAX_COST as u64 + 1;
 
 // A cost, moved up by its limit.
-fn raised_cost(x: i32) -> u32
+fn raised_cost(x: i32) -> u64
     requires { ⌜ InRange maxCost x ⌝ }
     ensures { λ r. ⌜ IsDiff x r maxCost × (r ≤ 2 * maxCost) ⌝ }
 {
-    (x + MAX_COST) as u32
+    (x + MAX_COST) as u64
 }
 
 // A multiplier likewise.
-fn raised(x: i32) -> u32
+fn raised(x: i32) -> u64
     requires { ⌜ InRange maxMultiplier x ⌝ }
     ensures { λ r. ⌜ IsDiff x r maxMultiplier × (r ≤ 2 * maxMultiplier) ⌝ }
 {
-    (x + MAX_MULTIPLIER) as u32
+    (x + MAX_MULTIPLIER) as u64
 }
 
-fn charge(cost: i32, x: i32, y: i32) -> u32
+fn charge(cost: i32, x: i32, y: i32) -> u64
     requires { ⌜ InRange maxCost cost × InRange maxMultiplier x × InRange maxMultiplier y ⌝ }
     ensures { λ r. ⌜ IsDiff ((cost +ℤ x) +ℤ y) r offset × (1 ≤ r) × (r ≤ maxCharge) ⌝ }
 {
@@ -56,7 +56,7 @@ pub(crate) fn charges<'a>(
     cost: &'a [i32; MAX_EDGES],
     m: usize,
     d: &'a [i32],
-    c: &mut [u32; MAX_EDGES],
+    c: &mut [u64; MAX_EDGES],
 )
     requires { ⌜ Ranged (now d) × (m ≤ maxEdges)
         × ((k : ℕ) → k < m → Chargeable (length (now d)) (getD (now a) k 0) (getD (now b) k 0) (getD (now cost) k (pos 0)))
@@ -71,12 +71,6 @@ pub(crate) fn charges<'a>(
     }
 }
 
-pub(crate) fn long(x: u32) -> u64
-    ensures { λ r. ⌜ r ≡ x ⌝ }
-{
-    x as u64
-}
-
 // The sum of the multipliers, each moved up by its limit.
 pub(crate) fn total(d: &[i32]) -> u64
     requires { ⌜ Ranged (now d) × (length (now d) ≤ maxVertices) ⌝ }
@@ -85,7 +79,7 @@ pub(crate) fn total(d: &[i32]) -> u64
     let mut sum: u64 = 0;
     let mut i = 0;
     while i < d.len() {
-        sum = sum + long(raised(d[i]));
+        sum = sum + raised(d[i]);
         i = i + 1;
     }
     sum

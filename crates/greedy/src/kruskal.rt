@@ -12,7 +12,6 @@ ghost use Rattle.greedy.specs.ChoiceSoFar.{Joins, ChoiceByEnds, TwoTaken
 ghost use Rattle.greedy.specs.Required.{Small};
 ghost use Rattle.greedy.specs.Stopping.{LooksAsSaid};
 use crate::MAX_LABELS;
-use crate::charges::long;
 use crate::order::place;
 use graph::MAX_EDGES;
 use graph::wide;
@@ -75,7 +74,7 @@ fn join(l: &mut [u8; MAX_LABELS], x: u8, y: u8)
 }
 
 // How many keys are of required edges, which come first: those below 256, as a free edge's charge is at least 1.
-pub(crate) fn required(keys: &[u32; MAX_EDGES], f: usize) -> usize
+pub(crate) fn required(keys: &[u64; MAX_EDGES], f: usize) -> usize
     requires { ⌜ f ≤ maxEdges ⌝ }
     ensures { λ r. ⌜ Small (now (keys .entry)) f r ⌝ }
 {
@@ -94,8 +93,8 @@ pub(crate) fn required(keys: &[u32; MAX_EDGES], f: usize) -> usize
 pub(crate) fn grow<'a>(
     a: &'a [u8; MAX_EDGES],
     b: &'a [u8; MAX_EDGES],
-    c: &'a [u32; MAX_EDGES],
-    keys: &'a [u32; MAX_EDGES],
+    c: &'a [u64; MAX_EDGES],
+    keys: &'a [u64; MAX_EDGES],
     to: usize,
     enough: usize,
     t: Grown,
@@ -122,7 +121,7 @@ pub(crate) fn grow<'a>(
         if x != y {
             join(l, x, y);
             w[k] = 1;
-            sum = sum + long(c[k]);
+            sum = sum + c[k];
             far = far + 1;
         }
         i = i + 1;
@@ -136,8 +135,8 @@ pub(crate) fn grow<'a>(
 
 // The first two of the f edges at vertex 1, or as many as there are, onto the others that are taken: one byte an edge in w, and the sum of charges.
 pub(crate) fn take_two<'a>(
-    c: &'a [u32; MAX_EDGES],
-    keys: &'a [u32; MAX_EDGES],
+    c: &'a [u64; MAX_EDGES],
+    keys: &'a [u64; MAX_EDGES],
     f: usize,
     sum: u64,
     w: &mut [u8; MAX_EDGES],
@@ -155,7 +154,7 @@ pub(crate) fn take_two<'a>(
         }
         let k = place(keys[i]);
         w[k] = 1;
-        all = all + long(c[k]);
+        all = all + c[k];
         i = i + 1;
     }
     all

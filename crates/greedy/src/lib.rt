@@ -24,7 +24,7 @@ pub use refusals::multipliers_fit;
 // Limits, as specs/Limits.antt of crate graph has them.
 pub const MAX_MULTIPLIER: i32 = 1_000_000;
 
-pub const MAX_CEILING: i64 = 50_000_000;
+pub const MAX_CEILING: i64 = 5_000_000_000;
 
 // Vertices number from 1, so labels have a place more.
 pub const MAX_LABELS: usize = MAX_VERTICES + 1;
@@ -63,7 +63,7 @@ pub(crate) fn find<'a>(
     multipliers: &'a [i32],
     hint: &'a [u8],
     w: &mut [u8; MAX_EDGES],
-    c: &mut [u32; MAX_EDGES],
+    c: &mut [u64; MAX_EDGES],
     order: &mut [u8; MAX_EDGES],
     rep: &mut [u8; MAX_LABELS],
 ) -> Outcome
@@ -75,8 +75,8 @@ pub(crate) fn find<'a>(
         (multiplier (now (multipliers .entry))) (r .looked) ⌝ }
 {
     charges::charges(a, b, cost, m, multipliers, c);
-    let mut ks = [0u32; MAX_EDGES];
-    let mut ns = [0u32; MAX_EDGES];
+    let mut ks = [0u64; MAX_EDGES];
+    let mut ns = [0u64; MAX_EDGES];
     let f = order::order(a, mark, m, c, hint, &mut ks, &mut ns);
     order::places(&ks, f.far, 0, order);
     order::places(&ns, f.near, f.far, order);
@@ -140,7 +140,7 @@ pub fn least<'a>(
     later: u32,
     hint: &'a [u8],
     tree: &mut [u8; MAX_EDGES],
-    charges: &mut [u32; MAX_EDGES],
+    charges: &mut [u64; MAX_EDGES],
     order: &mut [u8; MAX_EDGES],
     labels: &mut [u8; MAX_LABELS],
 ) -> Found

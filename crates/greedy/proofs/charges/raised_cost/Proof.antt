@@ -5,19 +5,21 @@ use mir.Val.{SFits}
 use mir.Syntax.{w32}
 use native.Mathlib.Omega.{arith}
 use Rattle.integers.specs.Parts.{mag-of-parts, abs-parts, nonNeg-of}
+use Rattle.graph.specs.Limits.{maxCost}
+use Rattle.greedy.specs.Fits.{raised-cost-fits}
 use Rattle.greedy.specs.Charging.{raise-low, raise-high, raise-is}
 use Rattle.greedy.proofs.charges.raised_cost.Statement.{statement}
 use Rattle.greedy.proofs.charges.raised_cost.Tie as tie
 
 moved : tie.Start → ℤ
-moved c = c .args .x +ℤ pos 1000000
+moved c = c .args .x +ℤ pos maxCost
 
 fits : (c : tie.Start) → SFits w32 (moved c)
 unfolding moved
 fits c =
-    let low = raise-low 1000000 (c .args .x) (c .pre) in
-    let high = raise-high 1000000 (c .args .x) (c .pre) in
-    record { sfits = mag-of-parts (moved c) _ (omega (arith, abs-parts (moved c), high)) (omega (arith, low)) }
+    let low = raise-low maxCost (c .args .x) (c .pre) in
+    let high = raise-high maxCost (c .args .x) (c .pre) in
+    record { sfits = mag-of-parts (moved c) _ (omega (arith, abs-parts (moved c), high, raised-cost-fits)) (omega (arith, low)) }
 
 add-result : tie.Need-add-result
 unfolding moved
@@ -27,15 +29,15 @@ cast-result : tie.Need-cast-result
 unfolding moved
 cast-result c =
     rw (toZ-ofZ (c .fits .x), toZ-ofZ (fits c)) (
-      nonNeg-of (moved c) (raise-low 1000000 (c .args .x) (c .pre)),
-      record { fits = omega (arith, raise-high 1000000 (c .args .x) (c .pre)) },
+      nonNeg-of (moved c) (raise-low maxCost (c .args .x) (c .pre)),
+      record { fits = omega (arith, raise-high maxCost (c .args .x) (c .pre), raised-cost-fits) },
     )
 
 returns : tie.Need-returns
 unfolding moved
 returns c =
     rw (toZ-ofZ (c .fits .x), toZ-ofZ (fits c))
-    (raise-is 1000000 (c .args .x) (c .pre), raise-high 1000000 (c .args .x) (c .pre))
+    (raise-is maxCost (c .args .x) (c .pre), raise-high maxCost (c .args .x) (c .pre))
 
 pub raised-cost-spec : {M : Type 1} → statement M
 raised-cost-spec = tie.close (tie.spec add-result cast-result returns)

@@ -7,6 +7,7 @@ use borrow.Author.Needs.{needs}
 use native.Mathlib.Omega.{arith}
 use Rattle.integers.specs.Words.{back32}
 use Rattle.tree_theory.specs.Multipliers.{Ranged}
+use Rattle.greedy.specs.Fits.{raised-sum-fits}
 use Rattle.greedy.specs.Charging.{raised-none, raised-more, Raised}
 use Rattle.greedy.proofs.charges.total.Statement.{statement}
 use Rattle.greedy.proofs.charges.total.Tie as tie
@@ -32,14 +33,11 @@ raised-requires c κs =
     let d = c .before .before .before .args .d .now in
     rw (back32 (getD d (l .i) (pos 0)) (c .raised-arg .given)) (l .inv .2 (l .i) (omega arith))
 
-long-requires : tie.Need-long-requires Inv-loop μ-loop
-long-requires c κs = search needs
-
 add-sum : tie.Need-add-sum Inv-loop μ-loop
 add-sum c =
-    let at-loop-test = c .before .before .before in
+    let at-loop-test = c .before .before in
     let l = at-loop-test .before .loop in
-    omega (arith, l .inv .3 .1)
+    omega (arith, raised-sum-fits (l .sum) (c .raised .result) (omega (arith, l .inv .3 .1, l .inv .1)) (c .raised .ensures .1))
 
 add-i : tie.Need-add-i Inv-loop μ-loop
 add-i c = search needs
@@ -49,14 +47,12 @@ loop-less c = search needs
 
 loop-again : tie.Need-loop-again Inv-loop μ-loop
 loop-again c =
-    let at-raised = c .before in
-    let at-loop = at-raised .before .before .before in
+    let at-loop = c .before .before .before in
     let l = at-loop .loop in
     let d = at-loop .before .args .d .now in
-    let x = at-raised .raised in
-    let e : c .long .result ≡ x .result = c .long .ensures in
-    let up = rw (back32 (getD d (l .i) (pos 0)) (at-raised .before .raised-arg .given)) at (x .ensures .0) in
-    (omega arith, l .inv .1, l .inv .2, rw e (raised-more d (l .i) (x .result) (l .sum) up (x .ensures .1) (l .inv .3)))
+    let x = c .raised in
+    let up = rw (back32 (getD d (l .i) (pos 0)) (c .before .raised-arg .given)) at (x .ensures .0) in
+    (omega arith, l .inv .1, l .inv .2, raised-more d (l .i) (x .result) (l .sum) up (x .ensures .1) (l .inv .3))
 
 returns : tie.Need-returns Inv-loop μ-loop
 returns c =
@@ -74,7 +70,6 @@ total-spec =
     mul-raised
     shared-slice-copy-out-raised
     raised-requires
-    long-requires
     add-sum
     add-i
     loop-less

@@ -6,13 +6,13 @@ use lib.ListN.{getD}
 use borrow.Author.Needs.{needs}
 use native.Mathlib.Omega.{arith}
 use Rattle.graph.specs.Network.{Network}
+use Rattle.greedy.specs.Fits.{sum-fits}
 use Rattle.greedy.specs.ChoiceSoFar.{Joins, Reads, joining, ChoiceSoFar, ChoiceByEnds, LackingByEnds, lacking-more, choice-join, choice-idle}
 use Rattle.greedy.specs.Stopping.{looks-as-said}
 use Rattle.greedy.proofs.kruskal.grow.Statement.{statement}
 use Rattle.greedy.proofs.kruskal.grow.Tie as tie
 use Rattle.greedy.proofs.kruskal.grow.Reads as reads
 use Rattle.greedy.proofs.kruskal.grow.Lts as lts
-use Rattle.greedy.proofs.charges.long.Reads as long-reads
 use Rattle.greedy.proofs.kruskal.join.Reads as join-reads
 use Rattle.greedy.proofs.order.place.Reads as place-reads
 
@@ -113,31 +113,28 @@ join-requires c κs = plain (at-loop (place-of (c .before .before))) .long
 element-write-w : tie.Need-element-write-w Inv-loop μ-loop
 element-write-w c = edge (place-of (from-join c)) .0
 
-mul-long : tie.Need-mul-long Inv-loop μ-loop
-mul-long c = let h = edge (place-of (from-join c)) .0 in search needs
+mul-sum : tie.Need-mul-sum Inv-loop μ-loop
+mul-sum c = let h = edge (place-of (from-join c)) .0 in search needs
 
-element-copy-out-long : tie.Need-element-copy-out-long Inv-loop μ-loop
-element-copy-out-long c = edge (place-of (from-join c)) .0
-
-long-requires : tie.Need-long-requires Inv-loop μ-loop
-long-requires c κs = search needs
+element-copy-out-sum : tie.Need-element-copy-out-sum Inv-loop μ-loop
+element-copy-out-sum c = edge (place-of (from-join c)) .0
 
 -- the sum so far, with one charge more
 room : (c : tie.After-y Inv-loop μ-loop)
     → let at = place-of c in
     let s = at-loop at .before .args in
-    at-loop at .loop .sum + getD (s .c .now) (at .place .result) 0 ≤ 4000000000
+    at-loop at .loop .sum + getD (s .c .now) (at .place .result) 0 < 18446744073709551616
 room c =
     let at = place-of c in
     let l = at-loop at in
-    omega (arith, plain l .light, edge at .3, l .loop .inv .1, l .loop .inv .2)
+    sum-fits _ _ (l .loop .i) (plain l .light) (edge at .3) (omega (arith, l .loop .inv .1, l .loop .inv .2))
 
 add-sum : tie.Need-add-sum Inv-loop μ-loop
-add-sum c = let at-join = c .before .before in omega (arith, room (from-join at-join), c .long .ensures)
+add-sum c = let at-join = c .before in omega (arith, room (from-join at-join))
 
 add-far : tie.Need-add-far Inv-loop μ-loop
 add-far c =
-    let at-join = c .before .before in
+    let at-join = c .before in
     let l = at-loop (place-of (from-join at-join)) in
     omega (arith, plain l .less, l .loop .inv .1, l .loop .inv .2)
 
@@ -174,8 +171,8 @@ turn c G reads =
     let e = at .place .ensures in
     ⊎-elim {C = After c G}
     (λ v.
-    let sum : c .if2 .sum ≡ l .sum + getD cs k 0 = v .8 ∙ ap (λ (z : ℕ). l .sum + z) (v .4 .ensures) in
-    rw (v .5, v .6, v .7, sum)
+    let sum : c .if2 .sum ≡ l .sum + getD cs k 0 = v .7 in
+    rw (v .4, v .5, v .6, sum)
     (choice-join G cs ks (l .i) (l .l) (l .w) (l .far) (l .sum) k a b t (h .0) (h .3) e (x .0) (x .1) (low-a from) (low-b (c .before .before))
     (v .2 .last .0) (v .2 .ensures .0) (v .0 .taken) (v .2 .ensures .1)))
     (λ v.
@@ -242,9 +239,8 @@ grow-spec =
     element-copy-out-y
     join-requires
     element-write-w
-    mul-long
-    element-copy-out-long
-    long-requires
+    mul-sum
+    element-copy-out-sum
     add-sum
     add-far
     add-i

@@ -6,12 +6,12 @@ use borrow.Author.Needs.{needs}
 use native.Mathlib.Omega.{arith}
 use Rattle.graph.specs.Limits.{maxEdges}
 use Rattle.greedy.specs.Charged.{maxCharge}
+use Rattle.greedy.specs.Fits.{sum-fits}
 use Rattle.greedy.specs.ChoiceSoFar.{TwoTaken, two-none, two-more, two-spare}
 use Rattle.greedy.proofs.kruskal.take_two.Statement.{statement}
 use Rattle.greedy.proofs.kruskal.take_two.Tie as tie
 use Rattle.greedy.proofs.kruskal.take_two.Reads as reads
 use Rattle.greedy.proofs.kruskal.take_two.Lts as lts
-use Rattle.greedy.proofs.charges.long.Reads as long-reads
 use Rattle.greedy.proofs.order.place.Reads as place-reads
 
 abbrev Inv-loop : tie.InvT-loop
@@ -50,20 +50,17 @@ place-requires c κs = search needs
 element-write-w : tie.Need-element-write-w Inv-loop μ-loop
 element-write-w c = edge c .0
 
-mul-long : tie.Need-mul-long Inv-loop μ-loop
-mul-long c = let h = edge c .0 in search needs
+mul-all : tie.Need-mul-all Inv-loop μ-loop
+mul-all c = let h = edge c .0 in search needs
 
-element-copy-out-long : tie.Need-element-copy-out-long Inv-loop μ-loop
-element-copy-out-long c = edge c .0
-
-long-requires : tie.Need-long-requires Inv-loop μ-loop
-long-requires c κs = search needs
+element-copy-out-all : tie.Need-element-copy-out-all Inv-loop μ-loop
+element-copy-out-all c = edge c .0
 
 add-all : tie.Need-add-all Inv-loop μ-loop
 add-all c =
-    let at = c .before .before in
+    let at = c .before in
     let l = at-loop at .loop in
-    omega (arith, edge at .1, c .long .ensures, l .inv .1, l .inv .3, l .inv .6)
+    omega (arith, sum-fits (l .all) _ (maxEdges + 2) (omega (arith, l .inv .1, l .inv .3, l .inv .6)) (edge at .1) (omega arith))
 
 add-i : tie.Need-add-i Inv-loop μ-loop
 add-i c = search needs
@@ -73,11 +70,10 @@ loop-less c = search needs
 
 loop-again : tie.Need-loop-again Inv-loop μ-loop
 loop-again c =
-    let at = c .before .before in
+    let at = c .before in
     let l = at-loop at .loop in
     let s = at-loop at .before .args in
-    let k = at .place .result in
-    rw (c .long .ensures) (
+    let k = at .place .result in (
       omega arith,
       omega (arith, l .inv .1, at .before .before .if1 .left),
       l .inv .2,
@@ -120,9 +116,8 @@ take-two-spec =
     element-copy-out-place
     place-requires
     element-write-w
-    mul-long
-    element-copy-out-long
-    long-requires
+    mul-all
+    element-copy-out-all
     add-all
     add-i
     loop-less

@@ -30,7 +30,8 @@ use Rattle.swaps.specs.Visiting.{Rooting, depthAt, edgeAt, Lined}
 use Rattle.swaps.specs.Climbing.{Climbed, Reached}
 use Rattle.swaps.specs.RootedTree.{RootedIn, shape, labelOf}
 use Rattle.swaps.specs.Swaps.{Swaps, SamePlace, aAt, bAt, markAt, Through, Below, over-in, over-once}
-use Rattle.onetree.specs.Verdicts.{noCharge, chargeAt, Gives, Comes}
+use Rattle.greedy.specs.Charged.{noCharge}
+use Rattle.onetree.specs.Verdicts.{chargeAt, Gives, Comes}
 
 -- ---- at vertex 1
 

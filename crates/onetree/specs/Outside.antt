@@ -26,7 +26,8 @@ use Rattle.swaps.specs.Hanging.{Shape, above}
 use Rattle.swaps.specs.Climbing.{Climbed, Fresh}
 use Rattle.swaps.specs.RootedTree.{RootedIn, Labelled, shape, labelOf}
 use Rattle.swaps.specs.Swaps.{aAt, bAt, markAt, Through, Below}
-use Rattle.onetree.specs.Verdicts.{noCharge, chargeAt, Gives, barByte, forceByte}
+use Rattle.greedy.specs.Charged.{noCharge}
+use Rattle.onetree.specs.Verdicts.{chargeAt, Gives, barByte, forceByte}
 use Rattle.onetree.specs.Candidates.{NearIs, Crosses, Weighed, near-gives, far-gives}
 
 -- what the loop rests on: the tree, hung, the weights of its edges, and the dearest and the cheapest at vertex 1

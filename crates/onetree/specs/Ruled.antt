@@ -26,7 +26,8 @@ use Rattle.lists.specs.FilledFrom.{Updated}
 use Rattle.swaps.specs.Visiting.{Rooting, edgeAt}
 use Rattle.swaps.specs.RootedTree.{RootedIn}
 use Rattle.swaps.specs.Swaps.{aAt, markAt, Below, over-in, over-once, over-all}
-use Rattle.onetree.specs.Verdicts.{noCharge, chargeAt, Comes, forceByte, Judgement, out-byte, in-byte}
+use Rattle.greedy.specs.Charged.{noCharge}
+use Rattle.onetree.specs.Verdicts.{chargeAt, Comes, forceByte, Judgement, out-byte, in-byte}
 use Rattle.onetree.specs.Candidates.{near-comes, far-comes}
 use Rattle.onetree.specs.Outside.{Ready, RuledOutside, Barring}
 use Rattle.onetree.specs.Forcing.{OneEach, Forcing}

@@ -24,16 +24,13 @@ use Rattle.tree_theory.specs.Criteria.{MaySwap}
 use Rattle.tree_theory.specs.Inputs.{multiplier}
 use Rattle.onetree.specs.Answers.{rulingByte}
 use Rattle.tree_theory.specs.Arrays.{entry, bytes, edge-of, of-edge, mark-free, network-valid}
-use Rattle.greedy.specs.Charged.{Charged, offset, maxSlack, offs}
+use Rattle.greedy.specs.Charged.{Charged, offset, maxSlack, noCharge, offs}
+use Rattle.greedy.specs.Fits.{none-exceeds}
 use Rattle.swaps.specs.Extremes.{Largest, Least, Taken}
 use Rattle.swaps.specs.Slack.{SlackIs, barred-slack, forced-slack, not-barred-in, not-forced-out}
 use Rattle.swaps.specs.Visiting.{Rooting}
 use Rattle.swaps.specs.RootedTree.{RootedIn}
 use Rattle.swaps.specs.Swaps.{Swaps, markAt, swaps-may, may-swaps}
-
--- a charge that no edge has, for 'there is none'
-abbrev pub noCharge : ℕ
-noCharge = 4000000000
 
 abbrev pub chargeAt : List ℕ → ℕ → ℕ
 chargeAt c k = getD c k 0
@@ -187,7 +184,7 @@ module _ (g : Graph) (v : value.Valid g) (w c rep : List ℕ) (r : Rooting) (t :
         loose near f = no-way (l .best)
           where
             no-way : Taken (Comes g w rep r k) (chargeAt c) noCharge (g .m) low → ⊥
-            no-way (inl e) = omega (arith, j .charged k hk .high, j .small)
+            no-way (inl e) = omega (arith, none-exceeds (chargeAt c k) slack (j .charged k hk .high) (j .small))
             no-way (inr q) = omega (
               arith,
               q .3,

@@ -9,7 +9,7 @@ ghost use Rattle.swaps.specs.Climbing.{Offered, Climbed};
 use graph::wide;
 use greedy::MAX_LABELS;
 
-pub(crate) fn greater(x: u32, y: u32) -> u32
+pub(crate) fn greater(x: u64, y: u64) -> u64
     ensures { λ r. ⌜ (x ≤ r) × (y ≤ r) × ((r ≡ x) ⊎ (r ≡ y)) ⌝ }
 {
     if x < y {
@@ -18,7 +18,7 @@ pub(crate) fn greater(x: u32, y: u32) -> u32
     x
 }
 
-pub(crate) fn lesser(x: u32, y: u32) -> u32
+pub(crate) fn lesser(x: u64, y: u64) -> u64
     ensures { λ r. ⌜ (r ≤ x) × (r ≤ y) × ((r ≡ x) ⊎ (r ≡ y)) ⌝ }
 {
     if x < y {
@@ -28,7 +28,7 @@ pub(crate) fn lesser(x: u32, y: u32) -> u32
 }
 
 // A replacement at c is offered to the edge above x: it keeps the cheapest.
-fn offer(cheapest: &mut [u32; MAX_LABELS], x: usize, c: u32)
+fn offer(cheapest: &mut [u64; MAX_LABELS], x: usize, c: u64)
     requires { ⌜ (x < 21) × (length (now cheapest) ≡ 21) ⌝ }
     ensures { λ _. ⌜ Offered (now (cheapest .entry)) c x (now (cheapest .exit)) ⌝ }
 {
@@ -40,18 +40,18 @@ fn offer(cheapest: &mut [u32; MAX_LABELS], x: usize, c: u32)
 pub(crate) fn climb<'a>(
     parent: &'a [u8; MAX_LABELS],
     depth: &'a [u8; MAX_LABELS],
-    weight: &'a [u32; MAX_LABELS],
-    cheapest: &mut [u32; MAX_LABELS],
+    weight: &'a [u64; MAX_LABELS],
+    cheapest: &mut [u64; MAX_LABELS],
     from: usize,
     to: usize,
-    c: u32,
-) -> u32
+    c: u64,
+) -> u64
     requires { ⌜ Hangs (shape (now parent) (now depth))
         × Vertex (shape (now parent) (now depth)) from × Vertex (shape (now parent) (now depth)) to × (length (now cheapest) ≡ 21) ⌝ }
     ensures { λ r. ⌜ Climbed (shape (now (parent .entry)) (now (depth .entry))) (λ v. getD (now (weight .entry)) v 0)
         (now (cheapest .entry)) c from to r (now (cheapest .exit)) ⌝ }
 {
-    let mut top: u32 = 0;
+    let mut top: u64 = 0;
     let mut x = from;
     let mut y = to;
     'walk: loop {

@@ -36,11 +36,11 @@ fn below(x: i64, y: i64) -> bool
 }
 
 // How far a bound lies below a ceiling.
-fn slack_of(ceiling: i64, bound: i64) -> u32
+fn slack_of(ceiling: i64, bound: i64) -> u64
     requires { ⌜ InRange maxCeiling ceiling × BoundFits bound × (ltZ ceiling bound ≡ false) ⌝ }
     ensures { λ r. ⌜ SlackIs ceiling bound r × (r ≤ maxSlack) ⌝ }
 {
-    (ceiling - bound) as u32
+    (ceiling - bound) as u64
 }
 
 // The first fault of the input; or else one tree, and from it everything: a byte for each edge and 0 past them, all 0 where no 1-tree is
@@ -65,7 +65,7 @@ pub(crate) fn judge<'a>(
     let n = sizes.n;
     let m = sizes.m;
     let later = ceiling_fault(ceiling);
-    let mut c = [0u32; MAX_EDGES];
+    let mut c = [0u64; MAX_EDGES];
     let mut rep = [0u8; MAX_LABELS];
     let f = least(
         sizes,

@@ -73,7 +73,7 @@ pub fn tree(g: Graph, multipliers: &[i32], out: &mut [u8]) -> TreeAnswer
         lent: out.len(),
     };
     let mut w = [0u8; MAX_EDGES];
-    let mut c = [0u32; MAX_EDGES];
+    let mut c = [0u64; MAX_EDGES];
     let mut order = [0u8; MAX_EDGES];
     let mut rep = [0u8; MAX_LABELS];
     let f = least(

@@ -15,7 +15,8 @@ ghost use Rattle.tree_theory.specs.Spans.{Spans};
 ghost use Rattle.tree_theory.specs.Merges.{Merges};
 ghost use Rattle.lists.specs.FilledFrom.{Updated};
 ghost use Rattle.swaps.specs.RootedTree.{labelOf};
-ghost use Rattle.onetree.specs.Verdicts.{noCharge, barByte, forceByte};
+ghost use Rattle.greedy.specs.Charged.{noCharge};
+ghost use Rattle.onetree.specs.Verdicts.{barByte, forceByte};
 ghost use Rattle.onetree.specs.Candidates.{BelowRoot, Weighed, NearIs};
 ghost use Rattle.onetree.specs.Outside.{Prepared, graphIn, rootingIn, nearByte, RuledOutside};
 ghost use Rattle.onetree.specs.Forcing.{OneEach, Forcing};
@@ -27,11 +28,14 @@ use crate::rooted::hang;
 use crate::rooted::table;
 use graph::EXCLUDED;
 use graph::FREE;
+use graph::MAX_COST;
 use graph::MAX_EDGES;
 use graph::MAX_VERTICES;
 use graph::REQUIRED;
 use graph::wide;
+use greedy::MAX_CEILING;
 use greedy::MAX_LABELS;
+use greedy::MAX_MULTIPLIER;
 
 // Rulings.
 pub const KEEP: u8 = 0;
@@ -44,13 +48,19 @@ pub const WAS_REQUIRED: u8 = 3;
 
 pub const WAS_EXCLUDED: u8 = 4;
 
-// More than any charge: there is none.
-const NONE: u32 = 4_000_000_000;
+// The largest charge, and how far a bound lies below a ceiling at most.
+const MAX_CHARGE: u64 = 2 * (MAX_COST as u64 + 2 * MAX_MULTIPLIER as u64) + 1;
+
+const MAX_SLACK: u64 = MAX_CEILING as u64
+    + (MAX_COST as u64 + 1 + 4 * MAX_MULTIPLIER as u64) * MAX_VERTICES as u64;
+
+// More than any charge and any slack together: there is none.
+const NONE: u64 = MAX_CHARGE + MAX_SLACK + 1;
 
 // At vertex 1: the dearest free edge of the tree (0: there is none) and the cheapest free edge outside it.
 pub(crate) struct Near {
-    pub dearest: u32,
-    pub cheapest: u32,
+    pub dearest: u64,
+    pub cheapest: u64,
 }
 
 fn free_at_one(a: u8, mark: u8) -> bool
@@ -66,14 +76,14 @@ fn near_one<'a>(
     a: &'a [u8; MAX_EDGES],
     mark: &'a [u8; MAX_EDGES],
     w: &'a [u8; MAX_EDGES],
-    c: &'a [u32; MAX_EDGES],
+    c: &'a [u64; MAX_EDGES],
     m: usize,
 ) -> Near
     requires { ⌜ m ≤ maxEdges ⌝ }
     ensures { λ r. ⌜ NearIs (now (a .entry)) (now (mark .entry)) (now (w .entry)) (now (c .entry)) (r .dearest) (r .cheapest) m ⌝ }
 {
-    let mut dearest: u32 = 0;
-    let mut cheapest: u32 = NONE;
+    let mut dearest: u64 = 0;
+    let mut cheapest: u64 = NONE;
     for k in 0..m {
         if free_at_one(a[k], mark[k]) {
             if w[k] == 1 {
@@ -101,15 +111,15 @@ fn labels<'a>(x: &'a [u8; MAX_EDGES], rep: &'a [u8; MAX_LABELS], m: usize, r: &m
 
 // What the edge above each label of the queue is charged: there is none above the first, the root.
 fn weights<'a>(
-    c: &'a [u32; MAX_EDGES],
+    c: &'a [u64; MAX_EDGES],
     edge: &'a [u8; MAX_LABELS],
     queue: &'a [u8; MAX_LABELS],
     count: usize,
-) -> [u32; MAX_LABELS]
+) -> [u64; MAX_LABELS]
     requires { ⌜ (1 ≤ count) × (count ≤ 21) × OneEach (BelowRoot (now queue) count) (now edge) ⌝ }
     ensures { λ r. ⌜ Weighed (BelowRoot (now (queue .entry)) count) (now (c .entry)) (now (edge .entry)) r ⌝ }
 {
-    let mut weight = [0u32; MAX_LABELS];
+    let mut weight = [0u64; MAX_LABELS];
     for i in 1..count {
         let v = wide(queue[i]);
         weight[v] = c[wide(edge[v])];
@@ -117,29 +127,36 @@ fn weights<'a>(
     weight
 }
 
-fn bar(top: u32, c: u32, slack: u32) -> u8
+// Compared by differences, which fit whatever is sent.
+fn bar(top: u64, c: u64, slack: u64) -> u8
     ensures { λ r. ⌜ r ≡ barByte top c slack ⌝ }
 {
     if top == 0 {
         return BAR;
     }
-    if top as u64 + (slack as u64) < c as u64 {
+    if c <= top {
+        return KEEP;
+    }
+    if slack < c - top {
         return BAR;
     }
     KEEP
 }
 
-fn force(low: u32, c: u32, slack: u32) -> u8
+fn force(low: u64, c: u64, slack: u64) -> u8
     ensures { λ r. ⌜ r ≡ forceByte low c slack ⌝ }
 {
-    if c as u64 + (slack as u64) < low as u64 {
+    if low <= c {
+        return KEEP;
+    }
+    if slack < low - c {
         return FORCE;
     }
     KEEP
 }
 
 // A free edge at vertex 1: in the tree against the cheapest that may come in, outside it against the dearest that may give way.
-fn at_one(w: u8, dearest: u32, near: u32, c: u32, slack: u32) -> u8
+fn at_one(w: u8, dearest: u64, near: u64, c: u64, slack: u64) -> u8
     ensures { λ r. ⌜ r ≡ nearByte w dearest near c slack ⌝ }
 {
     if w == 1 {
@@ -156,16 +173,16 @@ fn judge_outside<'a>(
     to: &'a [u8; MAX_EDGES],
     mark: &'a [u8; MAX_EDGES],
     w: &'a [u8; MAX_EDGES],
-    c: &'a [u32; MAX_EDGES],
+    c: &'a [u64; MAX_EDGES],
     parent: &'a [u8; MAX_LABELS],
     depth: &'a [u8; MAX_LABELS],
-    weight: &'a [u32; MAX_LABELS],
+    weight: &'a [u64; MAX_LABELS],
     m: usize,
-    dearest: u32,
-    near: u32,
-    slack: u32,
+    dearest: u64,
+    near: u64,
+    slack: u64,
     res: &mut [u8; MAX_EDGES],
-    cheapest: &mut [u32; MAX_LABELS],
+    cheapest: &mut [u64; MAX_LABELS],
 )
     requires { ⌜ Prepared m (now a) (now from) (now to) (now mark) (now w) (now c) (now parent) (now depth) (now weight) dearest near
         × (now res ≡ blank) × (now cheapest ≡ replicate 21 noCharge) ⌝ }
@@ -196,12 +213,12 @@ fn judge_outside<'a>(
 
 // The edge above each label of the queue but the root, its ruling into res: it is free and in the tree.
 fn inside<'a>(
-    c: &'a [u32; MAX_EDGES],
+    c: &'a [u64; MAX_EDGES],
     edge: &'a [u8; MAX_LABELS],
-    cheapest: &'a [u32; MAX_LABELS],
+    cheapest: &'a [u64; MAX_LABELS],
     queue: &'a [u8; MAX_LABELS],
     count: usize,
-    slack: u32,
+    slack: u64,
     res: &mut [u8; MAX_EDGES],
 )
     requires { ⌜ (1 ≤ count) × (count ≤ 21) × OneEach (BelowRoot (now queue) count) (now edge) × (length (now res) ≡ maxEdges) ⌝ }
@@ -247,9 +264,9 @@ pub(crate) fn rulings<'a>(
     b: &'a [u8; MAX_EDGES],
     mark: &'a [u8; MAX_EDGES],
     w: &'a [u8; MAX_EDGES],
-    c: &'a [u32; MAX_EDGES],
+    c: &'a [u64; MAX_EDGES],
     rep: &'a [u8; MAX_LABELS],
-    slack: u32,
+    slack: u64,
     res: &mut [u8; MAX_EDGES],
 )
     requires { ⌜ ((cost : List ℤ) × Spans (graphOf n m (now a) (now b) cost (now mark)) (now w)

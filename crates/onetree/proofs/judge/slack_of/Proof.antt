@@ -9,6 +9,7 @@ use mir.Val.{SFits}
 use mir.Syntax.{w64}
 use Rattle.integers.specs.Parts.{up, dn, one-side, mag-of-parts, abs-parts, nonNeg-of, ltZ-false}
 use Rattle.integers.specs.Differences.{sub-parts, sub-up}
+use Rattle.greedy.specs.Fits.{slack-fits}
 use Rattle.onetree.proofs.judge.slack_of.Statement.{statement}
 use Rattle.onetree.proofs.judge.slack_of.Tie as tie
 
@@ -27,7 +28,7 @@ low c =
     (λ w. omega arith) (one-side (slack c))
 
 fits : (c : tie.Start) → SFits w64 (slack c)
-fits c = record { sfits = mag-of-parts (slack c) _ (omega (arith, most c, c .pre)) (omega (arith, low c)) }
+fits c = record { sfits = mag-of-parts (slack c) _ (omega (arith, most c, c .pre, slack-fits)) (omega (arith, low c)) }
 
 sub-result : tie.Need-sub-result
 unfolding slack
@@ -38,7 +39,7 @@ unfolding slack
 cast-result c =
     rw (toZ-ofZ (c .fits .ceiling), toZ-ofZ (c .fits .bound), toZ-ofZ (fits c)) (
       nonNeg-of (slack c) (low c),
-      record { fits = omega (arith, abs-parts (slack c), low c, most c, c .pre) },
+      record { fits = omega (arith, abs-parts (slack c), low c, most c, c .pre, slack-fits) },
     )
 
 returns : tie.Need-returns

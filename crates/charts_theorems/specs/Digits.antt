@@ -8,6 +8,7 @@ use borrow.Author.Tests.{lt-ltb, le-ltb}
 use Rattle.lists.specs.Bools.{by-cases}
 use Rattle.integers.specs.Range.{InRange}
 use Rattle.graph.specs.Limits.{maxCost}
+use Rattle.graph.specs.Fits.{cost-fits}
 use Rattle.charts.specs.Chart.{signedOf, bitsOf}
 
 pub join2 : (x : ℕ) → x < 65536 → x % 256 + 256 * (x / 256 % 256) ≡ x
@@ -37,10 +38,10 @@ split4 x y z t h k l m = (omega arith, omega arith, omega arith, omega arith)
 -- two's complement, of a cost
 pub signed-bits : (z : ℤ) → InRange maxCost z → (signedOf (bitsOf z) ≡ z) × (bitsOf z < 4294967296)
 unfolding signedOf bitsOf
-signed-bits (pos n) r = (rw (lt-ltb n 2147483648 (omega (arith, r .high))), omega (arith, r .high))
+signed-bits (pos n) r = (rw (lt-ltb n 2147483648 (omega (arith, r .high, cost-fits))), omega (arith, r .high, cost-fits))
 signed-bits (negsuc n) r =
-    let e : 4294967295 - (4294967295 - n) ≡ n = omega (arith, r .low) in
-    (rw (le-ltb (4294967295 - n) 2147483648 (omega (arith, r .low)), e), omega arith)
+    let e : 4294967295 - (4294967295 - n) ≡ n = omega (arith, r .low, cost-fits) in
+    (rw (le-ltb (4294967295 - n) 2147483648 (omega (arith, r .low, cost-fits)), e), omega arith)
 
 pub bits-signed : (w : ℕ) → w < 4294967296 → bitsOf (signedOf w) ≡ w
 unfolding signedOf bitsOf

@@ -20,6 +20,7 @@ use Rattle.integers.specs.Range.{InRange, within-range}
 use Rattle.integers.specs.Sums.{sumZ}
 use Rattle.graph.specs.declared.Graph.{Graph}
 use Rattle.graph.specs.Limits.{maxCost, maxCeiling, maxSweeps, maxStep, maxCount}
+use Rattle.graph.specs.Fits.{tour-in-range}
 use Rattle.graph.specs.Network.{Network, required, excluded, network}
 use Rattle.graph.specs.Places.{network-cost}
 use Rattle.graph.specs.Valid as value
@@ -57,8 +58,8 @@ sum-range f (x ∷ xs) h =
 lowered-range : (g : Graph) → value.Valid g → (r : List Bool) → Tour (network g) (edgesOf r) → InRange maxCeiling (lowered (network g) r)
 unfolding lowered costOf cost
 lowered-range g v r o = record {
-  high = omega (arith, add-up total (negsuc 0), sums .0, size, v .high);
-  low = omega (arith, add-dn total (negsuc 0), sums .1, size, v .high);
+  high = omega (arith, add-up total (negsuc 0), sums .0, size, v .high, tour-in-range);
+  low = omega (arith, add-dn total (negsuc 0), sums .1, size, v .high, tour-in-range);
 }
   where
     es : List ℕ

@@ -11,7 +11,7 @@ use native.Mathlib.Decide.{ℕ-discrete}
 use lib.Dec.{leb}
 use lib.ListN.{length, getD, set, length-set}
 use lib.Seq.{getD-set-same, getD-set-other}
-use lib.IntN.{ℤ, pos, negsuc, _+ℤ_, _*ℤ_, _-ℤ_}
+use lib.IntN.{ℤ, pos, negsuc, _+ℤ_, _*ℤ_, _-ℤ_, negℤ}
 use lib.Signed.{ltZ}
 use borrow.Author.Tests.{lt-leb}
 use mir.Val.{SFits}
@@ -36,9 +36,9 @@ use Rattle.machine.specs.Machine.{gained}
 abbrev pub gainOf : ℕ → ℕ → ℤ
 gainOf step deg = pos step *ℤ (pos deg -ℤ pos 2)
 
--- with step at most 10,000 and a degree in a byte
+-- with a degree in a byte
 abbrev pub maxGain : ℕ
-maxGain = 2550000
+maxGain = maxStep * 255
 
 lift-up : (a : ℕ) (z : ℤ) (b c : ℕ) → a ≤ b → up z ≤ c → up (pos a *ℤ z) ≤ b * c
 lift-up a (pos n) b c h k = mul-le-mul h k
@@ -60,8 +60,8 @@ module _ (deg : ℕ) (h : deg < 256) where
   module _ (step : ℕ) (k : step ≤ maxStep) where
     pub gain-range : InRange maxGain (gainOf step deg)
     gain-range = record {
-      high = lift-up step (pos deg -ℤ pos 2) 10000 255 k (less-two .high);
-      low = lift-dn step (pos deg -ℤ pos 2) 10000 255 k (less-two .low);
+      high = lift-up step (pos deg -ℤ pos 2) maxStep 255 k (less-two .high);
+      low = lift-dn step (pos deg -ℤ pos 2) maxStep 255 k (less-two .low);
     }
 
     pub gain-fits : SFits w32 (gainOf step deg)
@@ -75,15 +75,15 @@ sum-fits x p r q = record {
 }
 
 -- "is held to its range": the three cases of the test
-pub held-low : (z : ℤ) → ltZ z (negsuc 999999) ≡ true → negsuc 999999 ≡ clamp maxMultiplier z
+pub held-low : (z : ℤ) → ltZ z (negℤ (pos maxMultiplier)) ≡ true → negℤ (pos maxMultiplier) ≡ clamp maxMultiplier z
 unfolding clamp
 held-low z h = rw h
 
-pub held-high : (z : ℤ) → ltZ z (negsuc 999999) ≡ false → ltZ (pos 1000000) z ≡ true → pos 1000000 ≡ clamp maxMultiplier z
+pub held-high : (z : ℤ) → ltZ z (negℤ (pos maxMultiplier)) ≡ false → ltZ (pos maxMultiplier) z ≡ true → pos maxMultiplier ≡ clamp maxMultiplier z
 unfolding clamp
 held-high z h k = rw (h, k)
 
-pub held-same : (z : ℤ) → ltZ z (negsuc 999999) ≡ false → ltZ (pos 1000000) z ≡ false → z ≡ clamp maxMultiplier z
+pub held-same : (z : ℤ) → ltZ z (negℤ (pos maxMultiplier)) ≡ false → ltZ (pos maxMultiplier) z ≡ false → z ≡ clamp maxMultiplier z
 unfolding clamp
 held-same z h k = rw (h, k)
 

@@ -36,7 +36,7 @@ use onetree::RuleAnswer;
 const PLACES: usize = 21;
 
 // Multipliers go from minus to plus MAX_MULTIPLIER.
-const MIN_MULTIPLIER: i32 = -1_000_000;
+const MIN_MULTIPLIER: i32 = -MAX_MULTIPLIER;
 
 // The degree of each vertex in the edges that are in, vertex v's at place v of r: one loop over the edges.
 fn count_degrees<'a>(

@@ -15,6 +15,7 @@ use Rattle.integers.specs.Parts.{mag-of-parts}
 use Rattle.graph.specs.declared.Graph.{Graph}
 use Rattle.graph.specs.Limits.{maxVertices, maxEdges, maxCount}
 use Rattle.graph.specs.Network.{network}
+use Rattle.graph.specs.Fits.{ceiling-fits}
 use Rattle.graph.specs.Valid.{Valid}
 use Rattle.tree_theory.specs.Arrays.{bytes}
 use Rattle.tours.specs.Tours.{cost}
@@ -75,7 +76,7 @@ module _ (g : Graph) (f : Frame) (l w : List ℕ) (s : Progress) (h : FrameHolds
   pub holds-mag : mag (f .upper) < 9223372036854775808
   holds-mag =
       rw holds-upper
-      (mag-of-parts (s .upper) 9223372036854775808 (omega (arith, h .kept .upper .high)) (omega (arith, h .kept .upper .low)))
+      (mag-of-parts (s .upper) 9223372036854775808 (omega (arith, h .kept .upper .high, ceiling-fits)) (omega (arith, h .kept .upper .low, ceiling-fits)))
 
   pub holds-depth : f .depth ≡ length (s .stack)
   unfolding frameOf

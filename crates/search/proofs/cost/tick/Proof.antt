@@ -9,6 +9,7 @@ use mir.Syntax.{w32, w64}
 use Rattle.integers.specs.Parts.{add-up, add-dn, mag-of-parts}
 use Rattle.integers.specs.Range.{InRange}
 use Rattle.graph.specs.Limits.{maxCost, maxEdges}
+use Rattle.graph.specs.Fits.{total-fits}
 use Rattle.search.proofs.cost.tick.Statement.{statement}
 use Rattle.search.proofs.cost.tick.Tie as tie
 
@@ -17,7 +18,7 @@ widened x h = record { sfits = omega (arith, h .sfits) }
 
 sum-fits : (x y : ℤ) → InRange maxCost x → InRange (maxCost * maxEdges) y → SFits w64 (x +ℤ y)
 sum-fits x y a b = record {
-  sfits = mag-of-parts (x +ℤ y) _ (omega (arith, add-up x y, a .high, b .high)) (omega (arith, add-dn x y, a .low, b .low));
+  sfits = mag-of-parts (x +ℤ y) _ (omega (arith, add-up x y, a .high, b .high, total-fits)) (omega (arith, add-dn x y, a .low, b .low, total-fits));
 }
 
 cast-result : tie.Need-cast-result

@@ -11,6 +11,7 @@ use mir.Syntax.{w64}
 use Rattle.integers.specs.Words.{back32, back64}
 use Rattle.integers.specs.Range.{InRange, within-range}
 use Rattle.graph.specs.declared.Graph.{Graph}
+use Rattle.graph.specs.Limits.{maxCost}
 use Rattle.graph.specs.Valid.{Valid}
 use Rattle.search.specs.Costs.{CostTo, Ticked, cost-none, cost-all, ticked}
 use Rattle.search.proofs.cost.tour_cost.Statement.{statement}
@@ -47,8 +48,8 @@ tick-requires c κs =
     let g = start .pre .0 in
     let sum = l .inv .2 g (start .pre .1) (start .pre .2) (start .pre .3) in
     rw (back32 (getD (start .args .costs .now) (l .k) (pos 0)) (c .tick-arg2 .given)) (
-      subst (λ (x : List ℤ). InRange 1000000 (getD x (l .k) (pos 0))) (start .pre .3)
-          (within-range 1000000 _ (start .pre .1 .each (l .k) (omega (arith, start .pre .2)) .range)),
+      subst (λ (x : List ℤ). InRange maxCost (getD x (l .k) (pos 0))) (start .pre .3)
+          (within-range maxCost _ (start .pre .1 .each (l .k) (omega (arith, start .pre .2)) .range)),
       record { high = omega (arith, sum .high); low = omega (arith, sum .low) },
     )
 
@@ -70,7 +71,7 @@ loop-again c =
       l .inv .1,
       λ g v e q.
           ticked (l .k) g w (toZ w64 (l .sum)) (c .tick .result) (omega (arith, e))
-          (within-range 1000000 _ (v .each (l .k) (omega (arith, e)) .range))
+          (within-range maxCost _ (v .each (l .k) (omega (arith, e)) .range))
           (l .inv .2 g v e q)
           (subst (λ (x : List ℤ). Ticked (getD w (l .k) 0) (getD x (l .k) (pos 0)) (toZ w64 (l .sum)) (c .tick .result)) (sym q) t),
     )

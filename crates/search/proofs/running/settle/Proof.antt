@@ -12,6 +12,7 @@ use Rattle.integers.specs.Parts.{add-up, add-dn, mag-of-parts}
 use Rattle.integers.specs.Range.{InRange}
 use Rattle.integers.specs.Words.{back64}
 use Rattle.graph.specs.Limits.{maxCost, maxEdges}
+use Rattle.graph.specs.Fits.{total-fits}
 use Rattle.machine.specs.Machine.{openNode}
 use Rattle.node.specs.Opened.{Opened}
 use Rattle.node.specs.Refusing.{never-refused}
@@ -24,7 +25,8 @@ use Rattle.search.proofs.running.settle.Tie as tie
 sum-fits : (z y : ℤ) → InRange (maxCost * maxEdges) z → InRange 10 y → SFits w64 (z +ℤ y)
 sum-fits z y r s = record {
   sfits =
-      mag-of-parts (z +ℤ y) 9223372036854775808 (omega (arith, add-up z y, r .high, s .high)) (omega (arith, add-dn z y, r .low, s .low));
+      mag-of-parts (z +ℤ y) 9223372036854775808 (omega (arith, add-up z y, r .high, s .high, total-fits))
+      (omega (arith, add-dn z y, r .low, s .low, total-fits));
 }
 
 -- the place of the top node is one of the stack's

@@ -25,6 +25,14 @@ fn word(a: u8, b: u8, c: u8, d: u8) -> usize
     wide(a) + 256 * wide(b) + 65536 * wide(c) + 16777216 * wide(d)
 }
 
+// The number in four bytes, half of a program's ceiling.
+// Ruled out: the bytes taken in the other order; one of them taken as signed.
+pub fn u32_of(a: u8, b: u8, c: u8, d: u8) -> usize
+    ensures { λ r. ⌜ (r ≡ u32At (a ∷ b ∷ c ∷ d ∷ []) 0) × (r < 4294967296) ⌝ }
+{
+    word(a, b, c, d)
+}
+
 pub(crate) fn u32_at(s: &[u8], i: usize) -> usize
     requires { ⌜ i + 3 < length (now s) ⌝ }
     ensures { λ r. ⌜ (r ≡ u32At (now (s .entry)) i) × (r < 4294967296) ⌝ }
@@ -41,14 +49,6 @@ pub(crate) fn signed(w: usize) -> i32
         return w as i32;
     }
     -1 - ((4294967295 - w) as i32)
-}
-
-// The number in four bytes, a cost or a program's ceiling.
-// Ruled out: the bytes taken in the other order; a negative number read as a large one.
-pub fn i32_of(a: u8, b: u8, c: u8, d: u8) -> i32
-    ensures { λ r. ⌜ r ≡ signedOf (u32At (a ∷ b ∷ c ∷ d ∷ []) 0) ⌝ }
-{
-    signed(word(a, b, c, d))
 }
 
 // z in two's complement.

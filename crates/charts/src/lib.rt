@@ -5,7 +5,7 @@ mod bytes;
 mod reader;
 mod writer;
 
-pub use bytes::i32_of;
+pub use bytes::u32_of;
 pub use reader::read;
 pub use writer::write;
 
@@ -16,6 +16,9 @@ pub const MAX_RECORDS: usize = 1000;
 pub(crate) const HEADER_SIZE: usize = 8;
 
 pub(crate) const RECORD_SIZE: usize = 12;
+
+// The longest file.
+pub const MAX_SIZE: usize = HEADER_SIZE + RECORD_SIZE * MAX_RECORDS;
 
 // What a reading answers: specs/Answers.antt has the number and the place of each case. An enum may hold no array, so the graph
 // stands beside it.

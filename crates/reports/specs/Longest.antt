@@ -14,7 +14,7 @@ use Rattle.lists.specs.Bools.{by-cases}
 use Rattle.graph.specs.declared.Graph.{Graph}
 use Rattle.graph.specs.Limits.{minVertices, maxVertices, maxRecords}
 use Rattle.charts.specs.Chart.{u32At, vertices, recordCount, sizeOf, headerFault, reading}
-use Rattle.reports.specs.Input.{ceilingSize, ceilingOf, chartOf, printed}
+use Rattle.reports.specs.Input.{ceilingSize, u64At, ceilingOf, chartOf, printed}
 
 -- the longest file: "record count r (u16, at most 1,000)"
 abbrev pub longestChart : ℕ
@@ -58,9 +58,13 @@ module _ (s : List ℕ) where
   first : (i : ℕ) → i < enough → getD (take enough s) i 0 ≡ getD s i 0
   first i h = getD-take enough s i 0 h
 
+  same-four : (i : ℕ) → i + 3 < enough → u32At (take enough s) i ≡ u32At s i
+  unfolding u32At
+  same-four i h = rw (first i (omega arith), first (i + 1) (omega arith), first (i + 2) (omega arith), first (i + 3) (omega arith))
+
   same-ceiling : ceilingOf (take enough s) ≡ ceilingOf s
-  unfolding ceilingOf u32At
-  same-ceiling = rw (first 0 (omega arith), first 1 (omega arith), first 2 (omega arith), first 3 (omega arith))
+  unfolding ceilingOf u64At
+  same-ceiling = rw (same-four 0 (omega arith), same-four 4 (omega arith))
 
   same-header : (i : ℕ) → i < 8 → getD (chartOf (take enough s)) i 0 ≡ getD (chartOf s) i 0
   unfolding chartOf

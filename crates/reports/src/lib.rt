@@ -5,6 +5,7 @@ mod rulings;
 mod searching;
 mod text;
 
+pub use input::INPUT_SIZE;
 pub use rulings::rulings_text;
 pub use searching::search_text;
 

@@ -9,6 +9,7 @@ ghost use Rattle.reports.specs.Puts.{Put};
 ghost use Rattle.reports.specs.Rulings.{edgeLines, replyText, rulesText, rulingsText};
 ghost use Rattle.reports.specs.Text.{bufferSize};
 use crate::BUFFER_SIZE;
+use crate::input::CEILING_SIZE;
 use crate::input::ceiling_of;
 use crate::lines::put_bound;
 use crate::lines::put_dead;
@@ -103,10 +104,10 @@ pub fn rulings_text(input: &[u8], out: &mut [u8; BUFFER_SIZE]) -> usize
         × (now (out .exit) ≡ sets (now (out .entry)) 0 (rulingsText (now (input .entry))))
         ⌝ }
 {
-    if input.len() < 4 {
+    if input.len() < CEILING_SIZE {
         return put_refused(out, 1, 0);
     }
-    let chart = charts::read(&input[4..]);
+    let chart = charts::read(&input[CEILING_SIZE..]);
     let answer = chart.answer;
     let g = chart.graph;
     match answer {

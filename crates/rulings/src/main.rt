@@ -5,13 +5,14 @@ ghost use lib.ListN.{length};
 ghost use Rattle.reports.specs.Longest.{enough};
 use libc::STDIN_FILENO;
 use libc::STDOUT_FILENO;
+use reports::INPUT_SIZE;
 
-// One byte more than the longest input, 4 + 8 + 12 × 1,000: of a longer one the same is printed as of these first bytes (`enough` and
-// `first-bytes` in specs/Longest.antt of crate reports).
-fn room() -> [u8; 12013]
+// One byte more than the longest input: of a longer one the same is printed as of these first bytes (`enough` and `first-bytes` in
+// specs/Longest.antt of crate reports).
+fn room() -> [u8; INPUT_SIZE]
     ensures { λ r. ⌜ enough ≡ length r ⌝ }
 {
-    [0; 12013]
+    [0; INPUT_SIZE]
 }
 
 fn main() {

@@ -58,8 +58,33 @@ pub const CEILING_NOT_WITHIN: Bend = Bend {
 };
 
 pub const HIGHER_CEILING: Bend = Bend {
-    what: "a ceiling of 50,000,001 is taken",
+    what: "the ceiling limit is one higher",
     bend: |law| law.max_ceiling += 1,
+};
+
+pub const LOWER_CEILING: Bend = Bend {
+    what: "the ceiling limit is one lower",
+    bend: |law| law.max_ceiling -= 1,
+};
+
+pub const FORMER_CEILING: Bend = Bend {
+    what: "the ceiling limit is document 01's, 50,000,000",
+    bend: |law| law.max_ceiling = 50_000_000,
+};
+
+pub const FORMER_CEILING_BYTES: Bend = Bend {
+    what: "a program's ceiling has document 01's 4 bytes, and an input under 4 is refused",
+    bend: |law| (law.ceiling_bytes, law.ceiling_bytes_read) = (4, 4),
+};
+
+pub const HIGH_BYTES_LOST: Bend = Bend {
+    what: "of a program's ceiling only the low 4 bytes count",
+    bend: |law| law.ceiling_bytes_read = 4,
+};
+
+pub const CHEAP_NO_REPLACEMENT: Bend = Bend {
+    what: "an edge that nothing can replace is kept at a slack of 4,000,000,000",
+    bend: |law| law.no_replacement = Some(4_000_000_000),
 };
 
 pub const MULTIPLIERS_NOT_HELD: Bend = Bend {
@@ -130,6 +155,11 @@ pub const HIGHER_COST: Bend = Bend {
 pub const LOWER_COST: Bend = Bend {
     what: "the cost limit is one lower",
     bend: |law| law.max_cost -= 1,
+};
+
+pub const FORMER_COST: Bend = Bend {
+    what: "the cost limit is document 01's, 1,000,000",
+    bend: |law| law.max_cost = 1_000_000,
 };
 
 pub const EXCLUDED_ON_TOP: Bend = Bend {

@@ -2,6 +2,7 @@
 
 use crate::document::graph::{Edge, Graph};
 use crate::document::Refusal;
+use crate::generate::{past, MAX_COST};
 use crate::random::Random;
 
 #[derive(Clone)]
@@ -179,9 +180,9 @@ fn break_mark_or_zero(random: &mut Random, file: &mut File, p: usize) {
 }
 
 fn break_cost(random: &mut Random, file: &mut File, p: usize) {
-    let past = random.between(1_000_001, i32::MAX as i64) as i32;
-    let costs = [1_000_001, -1_000_001, past, -past, i32::MIN, i32::MAX];
-    file.at(p).edge.cost = random.pick(&costs);
+    let far = random.between(MAX_COST as i64 + 1, i32::MAX as i64) as i32;
+    let past = past(random, MAX_COST);
+    file.at(p).edge.cost = random.pick(&[past, past, far, -far]);
 }
 
 /// Gives the record the pair of an earlier one.

@@ -1,10 +1,14 @@
 //! Random graphs, multipliers, ceilings and lists of calls.
 
 use crate::document::graph::{Edge, Graph, EXCLUDED, FREE, PLACES, REQUIRED};
+use crate::document::law::Law;
 use crate::document::machine::Call;
 use crate::random::Random;
 
-pub const MAX: i64 = 1_000_000;
+/// The limits of the law as written; each range is from minus to plus its limit.
+pub const MAX_COST: i32 = Law::AS_WRITTEN.max_cost as i32;
+pub const MAX_MULTIPLIER: i32 = Law::AS_WRITTEN.max_multiplier as i32;
+pub const MAX_CEILING: i64 = Law::AS_WRITTEN.max_ceiling;
 
 /// How costs and multipliers are drawn: few values make ties, the ends of the range make extremes.
 #[derive(Clone, Copy)]
@@ -12,33 +16,52 @@ pub enum Spread {
     Equal,
     Few,
     Some,
+    /// of any number of digits
+    Sized,
     Whole,
     Ends,
     Top,
 }
 
-pub const SPREADS: [Spread; 6] = [
+pub const SPREADS: [Spread; 7] = [
     Spread::Equal,
     Spread::Few,
     Spread::Some,
+    Spread::Sized,
     Spread::Whole,
     Spread::Ends,
     Spread::Top,
 ];
 
-pub fn number(random: &mut Random, spread: Spread) -> i32 {
+/// A number from -max to max.
+pub fn number(random: &mut Random, spread: Spread, max: i32) -> i32 {
+    let max = max as i64;
     let drawn = match spread {
         Spread::Equal => 7,
         Spread::Few => random.between(-2, 2),
         Spread::Some => random.between(-20, 100),
-        Spread::Whole => random.between(-MAX, MAX),
+        Spread::Sized => {
+            let size = 10i64.pow(random.below(10) as u32).min(max);
+            random.between(-size, size)
+        }
+        Spread::Whole => random.between(-max, max),
         Spread::Ends => {
-            let end = random.pick(&[-MAX, MAX]);
+            let end = random.pick(&[-max, max]);
             end - end.signum() * random.between(0, 2)
         }
-        Spread::Top => MAX - random.between(0, 2),
+        Spread::Top => max - random.between(0, 2),
     };
     drawn as i32
+}
+
+/// One past a limit, on either side, or an end of the type.
+pub fn past(random: &mut Random, max: i32) -> i32 {
+    random.pick(&[max + 1, -max - 1, i32::MIN, i32::MAX])
+}
+
+/// A ceiling out of range.
+pub fn wrong_ceiling(random: &mut Random) -> i64 {
+    random.pick(&[MAX_CEILING + 1, -MAX_CEILING - 1, i64::MAX, i64::MIN])
 }
 
 /// Marks: all free, mostly free, or any.
@@ -73,7 +96,7 @@ pub fn graph_of(random: &mut Random, n: usize, m: usize) -> Graph {
         .map(|(a, b)| Edge {
             a: *a,
             b: *b,
-            cost: number(random, spread),
+            cost: number(random, spread, MAX_COST),
             mark: mark(random, style),
         })
         .collect();
@@ -132,7 +155,9 @@ pub fn multipliers_of(random: &mut Random, n: usize, spread: Spread) -> Vec<i32>
     if random.one_in(5) {
         return vec![0; n];
     }
-    let mut drawn: Vec<i32> = (0..n).map(|_| number(random, spread)).collect();
+    let mut drawn: Vec<i32> = (0..n)
+        .map(|_| number(random, spread, MAX_MULTIPLIER))
+        .collect();
     drawn[0] = 0;
     drawn
 }
@@ -157,8 +182,8 @@ pub fn break_value(random: &mut Random, graph: &mut Graph) {
             graph.b[k] = graph.b[j];
         }
         11 => {
-            let past = MAX as i32 + random.below(3) as i32;
-            graph.cost[k] = random.pick(&[past, -past, i32::MIN, i32::MAX]);
+            let near = MAX_COST + random.below(3) as i32;
+            graph.cost[k] = random.pick(&[near, -near, i32::MIN, i32::MAX]);
         }
         12 => graph.mark[k] = random.byte(),
         _ => graph.mark[k] = 2 + random.below(2) as u8,
@@ -179,18 +204,21 @@ pub fn graph_value(random: &mut Random, broken: bool) -> Graph {
     graph
 }
 
-/// A ceiling, often at or beside `bound`.
+/// A ceiling, often at or beside `bound`, or beside a number that has the bound's low half.
 pub fn ceiling(random: &mut Random, bound: i64) -> i64 {
-    let near = match random.below(8) {
+    let size = 10i64.pow(random.below(10) as u32);
+    let near = match random.below(10) {
         0 => bound - 1,
         1 | 2 => bound,
         3 => bound + 1,
         4 => bound + random.between(0, 20),
-        5 => bound + random.between(0, MAX),
-        6 => random.between(-50 * MAX, 50 * MAX),
-        _ => random.pick(&[-50 * MAX, 50 * MAX, 0, 20 * MAX]),
+        5 => bound + random.between(0, size),
+        6 => bound + random.pick(&[-1 << 32, 1 << 31, 1 << 32]) + random.between(-2, 2),
+        7 => random.between(-MAX_CEILING, MAX_CEILING),
+        8 => MAX_CEILING,
+        _ => random.pick(&[-MAX_CEILING, 0, 20 * MAX_COST as i64]),
     };
-    near.clamp(-50 * MAX, 50 * MAX)
+    near.clamp(-MAX_CEILING, MAX_CEILING)
 }
 
 /// A length that is right, or wrong by a little or by much.
@@ -277,7 +305,7 @@ pub fn opening(random: &mut Random, max_vertices: usize, most: usize, wrong: boo
             0 => break_value(random, &mut graph),
             1 => multipliers.resize(random.below(24), 0),
             2 => break_multipliers(random, &mut multipliers),
-            3 => ceiling = random.pick(&[50 * MAX + 1, -50 * MAX - 1, i64::MAX, i64::MIN]),
+            3 => ceiling = wrong_ceiling(random),
             _ if random.one_in(2) => sweeps = random.pick(&[16, 17, u32::MAX]),
             _ => step = random.pick(&[10_001, u32::MAX]),
         }
@@ -297,10 +325,9 @@ pub fn break_multipliers(random: &mut Random, multipliers: &mut [i32]) {
         return;
     }
     let i = random.below(multipliers.len());
-    let past = MAX as i32 + 1;
     match random.below(3) {
-        0 => multipliers[0] = random.pick(&[1, -1, MAX as i32]),
-        1 => multipliers[i] = random.pick(&[past, -past, i32::MIN, i32::MAX]),
-        _ => multipliers[multipliers.len() - 1] = random.pick(&[past, -past]),
+        0 => multipliers[0] = random.pick(&[1, -1, MAX_MULTIPLIER]),
+        1 => multipliers[i] = past(random, MAX_MULTIPLIER),
+        _ => *multipliers.last_mut().expect("not empty") = past(random, MAX_MULTIPLIER),
     }
 }

@@ -156,7 +156,7 @@ pub fn has_writers_form(law: &Law, bytes: &[u8]) -> bool {
             && edge.b as usize <= n
             && edge.mark <= 2
             && record.zeros == [0, 0, 0]
-            && (-1_000_000..=1_000_000).contains(&edge.cost)
+            && cost_fits(&Law::AS_WRITTEN, edge.cost)
             && !records[..k]
                 .iter()
                 .any(|other| same_pair(&other.edge, edge))

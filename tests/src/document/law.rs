@@ -6,7 +6,7 @@
 pub struct Law {
     /// "n from 3 to 20"
     pub max_vertices: usize,
-    /// "−1,000,000 to 1,000,000"
+    /// C-14: "Cost runs from −100,000,000 to 100,000,000"
     pub max_cost: i64,
     /// "Its mark is 0 free, 1 required or 2 struck."
     pub max_mark: u8,
@@ -49,12 +49,15 @@ pub struct Law {
     /// "It has every required leg"
     pub required_kept: bool,
 
-    /// "−50,000,000 to 50,000,000"
+    /// C-14: "the ceiling from −5,000,000,000 to 5,000,000,000"
     pub max_ceiling: i64,
     /// "at or below the ceiling": a bound equal to it is within
     pub ceiling_within: bool,
     /// a required edge is not swapped out
     pub required_stay: bool,
+    /// what the bound gains without an edge that every 1-tree has: there is no such number, it is forced
+    /// under every ceiling
+    pub no_replacement: Option<i64>,
 
     /// C-11: legs are "1 to m"
     pub first_leg: usize,
@@ -76,6 +79,11 @@ pub struct Law {
     pub ruled_stays_below: bool,
     /// C-15: "unless the lower is dead"
     pub unless_dead: bool,
+
+    /// C-14: "Program input has an i64 little-endian ceiling", 8 bytes
+    pub ceiling_bytes: usize,
+    /// C-14: of those bytes, so many count
+    pub ceiling_bytes_read: usize,
 
     /// "sweeps (0 to 15)"
     pub max_sweeps: u32,
@@ -109,7 +117,7 @@ pub struct Law {
 impl Law {
     pub const AS_WRITTEN: Law = Law {
         max_vertices: 20,
-        max_cost: 1_000_000,
+        max_cost: 100_000_000,
         max_mark: 2,
         ends_differ: true,
         pairs_differ: true,
@@ -129,9 +137,10 @@ impl Law {
         multipliers_off: 2,
         lower_numbered_first: true,
         required_kept: true,
-        max_ceiling: 50_000_000,
+        max_ceiling: 5_000_000_000,
         ceiling_within: true,
         required_stay: true,
+        no_replacement: None,
         first_leg: 1,
         max_new_mark: 2,
         preview_free_last: true,
@@ -141,6 +150,8 @@ impl Law {
         required_first: true,
         ruled_stays_below: true,
         unless_dead: true,
+        ceiling_bytes: 8,
+        ceiling_bytes_read: 8,
         max_sweeps: 15,
         max_step: 10_000,
         below_tour: 1,

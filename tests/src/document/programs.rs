@@ -8,14 +8,24 @@ use super::rulings::{self, Ruled};
 use super::tree::Method;
 use super::{refuse, Refusal};
 
-/// "a ceiling (i32, little-endian) and then a chart"; "an input under 4 bytes is refused 1 at 0".
+/// "a ceiling [..] and then a chart", and of document 02's C-14 "an i64 little-endian ceiling from now
+/// on, and an input under 8 bytes is refused 1 at 0". "The chart's faults, 1 to 10, come before 13."
 fn split(law: &Law, input: &[u8]) -> Result<(i64, Graph), Refusal> {
-    if input.len() < 4 {
+    let Some((ceiling, chart)) = input.split_at_checked(law.ceiling_bytes) else {
         return refuse(1, 0);
-    }
-    let ceiling = i32::from_le_bytes([input[0], input[1], input[2], input[3]]);
-    let graph = read(law, &input[4..])?;
-    Ok((ceiling as i64, graph))
+    };
+    let graph = read(law, chart)?;
+    Ok((number(&ceiling[..law.ceiling_bytes_read]), graph))
+}
+
+/// Little-endian, "in two's complement".
+fn number(bytes: &[u8]) -> i64 {
+    let unsigned = bytes
+        .iter()
+        .rev()
+        .fold(0, |sum, byte| sum << 8 | *byte as u64);
+    let above = 64 - 8 * bytes.len();
+    ((unsigned << above) as i64) >> above
 }
 
 fn refused(refusal: Refusal) -> String {

@@ -76,7 +76,8 @@ fn by_marking(
     let Some(bound) = bound_of(graph).filter(|bound| *bound <= ceiling) else {
         return Ruled::Infeasible;
     };
-    let some = |graph: &Graph| bound_of(graph).is_some_and(|bound| within(law, bound, ceiling));
+    let some = |least: Option<i64>| least.is_some_and(|bound| within(law, bound, ceiling));
+    let nothing = law.no_replacement.map(|more| bound + more);
     let mut base = graph.clone();
     if !law.required_stay {
         let marks = base.mark[..graph.m].iter_mut();
@@ -86,8 +87,8 @@ fn by_marking(
     }
     let rulings = (0..graph.m).map(|k| match graph.mark[k] {
         FREE => {
-            let with = some(&base.with_mark(k, REQUIRED));
-            let without = some(&graph.with_mark(k, EXCLUDED));
+            let with = some(bound_of(&base.with_mark(k, REQUIRED)));
+            let without = some(bound_of(&graph.with_mark(k, EXCLUDED)).or(nothing));
             ruling(FREE, with, without)
         }
         mark => ruling(mark, true, true),

@@ -9,7 +9,7 @@ use crate::generate;
 use crate::random::Random;
 use crate::report::{hex, Outcome};
 use crate::stack::STATED_OF_PROGRAMS;
-use crate::suites::programs::{input, output, path};
+use crate::suites::programs::{input, output, path, CEILING, LONGEST};
 use std::os::unix::process::ExitStatusExt;
 use std::process::Command;
 
@@ -18,7 +18,12 @@ pub const RULINGS: Kind = Kind {
     run: rulings,
     share: 1,
     spawns: true,
-    bends: &[bends::HIGHER_CEILING, bends::CEILING_NOT_WITHIN],
+    bends: &[
+        bends::HIGHER_CEILING,
+        bends::FORMER_CEILING_BYTES,
+        bends::HIGH_BYTES_LOST,
+        bends::CEILING_NOT_WITHIN,
+    ],
 };
 
 pub const HUNT: Kind = Kind {
@@ -26,7 +31,11 @@ pub const HUNT: Kind = Kind {
     run: hunt,
     share: 1,
     spawns: true,
-    bends: &[bends::HIGHER_CEILING, bends::EXCLUDED_ON_TOP],
+    bends: &[
+        bends::HIGHER_CEILING,
+        bends::FORMER_CEILING_BYTES,
+        bends::EXCLUDED_ON_TOP,
+    ],
 };
 
 /// What a process printed, and how it ended.
@@ -92,12 +101,12 @@ fn hostile_input(random: &mut Random) -> Vec<u8> {
         let graph = generate::small_graph(random, 7, 16);
         input(random, &graph)
     } else {
-        let ceiling = random.word() as i32 >> random.below(32);
+        let ceiling = random.word() as i64 >> random.below(64);
         [&ceiling.to_le_bytes(), &hostile(random)[..]].concat()
     };
     match random.below(16) {
-        0 => bytes.truncate(random.below(14)),
-        1 => bytes.resize(random.pick(&[12_012, 12_013, 12_014, 70_000]), 0),
+        0 => bytes.truncate(random.below(18)),
+        1 => bytes.resize(random.pick(&[LONGEST, LONGEST + 1, LONGEST + 2, 70_000]), 0),
         2 => bytes.fill(0xff),
         _ => {}
     }
@@ -112,7 +121,7 @@ fn rulings(random: &mut Random, watch: &mut Watch) -> Outcome {
 /// An input that asks for no long search: the reference is slow, so a file of many edges loses its last byte.
 pub fn hunt_input(random: &mut Random) -> Vec<u8> {
     let mut bytes = hostile_input(random);
-    let file = bytes.get(4..).unwrap_or(&[]);
+    let file = bytes.get(CEILING..).unwrap_or(&[]);
     if chart::read(&Law::AS_WRITTEN, file).is_ok_and(|graph| graph.m > 16) {
         bytes.pop();
     }

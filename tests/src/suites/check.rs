@@ -4,7 +4,7 @@ use crate::bends;
 use crate::document::graph::{fits, Edge, Graph, PLACES};
 use crate::document::law::Law;
 use crate::ffi::{check, only, Reply};
-use crate::generate;
+use crate::generate::{self, MAX_COST};
 use crate::random::Random;
 use crate::report::{Outcome, Suite, Tally};
 
@@ -13,6 +13,7 @@ pub const SUITE: Suite = Suite {
     run,
     bends: &[
         bends::HIGHER_COST,
+        bends::FORMER_COST,
         bends::MORE_VERTICES,
         bends::MARK_THREE,
         bends::EQUAL_ENDS,
@@ -89,17 +90,12 @@ fn each_field(law: &Law, tally: &mut Tally, random: &mut Random) -> Outcome {
         }
         let any = random.below(base.m);
         let k = random.pick(&[0, base.m - 1, any]);
-        for cost in [
-            -1_000_001,
-            -1_000_000,
-            1_000_000,
-            1_000_001,
-            i32::MIN,
-            i32::MAX,
-        ] {
-            let mut graph = base.clone();
-            graph.cost[k] = cost;
-            judge(law, tally, "a cost at or past its limit", &graph)?;
+        for limit in [MAX_COST, MAX_COST + 1, i32::MAX] {
+            for cost in [limit, -limit, -limit - 1] {
+                let mut graph = base.clone();
+                graph.cost[k] = cost;
+                judge(law, tally, "a cost at or past its limit", &graph)?;
+            }
         }
         for byte in 0..=255 {
             let mut graph = base.clone();

@@ -6,7 +6,7 @@ use crate::document::law::Law;
 use crate::document::machine::{Call, Machine};
 use crate::document::tree::Method;
 use crate::ffi::{only, Reply};
-use crate::generate;
+use crate::generate::{self, past, wrong_ceiling, MAX_CEILING, MAX_COST, MAX_MULTIPLIER};
 use crate::random::Random;
 use crate::record::{Record, NODES, STACK};
 use crate::report::{Outcome, Suite, Tally};
@@ -18,8 +18,11 @@ pub const SUITE: Suite = Suite {
         bends::MORE_SWEEPS,
         bends::LARGER_STEP,
         bends::HIGHER_CEILING,
+        bends::LOWER_CEILING,
+        bends::FORMER_CEILING,
         bends::MARK_THREE,
         bends::HIGHER_COST,
+        bends::FORMER_COST,
         bends::HIGHER_MULTIPLIER,
         bends::FLAG_OF_TWO,
         bends::DEEPER_STACK,
@@ -54,16 +57,11 @@ pub fn harm(random: &mut Random, record: &mut Record) {
     } else {
         random.below(4) as u8
     };
-    let signed = random.pick(&[0, 1, -1, 1_000_000, 1_000_001, -1_000_001, i32::MIN]);
-    let wide = random.pick(&[
-        0,
-        1,
-        50_000_000,
-        50_000_001,
-        -50_000_001,
-        i64::MAX,
-        i64::MIN,
-    ]);
+    let limit = random.pick(&[0, 1, MAX_COST, MAX_MULTIPLIER]);
+    let past = past(random, limit);
+    let signed = random.pick(&[limit, -limit, past]);
+    let wrong = wrong_ceiling(random);
+    let wide = random.pick(&[0, 1, MAX_CEILING, -MAX_CEILING, wrong, wrong]);
     let place = match random.below(3) {
         0 => random.below(STACK),
         1 => PLACES * record.depth.min(NODES - 1) + random.below(PLACES),

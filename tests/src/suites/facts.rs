@@ -18,13 +18,18 @@ pub const SUITE: Suite = Suite {
         bends::CEILING_NOT_WITHIN,
         bends::REQUIRED_LEFT_OUT,
         bends::MULTIPLIERS_NOT_HELD,
+        bends::FORMER_CEILING_BYTES,
+        bends::HIGH_BYTES_LOST,
+        bends::FORMER_CEILING,
+        bends::FORMER_COST,
+        bends::CHEAP_NO_REPLACEMENT,
     ],
 };
 
 const METHODS: [Method; 3] = [Method::Definition, Method::Kruskal, Method::Prim];
 
 /// A graph with all edges free.
-fn free(n: usize, edges: &[(u8, u8, i32)]) -> Graph {
+pub fn free(n: usize, edges: &[(u8, u8, i32)]) -> Graph {
     let edges: Vec<Edge> = edges
         .iter()
         .map(|(a, b, cost)| Edge {
@@ -142,30 +147,85 @@ fn held(law: &Law, tally: &mut Tally) -> Outcome {
     tally.compare("multiplier held", input, &expected, &multipliers)
 }
 
-fn printed(law: &Law, tally: &mut Tally) -> Outcome {
-    let chart = write(law, &four(), 80).unwrap_or_default();
-    let input = |ceiling: i32| [&ceiling.to_le_bytes(), &chart[..]].concat();
+/// An input of the programs, and what 'rulings' and 'hunt' print for it.
+pub struct Printed {
+    pub input: Vec<u8>,
+    pub rulings: String,
+    pub hunt: String,
+}
+
+/// "Program input has an i64 little-endian ceiling from now on".
+fn program_input(ceiling: i64, chart: &[u8]) -> Vec<u8> {
+    [&ceiling.to_le_bytes(), chart].concat()
+}
+
+/// Document 01's sea and three legs at the ends of the ranges, "on that input" of document 02's C-14.
+pub fn program_cases() -> Vec<Printed> {
+    let sea = chart(&four());
+    let case = |input: Vec<u8>, rulings: &str, hunt: &str| Printed {
+        input,
+        rulings: rulings.to_string(),
+        hunt: hunt.to_string(),
+    };
+    let refused = |input: Vec<u8>, text: &str| case(input, text, text);
     let text = "bound 10 ceiling 12\n1 1-2 keep\n2 1-3 keep\n3 1-4 keep\n\
                 4 2-3 force\n5 2-4 bar\n6 3-4 force\n";
-    let mut damaged = input(60_000_000);
-    damaged[4 + 8 + 2 * 12 + 2] = 3;
-    let cases = [
-        (input(12), text, "cost 12\nnodes 5\n"),
-        (input(11), "", "none\nnodes 3\n"),
-        (input(9), "dead\n", "none\nnodes 1\n"),
-        (input(60_000_000), "refused 13 at 0\n", "refused 13 at 0\n"),
-        (damaged, "refused 8 at 3\n", "refused 8 at 3\n"),
-        (vec![1, 2, 3], "refused 1 at 0\n", "refused 1 at 0\n"),
-        (vec![0; 11], "refused 1 at 0\n", "refused 1 at 0\n"),
+    let tighter = "bound 10 ceiling 11\n1 1-2 keep\n2 1-3 force\n3 1-4 keep\n\
+                   4 2-3 force\n5 2-4 bar\n6 3-4 force\n";
+    let mut damaged = program_input(5_000_000_001, &sea);
+    damaged[8 + 8 + 2 * 12 + 2] = 3;
+    let mut cases = vec![
+        case(program_input(12, &sea), text, "cost 12\nnodes 5\n"),
+        case(program_input(11, &sea), tighter, "none\nnodes 3\n"),
+        case(program_input(9, &sea), "dead\n", "none\nnodes 1\n"),
+        case(
+            program_input(12 - (1 << 32), &sea),
+            "dead\n",
+            "none\nnodes 1\n",
+        ),
+        refused(damaged, "refused 8 at 3\n"),
+        // The former input: the ceiling takes 4 bytes of the chart, whose record count is then 513.
+        refused(
+            [&12i32.to_le_bytes(), &sea[..]].concat(),
+            "refused 4 at 0\n",
+        ),
     ];
-    for (bytes, rulings, search) in cases {
-        let shown = || crate::report::hex(&bytes);
-        if !rulings.is_empty() {
-            let got = programs::rulings(law, &bytes);
-            tally.compare("program rulings", shown, &rulings.to_string(), &got)?;
-        }
-        let got = programs::search(law, &bytes);
-        tally.compare("program hunt", shown, &search.to_string(), &got)?;
+    for ceiling in [5_000_000_001, -5_000_000_001, i64::MIN, i64::MAX] {
+        cases.push(refused(program_input(ceiling, &sea), "refused 13 at 0\n"));
+    }
+    for length in [0, 3, 4, 7, 8, 15] {
+        cases.push(refused(vec![0; length], "refused 1 at 0\n"));
+    }
+    for cost in [0, 100_000_000, -100_000_000] {
+        let three = chart(&free(3, &[(1, 2, cost), (1, 3, cost), (2, 3, cost)]));
+        let total = 3 * cost as i64;
+        let rulings =
+            format!("bound {total} ceiling 5000000000\n1 1-2 force\n2 1-3 force\n3 2-3 force\n");
+        let hunt = format!("cost {total}\nnodes 1\n");
+        cases.push(case(program_input(5_000_000_000, &three), &rulings, &hunt));
+        cases.push(case(
+            program_input(-5_000_000_000, &three),
+            "dead\n",
+            "none\nnodes 1\n",
+        ));
+    }
+    let mut dear = chart(&free(3, &[(1, 2, 100_000_000)]));
+    dear[8 + 4] += 1;
+    cases.push(refused(program_input(i64::MIN, &dear), "refused 9 at 1\n"));
+    cases
+}
+
+fn chart(graph: &Graph) -> Vec<u8> {
+    write(&Law::AS_WRITTEN, graph, 8 + 12 * graph.m).expect("a fit graph")
+}
+
+fn printed(law: &Law, tally: &mut Tally) -> Outcome {
+    for case in program_cases() {
+        let shown = || crate::report::hex(&case.input);
+        let got = programs::rulings(law, &case.input);
+        tally.compare("program rulings", shown, &case.rulings, &got)?;
+        let got = programs::search(law, &case.input);
+        tally.compare("program hunt", shown, &case.hunt, &got)?;
     }
     Ok(())
 }

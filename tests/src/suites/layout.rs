@@ -134,6 +134,9 @@ fn record_fields(search: &Search, named: &raw::Record) -> Vec<Field> {
     fields
 }
 
+/// Costs are about so many thousands: all four bytes count.
+const COSTS: i64 = 99_000;
+
 /// A complete graph with different costs and marks of all three kinds.
 fn distinct(random: &mut Random, n: usize) -> Graph {
     let pairs = generate::pairs(random, n);
@@ -142,7 +145,7 @@ fn distinct(random: &mut Random, n: usize) -> Graph {
         .map(|(k, (a, b))| Edge {
             a,
             b,
-            cost: 1_000 * random.between(-100, 100) as i32 + k,
+            cost: 1_000 * random.between(-COSTS, COSTS) as i32 + k,
             mark: match k {
                 0 => REQUIRED,
                 1 => EXCLUDED,
@@ -176,7 +179,7 @@ fn record_left(law: &Law, tally: &mut Tally, random: &mut Random) -> Result<bool
     let open = Call::Open {
         graph: Box::new(distinct(random, n)),
         multipliers: (0..n as i32).map(|i| 300 * i).collect(),
-        ceiling: 40_000_000 + random.below(1_000) as i64,
+        ceiling: generate::MAX_CEILING - random.below(1_000) as i64,
         sweeps: 1 + random.below(3) as u32,
         step: 7 + random.below(900) as u32,
     };

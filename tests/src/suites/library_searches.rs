@@ -31,7 +31,7 @@ fn run(law: &Law, tally: &mut Tally) -> Outcome {
             .map(|tour| tour.cost)
             .min();
         let ceiling = match random.below(4) {
-            0 => 50_000_000,
+            0 => generate::MAX_CEILING,
             _ => generate::ceiling(random, best.unwrap_or(0)),
         };
         let expected = best.filter(|cost| *cost <= ceiling);

@@ -21,6 +21,8 @@ pub mod layout;
 #[cfg(feature = "library")]
 pub mod library_searches;
 #[cfg(feature = "library")]
+pub mod limits;
+#[cfg(feature = "library")]
 pub mod preview;
 #[cfg(feature = "rulings")]
 pub mod programs;
@@ -62,6 +64,8 @@ pub fn all() -> Vec<Suite> {
         preview::SUITE,
         #[cfg(feature = "library")]
         rule::SUITE,
+        #[cfg(feature = "library")]
+        limits::SUITE,
         #[cfg(feature = "library")]
         falling_ceilings::SUITE,
         #[cfg(feature = "library")]

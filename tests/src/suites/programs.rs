@@ -1,6 +1,7 @@
 //! The programs 'rulings' and 'hunt' in target/bin (PLANNER_BIN_DIR names another folder): what they
 //! print for an input.
 
+use super::facts::{program_cases, Printed};
 use super::own_rulings::turning_ceiling;
 use crate::bends;
 use crate::document::graph::Graph;
@@ -21,8 +22,13 @@ pub const RULINGS: Suite = Suite {
     run: run_rulings,
     bends: &[
         bends::HIGHER_CEILING,
+        bends::FORMER_CEILING,
+        bends::FORMER_CEILING_BYTES,
+        bends::HIGH_BYTES_LOST,
         bends::CEILING_NOT_WITHIN,
         bends::LOWER_COST,
+        bends::FORMER_COST,
+        bends::CHEAP_NO_REPLACEMENT,
     ],
 };
 
@@ -31,7 +37,14 @@ pub const RULINGS: Suite = Suite {
 pub const HUNT: Suite = Suite {
     name: "program hunt",
     run: run_hunt,
-    bends: &[bends::HIGHER_CEILING, bends::EXCLUDED_ON_TOP],
+    bends: &[
+        bends::HIGHER_CEILING,
+        bends::FORMER_CEILING,
+        bends::FORMER_CEILING_BYTES,
+        bends::HIGH_BYTES_LOST,
+        bends::FORMER_COST,
+        bends::EXCLUDED_ON_TOP,
+    ],
 };
 
 /// Where a program is.
@@ -65,20 +78,29 @@ fn printed(name: &str, input: &[u8]) -> io::Result<String> {
     Ok(text)
 }
 
-/// A ceiling and a chart; now and then damaged, cut short or with a ceiling out of range.
+/// Bytes of a ceiling.
+pub const CEILING: usize = Law::AS_WRITTEN.ceiling_bytes;
+
+/// The longest input that is a ceiling and a chart: a header of 8 bytes and 1,000 records of 12.
+pub const LONGEST: usize = CEILING + 8 + 12 * Law::AS_WRITTEN.max_records;
+
+/// A ceiling and a chart; now and then damaged, cut short, with a ceiling out of range or, as document 01
+/// had it, of 4 bytes.
 pub fn input(random: &mut Random, graph: &Graph) -> Vec<u8> {
     let zeros = vec![0; graph.n];
     let ceiling = match random.below(12) {
-        0 => random.pick(&[50_000_001, -50_000_001, i32::MIN, i32::MAX]),
-        _ => turning_ceiling(random, graph, &zeros) as i32,
+        0 => generate::wrong_ceiling(random),
+        _ => turning_ceiling(random, graph, &zeros),
     };
     let mut chart = any_form(random, graph).bytes();
     if random.one_in(5) {
         damage(random, &mut chart);
     }
-    let mut bytes = [&ceiling.to_le_bytes(), &chart[..]].concat();
+    let ceiling = ceiling.to_le_bytes();
+    let former = random.one_in(20);
+    let mut bytes = [&ceiling[..if former { 4 } else { CEILING }], &chart].concat();
     if random.one_in(12) {
-        let most = if random.one_in(2) { 14 } else { bytes.len() };
+        let most = if random.one_in(2) { 18 } else { bytes.len() };
         let length = random.below(most);
         bytes.truncate(length);
     }
@@ -95,6 +117,10 @@ fn compare(
     largest: usize,
 ) -> Outcome {
     let random = &mut Random::new(0x7072_6f67_7261_6d73);
+    for Printed { input, .. } in program_cases() {
+        let got = printed(name, &input).unwrap_or_else(|error| error.to_string());
+        tally.compare(name, || hex(&input), &expected(law, &input), &got)?;
+    }
     for round in 0..rounds {
         let graph = match round % 3 {
             0 if largest > 16 => generate::graph(random),
@@ -115,7 +141,8 @@ fn long_inputs(
     expected: fn(&Law, &[u8]) -> String,
     random: &mut Random,
 ) -> Outcome {
-    for length in [12_011, 12_012, 12_013, 12_014, 12_024, 13_000, 70_000] {
+    for more in [-1, 0, 1, 2, 12, 1_000, 58_000] {
+        let length = LONGEST.saturating_add_signed(more);
         let graph = generate::small_graph(random, 7, 16);
         let mut bytes = input(random, &graph);
         bytes.resize(length, 0);

@@ -10,7 +10,7 @@ use crate::document::rulings::{self, Ruled};
 use crate::document::tree::Method;
 use crate::ffi::trees::rule;
 use crate::ffi::{bound, only, Reply};
-use crate::generate::{self, MAX};
+use crate::generate;
 use crate::random::Random;
 use crate::report::{Hex, Outcome, Suite, Tally};
 use planner::raw::NONE;
@@ -23,6 +23,10 @@ pub const SUITE: Suite = Suite {
         bends::REQUIRED_SWAPPED_OUT,
         bends::MULTIPLIERS_OFF_ONCE,
         bends::HIGHER_CEILING,
+        bends::LOWER_CEILING,
+        bends::FORMER_CEILING,
+        bends::FORMER_COST,
+        bends::CHEAP_NO_REPLACEMENT,
         bends::HIGHER_MULTIPLIER,
         bends::LENGTH_BEFORE_VALUE,
     ],
@@ -71,7 +75,7 @@ pub fn arguments(random: &mut Random, small: bool, wrong: bool) -> Arguments {
             0 => generate::break_value(random, &mut graph),
             1 => multipliers.resize(generate::length(random, graph.n.min(30), true), 0),
             2 => generate::break_multipliers(random, &mut multipliers),
-            3 => ceiling = random.pick(&[50 * MAX + 1, -50 * MAX - 1, i64::MAX, i64::MIN]),
+            3 => ceiling = generate::wrong_ceiling(random),
             _ => length = generate::length(random, length, true),
         }
     }

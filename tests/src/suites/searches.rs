@@ -35,7 +35,7 @@ fn run(law: &Law, tally: &mut Tally) -> Outcome {
             .collect();
         let best = allowed.iter().map(|tour| tour.cost).min();
         let ceiling = match random.below(4) {
-            0 => 50_000_000,
+            0 => generate::MAX_CEILING,
             _ => generate::ceiling(random, best.unwrap_or(0)),
         };
         let expected = match best {

@@ -7,9 +7,12 @@
  * no pointer is null, not even with length 0, each leads to as much memory as the call is told, and no two parts that are lent overlap.
  *
  * Refusals. Reading: 1 under 8 bytes; 2 n not 3 to 20; 3 a header zero byte not zero; 4 r over 1,000 or a wrong length; 5 head or next above
- * r; 6 record met before; 7 not 1 <= a < b <= n; 8 mark above 2 or a zero byte not zero; 9 cost out of range; 10 pair met before.
- * Other calls: 15 a graph that breaks the rules; 11 a list of wrong length; 12 a multiplier out of range, or the first not 0; 13 ceiling;
- * 14 sweeps or step; 30 a preview of no edge, or of a mark that is not 1 or 2; 31 of an edge that is not free. Of a record: 24 it fails its check; 20 no search is open; 21 one is open; 22 show while going on; 23 show after 'none'.
+ * r; 6 record met before; 7 not 1 <= a < b <= n; 8 mark above 2 or a zero byte not zero; 9 cost not -100,000,000 to 100,000,000; 10 pair met
+ * before.
+ * Other calls: 15 a graph that breaks the rules, those of costs as in 9; 11 a list of wrong length; 12 a multiplier not -1,000,000 to 1,000,000,
+ * or the first not 0; 13 ceiling not -5,000,000,000 to 5,000,000,000; 14 sweeps not 0 to 15, or step not 0 to 10,000; 30 a preview of no edge,
+ * or of a mark that is not 1 or 2; 31 of an edge that is not free. Of a record: 24 it fails its check; 20 no search is open; 21 one is open;
+ * 22 show while going on; 23 show after 'none'.
  */
 #ifndef PLANNER_H
 #define PLANNER_H

@@ -1,9 +1,13 @@
 //! Before anything is timed: all sides agree on graphs that the tables do not have, small and
-//! sparse ones with marks of all three kinds, many equal costs, and multipliers at their limits.
+//! sparse ones with marks of all three kinds, many equal costs, and costs, multipliers and ceilings
+//! at their limits.
 
 use crate::fast::Verdict;
 use crate::forms::Forms;
-use crate::inputs::{Graph, Random, EXCLUDED, FREE, PLACES, REQUIRED, VERTICES};
+use crate::inputs::{
+    Graph, Random, EXCLUDED, FREE, MAX_CEILING, MAX_COST, MAX_MULTIPLIER, PLACES, REQUIRED,
+    VERTICES,
+};
 use crate::ours::Ours;
 use crate::planner::{Job, Planner, Reference};
 
@@ -15,7 +19,7 @@ pub fn sparse(random: &mut Random) -> Graph {
     let n = random.between(3, VERTICES as i64) as usize;
     let (lacking, highest) = (
         random.between(0, 70),
-        [1, 3, 50, 1_000_000][random.below(4)],
+        [1, 3, 50, 1_000_000, MAX_COST as i64][random.below(5)],
     );
     let (required, excluded) = ([0, 2, 8, 25][random.below(4)], random.between(0, 40));
     let mut pairs: Vec<(u8, u8)> = Vec::new();
@@ -38,13 +42,20 @@ pub fn sparse(random: &mut Random) -> Graph {
     graph
 }
 
-fn any_multipliers(random: &mut Random, n: usize) -> Vec<i32> {
-    let highest = [0, 2, 40, 1_000_000][random.below(4)];
+pub fn any_multipliers(random: &mut Random, n: usize) -> Vec<i32> {
+    let highest = [0, 2, 40, MAX_MULTIPLIER as i64][random.below(4)];
     let mut all: Vec<i32> = (0..n)
         .map(|_| random.between(-highest, highest) as i32)
         .collect();
     all[0] = 0;
     all
+}
+
+/// A ceiling at the bound, one below or above it by anything up to the whole range.
+pub fn any_ceiling(random: &mut Random, bound: Option<i64>) -> i64 {
+    let above = [0, 1, 7, 100, 3_000, 40_000_000, 1 << 32, 2 * MAX_CEILING][random.below(8)];
+    let ceiling = bound.unwrap_or(0) + above - random.below(2) as i64;
+    ceiling.clamp(-MAX_CEILING, MAX_CEILING)
 }
 
 /// Calls all sides with a list each; they must answer alike and leave alike lists.
@@ -69,9 +80,7 @@ fn one_graph(random: &mut Random) {
     let d = any_multipliers(random, graph.n());
     let m = graph.m();
     let bound = same("tree", |side, out| side.tree(&graph, &d, &mut out[..m]));
-    let above = [0, 1, 5, 100, 40_000_000][random.below(5)];
-    let ceiling =
-        (bound.unwrap_or(0) + above - random.below(2) as i64).clamp(-50_000_000, 50_000_000);
+    let ceiling = any_ceiling(random, bound);
     same("rule", |side, out| {
         side.rule(&graph, &d, ceiling, &mut out[..m])
     });

@@ -2,12 +2,19 @@
 
 use planner::raw;
 pub use planner::raw::{EDGES as PLACES, VERTICES};
+pub use planner_tests::generate::{MAX_CEILING, MAX_COST, MAX_MULTIPLIER};
 pub use planner_tests::random::Random;
 use std::ops::{Deref, DerefMut};
 
 pub const FREE: u8 = 0;
 pub const REQUIRED: u8 = 1;
 pub const EXCLUDED: u8 = 2;
+
+/// Added to a charged cost, a cost and two multipliers, it gives a number from 1 on.
+pub const OFFSET: i64 = MAX_COST as i64 + 2 * MAX_MULTIPLIER as i64 + 1;
+
+/// No two charged costs are further apart.
+pub const WIDEST: i64 = 2 * OFFSET;
 
 /// A graph as the library takes it: vertices 1 to n, edge k at place k - 1.
 #[derive(Clone)]

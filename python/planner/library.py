@@ -15,13 +15,13 @@ from operator import index
 from pathlib import Path
 from typing import NamedTuple
 
-from .faults import Faults
+from .faults import Faults, span
 
 MOST_VERTICES, MOST_EDGES, MOST_NODES = 20, 190, 22  # the room that the library's structs have
 VERTICES = range(3, MOST_VERTICES + 1)
-COSTS = range(-1_000_000, 1_000_001)
+COSTS = range(-100_000_000, 100_000_001)
 MULTIPLIERS = range(-1_000_000, 1_000_001)
-CEILINGS = range(-50_000_000, 50_000_001)
+CEILINGS = range(-5_000_000_000, 5_000_000_001)
 SWEEPS, STEPS = range(16), range(10_001)
 HIGHEST_TOUR = MOST_VERTICES * COSTS[-1]
 FREE, REQUIRED, EXCLUDED = range(3)
@@ -44,12 +44,12 @@ MEANINGS = {
     6: "record met before",
     7: "not 1 <= a < b <= n",
     8: "mark above 2 or a zero byte not zero",
-    9: "cost out of range",
+    9: f"cost out of range; allowed is {span(COSTS)}",
     10: "pair met before",
     11: "a list of wrong length",
-    12: "a due out of range, or the first not 0",
-    13: "ceiling out of range",
-    14: "sweeps or step out of range",
+    12: f"a due out of range, or the first not 0; allowed is {span(MULTIPLIERS)}",
+    13: f"ceiling out of range; allowed is {span(CEILINGS)}",
+    14: f"sweeps or step out of range; allowed is {span(SWEEPS)} and {span(STEPS)}",
     15: "a chart that breaks the rules of legs and marks",
     20: "no hunt is open",
     21: "a hunt is open already",

@@ -39,7 +39,7 @@ def planner(*words: object, given: str | bytes = b"") -> tuple[str, str, int]:
 
 def program(path: Path, ceiling: int, data: bytes) -> list[str]:
     """What 'rulings' or 'hunt' prints of a ceiling and a chart's bytes."""
-    done = subprocess.run([path], input=struct.pack("<i", ceiling) + data, stdout=subprocess.PIPE, check=True)
+    done = subprocess.run([path], input=struct.pack("<q", ceiling) + data, stdout=subprocess.PIPE, check=True)
     return done.stdout.decode().splitlines()
 
 
@@ -155,7 +155,7 @@ def damage(source: random.Random, data: bytearray) -> None:
 
 def damaged(source: random.Random) -> bytes:
     """A chart file with no fault, one or two."""
-    data = any_form(source, random_graph(source, most=9, costs=1_000_000))
+    data = any_form(source, random_graph(source, most=9, costs=100_000_000))
     for _ in range(source.choice((0, 1, 1, 2))):
         if data:
             damage(source, data)
@@ -181,7 +181,7 @@ def chain_fault(data: bytes) -> tuple[int, int]:
             return 6, place
         met.add(place)
         a, b, mark, zero, cost, following, zeros = struct.unpack_from("<BBBBiHH", data, 12 * place - 4)
-        faults = ((7, not 1 <= a < b <= n), (8, mark > 2 or zero or zeros), (9, abs(cost) > 1_000_000), (10, (a, b) in pairs))
+        faults = ((7, not 1 <= a < b <= n), (8, mark > 2 or zero or zeros), (9, abs(cost) > 100_000_000), (10, (a, b) in pairs))
         if number := next((number for number, wrong in faults if wrong), 0):
             return number, place
         pairs.add((a, b))

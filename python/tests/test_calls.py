@@ -44,7 +44,7 @@ close > accepted
 # Three buoys: no legs, then three of cost 1.
 sea 3
 tree > no tree
-rule 50000000 > dead
+rule 5000000000 > dead
 open 0 0 0 > accepted
 run 9 > finished nodes 1
 tell > none nodes 1
@@ -64,6 +64,26 @@ close > accepted
 sea 4 1-2:4r 1-3:3r 1-4:5r 2-3:2 2-4:6 3-4:1
 tree > no tree
 rule 99 > dead
+
+# Document 02, C-14: three legs and no other 1-tree, at the ends of the costs and of the ceilings.
+sea 3 1-2:0 1-3:0 2-3:0
+rule 5000000000 > bound 0 rulings 1 1 1
+rule -5000000000 > dead
+sea 3 1-2:100000000 1-3:100000000 2-3:100000000
+rule 5000000000 > bound 300000000 rulings 1 1 1
+rule 300000000 > bound 300000000 rulings 1 1 1
+rule 299999999 > dead
+open 5000000000 0 0 > accepted
+run 9 > finished nodes 1
+tell > cost 300000000 nodes 1
+close > accepted
+sea 3 1-2:-100000000 1-3:-100000000 2-3:-100000000
+rule 5000000000 > bound -300000000 rulings 1 1 1
+rule -300000001 > dead
+open -300000000 15 10000 > accepted
+run 9 > finished nodes 1
+tell > cost -300000000 nodes 1
+close > accepted
 
 # What one mark more would do; the chart keeps its own.
 {FOUR}
@@ -103,7 +123,7 @@ sea 4 0-4:5
 tree > refused 15 at 0
 sea 4 255-255:5
 tree > refused 15 at 0
-sea 4 1-2:1000001
+sea 4 1-2:100000001
 tree > refused 15 at 0
 sea 4 1-2:-2147483648
 tree > refused 15 at 0
@@ -114,7 +134,7 @@ tree > refused 15 at 0
 sea 4 1-2:5 1-2:6
 dues 7
 list 9
-rule 50000001 > refused 15 at 0
+rule 5000000001 > refused 15 at 0
 sea 20 {"1-2:3 " * 190}1-3:4
 tree > refused 15 at 0
 sea 20 {"1-2:3 " * 255}
@@ -126,27 +146,27 @@ dues
 tree > refused 11 at 0
 dues 0 0 0
 tree > refused 11 at 0
-open 50000001 16 0 > refused 11 at 0
+open 5000000001 16 0 > refused 11 at 0
 dues 0 0 0 0 0
-rule 50000001 > refused 11 at 0
+rule 5000000001 > refused 11 at 0
 dues 1 0 0 0
 list 5
-rule 50000001 > refused 11 at 0
-rule 50000001 > refused 12 at 0
-open 50000001 16 0 > refused 12 at 0
+rule 5000000001 > refused 11 at 0
+rule 5000000001 > refused 12 at 0
+open 5000000001 16 0 > refused 12 at 0
 dues 0 0 0 1000001
 tree > refused 12 at 0
 dues 0 -2147483648 0 2147483647
 tree > refused 12 at 0
 dues 0 0 0 0
-rule 50000001 > refused 13 at 0
-rule -50000001 > refused 13 at 0
+rule 5000000001 > refused 13 at 0
+rule -5000000001 > refused 13 at 0
 rule 9223372036854775807 > refused 13 at 0
 rule -9223372036854775808 > refused 13 at 0
-open 50000001 16 0 > refused 13 at 0
-open 50000000 16 0 > refused 14 at 0
-open 50000000 15 10001 > refused 14 at 0
-open 50000000 4294967295 4294967295 > refused 14 at 0
+open 5000000001 16 0 > refused 13 at 0
+open 5000000000 16 0 > refused 14 at 0
+open 5000000000 15 10001 > refused 14 at 0
+open 5000000000 4294967295 4294967295 > refused 14 at 0
 
 # Of a preview: 15, 11, 12, then 30, then 31.
 preview 0 3 > refused 30 at 0

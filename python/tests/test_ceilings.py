@@ -55,8 +55,9 @@ class Falls(unittest.TestCase):
         self.assertEqual(command(*words, 12, 12), ("bound 10 ceilings 12 12\n12: 4 2-3 force\n12: 5 2-4 bar\n12: 6 3-4 force\n", "", 0))
         self.assertEqual(command(*words, 9, -9), ("dead\n", "", 1))
         self.assertEqual(command(*words, 9, 20), ("", "--ceilings 9 20: the higher ceiling comes first\n", 2))
-        for ends in ((50000001, 9), (20, -50000001)):
-            self.assertEqual(command(*words, *ends), ("", "examples/four.txt: refused 13 at 0: ceiling out of range\n", 2))
+        for ends in ((5_000_000_001, 9), (20, -5_000_000_001)):
+            said = "examples/four.txt: refused 13 at 0: ceiling out of range; allowed is -5000000000 to 5000000000\n"
+            self.assertEqual(command(*words, *ends), ("", said, 2))
         both = command("rule", "examples/four.txt", "--ceiling", 12, "--ceilings", 20, 9)
         self.assertEqual(both, command("rule", "examples/four.txt"))
         self.assertEqual(both[2], 2)

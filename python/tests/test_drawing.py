@@ -108,7 +108,7 @@ class Layout(unittest.TestCase):
         """Every cost is written where it can be read, or said to have no room."""
         source = random.Random(14)
         for turn in range(40):
-            graph = random_graph(source, costs=source.choice((9, 1000, 1_000_000)))
+            graph = random_graph(source, costs=source.choice((9, 1000, 1_000_000, 100_000_000)))
             if turn % 2:
                 places = {vertex: (source.randint(0, 12), source.randint(0, 9)) for vertex in range(1, graph.n + 1)}
                 graph = planner.Graph(graph.n, graph.edges, places)
@@ -157,7 +157,7 @@ class Layout(unittest.TestCase):
         self.assertLess(burma[3][0], burma[10][0])  # and the west left
 
     def test_legend_is_inside(self):
-        graph = planner.Graph(8, [(a, b, 1_000_000) for a, b in itertools.combinations(range(1, 9), 2)], {k: (k, 0) for k in range(1, 9)})
+        graph = planner.Graph(8, [(a, b, -100_000_000) for a, b in itertools.combinations(range(1, 9), 2)], {k: (k, 0) for k in range(1, 9)})
         svg = drawing(graph).svg()
         height = int(re.search(r'height="(\d+)"', svg)[1])
         self.assertTrue(all(float(y) < height for y in re.findall(r'<text x="[\d.]+" y="([\d.]+)"', svg)))

@@ -42,10 +42,10 @@ class Tables(unittest.TestCase):
         ("buoys 3\n2-2 5", "t:2: leg 2-2 does not name the smaller buoy first; allowed is a-b with a below b"),
         ("buoys 3\n1-2", "t:2: leg 1-2 has 0 words behind it; allowed are a cost and at most one mark"),
         ("buoys 3\n1-2 5 struck off", "t:2: leg 1-2 has 3 words behind it; allowed are a cost and at most one mark"),
-        ("buoys 3\n1-2 5.5", "t:2: cost '5.5' is not a whole number; allowed is -1000000 to 1000000"),
-        ("buoys 3\n1-2 1000001", "t:2: cost 1000001 is out of range; allowed is -1000000 to 1000000"),
-        ("buoys 3\n1-2 -1000001", "t:2: cost -1000001 is out of range; allowed is -1000000 to 1000000"),
-        ("buoys 3\n1-2 \u0665", "t:2: cost '\u0665' is not a whole number; allowed is -1000000 to 1000000"),
+        ("buoys 3\n1-2 5.5", "t:2: cost '5.5' is not a whole number; allowed is -100000000 to 100000000"),
+        ("buoys 3\n1-2 100000001", "t:2: cost 100000001 is out of range; allowed is -100000000 to 100000000"),
+        ("buoys 3\n1-2 -100000001", "t:2: cost -100000001 is out of range; allowed is -100000000 to 100000000"),
+        ("buoys 3\n1-2 \u0665", "t:2: cost '\u0665' is not a whole number; allowed is -100000000 to 100000000"),
         ("buoys 3\n1-2 5 shut", "t:2: mark 'shut' is unknown; allowed are 'required', 'struck', or none for a free leg"),
         ("buoys 3\n1-2 5\n\n1-2 6", "t:4: leg 1-2 stands twice, first on line 2; allowed is one leg for a pair of buoys"),
         ("buoys 3\nleg 1 2", "t:2: 'leg' is unknown; a line is 'buoys N', a leg as '1-2 40', 'at BUOY X Y' or a comment '# ..'"),
@@ -53,7 +53,7 @@ class Tables(unittest.TestCase):
         ("buoys 3\nat 4 2 2", "t:2: buoy 4 is out of range; allowed is 1 to 3"),
         ("buoys 3\nat 1 2 x", "t:2: position 'x' is not a number; allowed are numbers such as 120 or -4.25"),
         ("buoys 3\nat 1 2 2\nat 1 3 3", "t:3: buoy 1 has a position already; allowed is one"),
-        ("buoys 3\n1-2 x\n1-3 5\n2-1 5", "t:2: cost 'x' is not a whole number; allowed is -1000000 to 1000000\n"
+        ("buoys 3\n1-2 x\n1-3 5\n2-1 5", "t:2: cost 'x' is not a whole number; allowed is -100000000 to 100000000\n"
          "t:4: leg 2-1 does not name the smaller buoy first; allowed is a-b with a below b"),
     )
 
@@ -133,7 +133,7 @@ class Commas(unittest.TestCase):
             ("# buoys 4\n" + head + "1,5,3\n", "t:3: buoy 5 is out of range; allowed is 1 to 4"),
             ("# buoys 2\n" + head + "1,2,3\n", "t:1: number of buoys 2 is out of range; allowed is 3 to 20"),
             (head + "2,1,3\n", "t:2: leg 2-1 does not name the smaller buoy first; allowed is a-b with a below b"),
-            (head + "1,2,x\n", "t:2: cost 'x' is not a whole number; allowed is -1000000 to 1000000"),
+            (head + "1,2,x\n", "t:2: cost 'x' is not a whole number; allowed is -100000000 to 100000000"),
             (head + "1,2,3,shut\n", "t:2: mark 'shut' is unknown; allowed are 'free', 'required', 'struck', 0, 1, 2 or nothing"),
             (head + "1,2\n", "t:2: a row has 2 cells; allowed are a, b, cost and at most a mark"),
             (head + "1,2,3\n1,2,4\n", "t:3: leg 1-2 stands twice, first on line 2; allowed is one leg for a pair of buoys"),
@@ -235,8 +235,8 @@ class Tsplib(unittest.TestCase):
             (explicit + "EDGE_WEIGHT_FORMAT: UPPER_ROW\n", "t: EDGE_WEIGHT_SECTION is missing"),
             (upper + "1 2\n", "t:7: EDGE_WEIGHT_SECTION has 2 numbers; allowed are 3 here"),
             (upper + "1 2 3 4\n", "t:7: EDGE_WEIGHT_SECTION has 4 numbers; allowed are 3 here"),
-            (upper + "1 2 3.5\n", "t:7: weight '3.5' is not a whole number; allowed is -1000000 to 1000000"),
-            (upper + "1 2\n1000001\n", "t:8: weight 1000001 is out of range; allowed is -1000000 to 1000000"),
+            (upper + "1 2 3.5\n", "t:7: weight '3.5' is not a whole number; allowed is -100000000 to 100000000"),
+            (upper + "1 2\n100000001\n", "t:8: weight 100000001 is out of range; allowed is -100000000 to 100000000"),
             (full + "0 1 2\n1 0 3\n2 4 0\n", "t:9: the matrix has 3 one way and 4 the other between 2 and 3; a leg costs the same both ways"),
             (upper + "1 2 3\nFIXED_EDGES_SECTION\n1 2 3\n-1\n",
                 "t:9: FIXED_EDGES_SECTION has an odd number of cities; allowed are pairs, then -1"),
@@ -246,7 +246,7 @@ class Tsplib(unittest.TestCase):
                 "t:7: coordinate 'x' is not a number; allowed are numbers such as 120, -4.25 or 6.5e+02"),
             (self.points("EUC_2D", (0, 0), (1, "1e99"), (2, 2)),
                 "t:7: coordinate '1e99' is not a number; allowed are numbers such as 120, -4.25 or 6.5e+02"),
-            (self.points("EUC_2D", (0, 0), (0, 1), (1_000_001, 0)), "t: cities 1 and 3 lie 1000001 apart; allowed is at most 1000000"),
+            (self.points("EUC_2D", (0, 0), (0, 1), (100_000_001, 0)), "t: cities 1 and 3 lie 100000001 apart; allowed is at most 100000000"),
             (self.points("EUC_2D", (0, 0), (0, 1), (1, 0)).replace("3 1 0", "2 1 0"), "t:8: city 2 stands twice; allowed is one line for each"),
             (HEAD + "EDGE_WEIGHT_TYPE: EUC_2D\n", "t: NODE_COORD_SECTION is missing"),
         ):
@@ -311,10 +311,10 @@ class Forms(unittest.TestCase):
         source = random.Random(5)
         for turn in range(120):
             if turn % 2:
-                graph = random_graph(source, costs=1_000_000)
+                graph = random_graph(source, costs=100_000_000)
             else:
                 n = source.randint(3, 20)
-                graph = full_graph(n, lambda *_: source.randint(-1_000_000, 1_000_000))
+                graph = full_graph(n, lambda *_: source.randint(-100_000_000, 100_000_000))
                 graph = planner.Graph(n, [edge._replace(mark=source.choice((0, 0, 1))) for edge in graph.edges])
             positions = {vertex: (source.randint(-99, 99) / 4, source.uniform(-1e6, 1e6)) for vertex in range(1, graph.n + 1)}
             graph = planner.Graph(graph.n, graph.edges, positions)

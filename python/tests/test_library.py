@@ -130,7 +130,7 @@ class Charts(unittest.TestCase):
     def test_round_trips(self):
         source = random.Random(2)
         for _ in range(300):
-            graph = random_graph(source, costs=1_000_000)
+            graph = random_graph(source, costs=100_000_000)
             self.assertEqual(planner.read(planner.write(graph)), graph)
 
     def test_damaged_files(self):
@@ -164,7 +164,7 @@ class Charts(unittest.TestCase):
         """The chart's faults come before the ceiling's."""
         source, seen = random.Random(7), Counter()
         for _ in range(500):
-            data, ceiling = damaged(source), source.choice((0, 0, 0, 50_000_001, -50_000_001, 2**31 - 1, -(2**31)))
+            data, ceiling = damaged(source), source.choice((0, 0, 0, 5_000_000_001, -5_000_000_001, 2**63 - 1, -(2**63)))
             said = refusal(lambda: planner.solve(planner.read(data), ceiling))
             first = program(HUNT, ceiling, data)[0]
             self.assertEqual(first if first.startswith("refused") else None, said and f"refused {said[0]} at {said[1]}", data.hex())
@@ -175,9 +175,9 @@ class Charts(unittest.TestCase):
     def test_searches_against_hunt(self):
         source, seen = random.Random(6), Counter()
         for _ in range(400):
-            costs, marks = source.choice((1, 40, 1_000_000)), source.choice(((0,), (0, 0, 0, 0, 0, 1, 2)))
+            costs, marks = source.choice((1, 40, 1_000_000, 100_000_000)), source.choice(((0,), (0, 0, 0, 0, 0, 1, 2)))
             graph = random_graph(source, most=8, costs=costs, marks=marks)
-            ceiling = source.choice((0, source.randint(-300, 300), 20_000_000))
+            ceiling = source.choice((0, source.randint(-300, 300), 20_000_000, 5_000_000_000, -5_000_000_000))
             search = planner.Search()
             search.open(graph, ceiling)
             search.run(1_000_000)

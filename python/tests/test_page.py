@@ -16,7 +16,7 @@ from unittest import mock
 import planner
 from browser import Browser, chromium
 from planner.drawing import STYLES
-from planner.library import CEILINGS
+from planner.library import CEILINGS, MEANINGS
 from planner.page import NOTHING, WORDS, Page, embedded
 from planner.showing import Showing, Stop
 from support import EXAMPLES, FOUR, ROOT, distances, planner as command, random_graph
@@ -268,9 +268,9 @@ class Files(unittest.TestCase):
             out = Path(folder, "out.html")
             for words, said in (
                 (("--high", 9, "--low", 20), "--high 9 --low 20: allowed is a lowest ceiling that is not above the highest\n"),
-                (("--high", CEILINGS[-1] + 1), "examples/four.txt: refused 13 at 0: ceiling out of range\n"),
-                (("--low", CEILINGS[0] - 1), "examples/four.txt: refused 13 at 0: ceiling out of range\n"),
-                (("--dues", "1,0,0,0"), "examples/four.txt: refused 12 at 0: a due out of range, or the first not 0\n"),
+                (("--high", CEILINGS[-1] + 1), f"examples/four.txt: refused 13 at 0: {MEANINGS[13]}\n"),
+                (("--low", CEILINGS[0] - 1), f"examples/four.txt: refused 13 at 0: {MEANINGS[13]}\n"),
+                (("--dues", "1,0,0,0"), f"examples/four.txt: refused 12 at 0: {MEANINGS[12]}\n"),
                 (("--high", "x"), f"planner page: argument --high: ceiling 'x' is not a whole number; allowed is {-2**63} to {2**63 - 1}; "
                     "see planner page --help\n"),
             ):  # fmt: skip

@@ -108,12 +108,12 @@ class Folders(unittest.TestCase):
         self.put("costs.txt", "b.txt 3 # lost\n")
         missing = "a.txt: no record: no line in costs.txt\nb.txt: no chart: no such file, but a line in costs.txt\n"
         self.assertEqual(self.regraded(), (missing + "2 in all: 1 no record, 1 no chart\n", 1))
-        self.put("costs.txt", "a.txt 3\na.txt 4\nb.txt x\nb.txt\nc.txt 50000001\n")
+        self.put("costs.txt", "a.txt 3\na.txt 4\nb.txt x\nb.txt\nc.txt 5000000001\n")
         self.assertEqual(self.regraded(), (
             f"{record}:2: 'a.txt' stands twice; allowed is one line for a chart\n"
-            f"{record}:3: cost 'x' is not a whole number; allowed is -50000000 to 50000000\n"
+            f"{record}:3: cost 'x' is not a whole number; allowed is -5000000000 to 5000000000\n"
             f"{record}:4: allowed is 'NAME COST' or 'NAME none'\n"
-            f"{record}:5: cost 50000001 is out of range; allowed is -50000000 to 50000000\n", 2))  # fmt: skip
+            f"{record}:5: cost 5000000001 is out of range; allowed is -5000000000 to 5000000000\n", 2))  # fmt: skip
         self.put("costs.txt", "a.txt 3\n")
         self.put("a.txt", "buoys 3\n1-2\n")
         fault = f"{chart}:2: leg 1-2 has 0 words behind it; allowed are a cost and at most one mark"

@@ -39,7 +39,7 @@ class Solve(unittest.TestCase):
     def test_against_every_order(self):
         source, seen = random.Random(5), Counter()
         for _ in range(300):
-            graph = random_graph(source, most=7, costs=source.choice((2, 12, 1_000_000)))
+            graph = random_graph(source, most=7, costs=source.choice((2, 12, 1_000_000, 100_000_000)))
             tours = allowed_tours(graph)
             least = min(tours.values(), default=None)
             for ceiling in (None, source.randint(-60, 60), *((least, least - 1) if tours else (0,))):
@@ -56,7 +56,7 @@ class Solve(unittest.TestCase):
 
     def test_held_karp(self):
         source = random.Random(8)
-        for n, most in ((9, 40), (10, 1000), (11, 1_000_000), (12, 1000)):
+        for n, most in ((9, 40), (9, 100_000_000), (10, 1000), (11, 1_000_000), (12, 1000)):
             for graph in (distances(source, n, most), full_graph(n, lambda *_: source.randint(-most // 2, most))):
                 least = held_karp(graph)
                 self.assertEqual(self.solved(graph).cost, least)
@@ -110,7 +110,7 @@ class Ceilings(unittest.TestCase):
     def test_no_tour_of_twenty_vertices(self):
         """9 vertices have edges to 11 and there are no others, so there is no tour; at the highest ceiling no search would end."""
         source = random.Random(11)
-        graph = planner.Graph(20, [(a, b, source.randint(1, 1_000_000)) for a in range(1, 10) for b in range(10, 21)])
+        graph = planner.Graph(20, [(a, b, source.randint(1, 100_000_000)) for a in range(1, 10) for b in range(10, 21)])
         self.assertEqual(planner.solve(graph).verdict, "none")
 
     def test_ascent(self):

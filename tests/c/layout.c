@@ -72,7 +72,7 @@ static planner_graph sample(uint8_t bytes[FILE_LENGTH]) {
     memset(bytes, 0, FILE_LENGTH);
     for (int a = 1; a <= N; a++) {
         for (int b = a + 1; b <= N && k < M; b++, k++) {
-            g.cost[k] = 100000 + (a * 7919 + b * 104729) % 5000 + k;
+            g.cost[k] = 99000000 + (a * 7919 + b * 104729) % 5000 + k;
             g.a[k] = (uint8_t)a;
             g.b[k] = (uint8_t)b;
             g.mark[k] = k == 3 ? 1 : k == 4 ? 2 : 0;
@@ -119,7 +119,7 @@ int main(void) {
     static planner_search s, fresh;
     static uint8_t bytes[FILE_LENGTH], out[FILE_LENGTH];
     int32_t multipliers[N] = {0, 10, -20, 30, -40, 50, 60};
-    planner_settings settings = {5000000, 4, 370};
+    planner_settings settings = {INT64_C(4900000000), 4, 370}; /* wider than 4 bytes */
     planner_graph g = sample(bytes), read;
     planner_said said;
     uint64_t nodes = 0;

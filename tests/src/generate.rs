@@ -87,16 +87,18 @@ pub fn pairs(random: &mut Random, n: usize) -> Vec<(u8, u8)> {
     pairs
 }
 
-/// A fit graph with n vertices and m edges.
+/// A fit graph with n vertices and m edges. Every second one has costs of the multipliers' range, whose
+/// order multipliers can change.
 pub fn graph_of(random: &mut Random, n: usize, m: usize) -> Graph {
     let spread = random.pick(&SPREADS);
+    let max = random.pick(&[MAX_COST, MAX_MULTIPLIER]);
     let style = random.below(4);
     let edges: Vec<Edge> = pairs(random, n)[..m]
         .iter()
         .map(|(a, b)| Edge {
             a: *a,
             b: *b,
-            cost: number(random, spread, MAX_COST),
+            cost: number(random, spread, max),
             mark: mark(random, style),
         })
         .collect();
@@ -300,13 +302,14 @@ pub fn opening(random: &mut Random, max_vertices: usize, most: usize, wrong: boo
         random.below(16) as u32
     };
     let mut step = random.pick(&[0, 1, 2, 10, 1_000, 10_000]);
-    for _ in 0..if wrong { 1 + random.below(3) } else { 0 } {
+    let faults = if wrong { random.pick(&[1, 1, 2, 3]) } else { 0 };
+    for _ in 0..faults {
         match random.below(5) {
             0 => break_value(random, &mut graph),
             1 => multipliers.resize(random.below(24), 0),
             2 => break_multipliers(random, &mut multipliers),
             3 => ceiling = wrong_ceiling(random),
-            _ if random.one_in(2) => sweeps = random.pick(&[16, 17, u32::MAX]),
+            _ if random.one_in(2) => sweeps = random.pick(&[16, 16, 17, u32::MAX]),
             _ => step = random.pick(&[10_001, u32::MAX]),
         }
     }

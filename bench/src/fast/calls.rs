@@ -2,7 +2,7 @@
 //! for (refusals 15, 11, 12 and 13).
 
 use super::dense::Dense;
-use crate::inputs::{Graph, EXCLUDED, PLACES, VERTICES};
+use crate::inputs::{Graph, EXCLUDED, MAX_CEILING, MAX_COST, MAX_MULTIPLIER, PLACES, VERTICES};
 
 /// Whether document 01 accepts the graph, the multipliers and the length of the list. Without early
 /// exits, so that the compiler takes many edges at a time.
@@ -14,15 +14,21 @@ fn fit(graph: &Graph, d: &[i32], length: usize) -> bool {
     let n = graph.n() as u8;
     let ends = a.iter().zip(b);
     let mut fits = ends.fold(true, |all, (a, b)| all & (1 <= *a) & (a < b) & (*b <= n));
-    let small = |all: bool, value: &i32| all & (value.unsigned_abs() <= 1_000_000);
-    fits &= graph.cost[..graph.m()].iter().fold(true, small);
+    fits &= small(&graph.cost[..graph.m()], MAX_COST);
     let marks = graph.mark[..graph.m()].iter();
     fits &= marks.fold(true, |all, mark| all & (*mark <= EXCLUDED));
     fits && pairs_differ(graph.n(), a, b)
         && d.len() == graph.n()
         && length == graph.m()
         && d[0] == 0
-        && d.iter().fold(true, small)
+        && small(d, MAX_MULTIPLIER)
+}
+
+/// Whether each is from -most to most.
+#[inline(always)]
+fn small(values: &[i32], most: i32) -> bool {
+    let fits = |all: bool, value: &i32| all & (value.unsigned_abs() <= most as u32);
+    values.iter().fold(true, fits)
 }
 
 /// As many pairs met as there are edges.
@@ -47,7 +53,7 @@ pub fn tree(graph: &Graph, d: &[i32], out: &mut [u8]) -> Option<i64> {
 /// The bound, and the rulings in `out`; none is 'dead'.
 pub fn rule(graph: &Graph, d: &[i32], ceiling: i64, out: &mut [u8]) -> Option<i64> {
     assert!(fit(graph, d, out.len()), "unfit");
-    assert!((-50_000_000..=50_000_000).contains(&ceiling), "unfit");
+    assert!((-MAX_CEILING..=MAX_CEILING).contains(&ceiling), "unfit");
     let mut dense = Dense::blank();
     let bound = dense.tree(graph, d).filter(|bound| *bound <= ceiling)?;
     dense.rule(graph, ceiling - bound, out);

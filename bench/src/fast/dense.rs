@@ -4,20 +4,20 @@
 
 #![allow(clippy::needless_range_loop)] // one index into several arrays
 
-use super::{key, Edge, Edges, LANES, NUMBERS, USED, WIDEST};
-use crate::inputs::{Graph, FREE, PLACES, REQUIRED};
+use super::{key, Edge, Edges, LANES, NUMBERS, USED};
+use crate::inputs::{Graph, FREE, PLACES, REQUIRED, WIDEST};
 
 /// No edge, or a vertex that is reached already: above every key.
-const FAR: i32 = i32::MAX;
+const FAR: i64 = i64::MAX;
 
-type Lanes = [i32; LANES];
+type Lanes = [i64; LANES];
 
 /// The least 1-tree of a graph, and what the rulings need of it.
 pub struct Dense {
     n: usize,
     edges: Edges,
     /// by number; a required edge's key is its number alone, below every other; none: `FAR`
-    keys: [i32; NUMBERS],
+    keys: [i64; NUMBERS],
     bound: i64,
     /// by number, 1 in, 0 out
     pub chosen: [u8; NUMBERS],
@@ -28,7 +28,7 @@ pub struct Dense {
     /// bits between each vertex and vertex 1
     path: [u32; LANES],
     /// keys at vertex 0, ascending: the two of the tree and the next
-    first: [i32; 3],
+    first: [i64; 3],
 }
 
 /// Prim's steps: the keys, and the vertices that each joined, the new one last.
@@ -63,11 +63,11 @@ impl Dense {
             let (a, b) = (graph.a[k] - 1, graph.b[k] - 1);
             let cost = graph.cost[k];
             let edge = Edge { a, b, cost };
-            let free = key(edge, k, &multipliers) as i32;
+            let free = key(edge, k, &multipliers) as i64;
             self.edges[k] = edge;
             self.keys[k] = match graph.mark[k] {
                 FREE => free,
-                REQUIRED => k as i32,
+                REQUIRED => k as i64,
                 _ => FAR,
             };
         }
@@ -79,16 +79,16 @@ impl Dense {
         self.n.next_multiple_of(4).min(USED)
     }
 
-    fn number(key: i32) -> usize {
+    fn number(key: i64) -> usize {
         (key & 255) as usize
     }
 
-    fn is_required(key: i32) -> bool {
+    fn is_required(key: i64) -> bool {
         key < 256
     }
 
     /// Finds the tree, if there is one.
-    fn grow(&mut self, graph: &Graph, multipliers: &Lanes) -> bool {
+    fn grow(&mut self, graph: &Graph, multipliers: &[i32; LANES]) -> bool {
         self.first = self.three_at_first(graph.m());
         let steps = self.prim(graph.m());
         if self.first[1] == FAR || steps.len < self.n - 2 {
@@ -100,7 +100,7 @@ impl Dense {
             let edge = self.edges[k];
             let d = multipliers[edge.a as usize] + multipliers[edge.b as usize];
             self.chosen[k] = 1;
-            self.bound += (edge.cost + d) as i64;
+            self.bound += edge.cost as i64 + d as i64;
         }
         self.bound -= 2 * multipliers.iter().sum::<i32>() as i64;
         self.number_bits(&steps);
@@ -112,7 +112,7 @@ impl Dense {
     }
 
     /// The three least keys at vertex 0.
-    fn three_at_first(&self, m: usize) -> [i32; 3] {
+    fn three_at_first(&self, m: usize) -> [i64; 3] {
         let mut least = [FAR; 3];
         for k in 0..m {
             if self.edges[k].a == 0 {
@@ -126,7 +126,7 @@ impl Dense {
     }
 
     /// The key of each pair of vertices.
-    fn matrix(&self, m: usize) -> [[i32; USED]; USED] {
+    fn matrix(&self, m: usize) -> [[i64; USED]; USED] {
         let mut rows = [[FAR; USED]; USED];
         for k in 0..m {
             let (a, b) = (self.edges[k].a as usize, self.edges[k].b as usize);
@@ -140,7 +140,7 @@ impl Dense {
     fn prim(&self, m: usize) -> Steps {
         let rows = self.matrix(m);
         let lanes = self.lanes();
-        let numbers: Lanes = std::array::from_fn(|vertex| vertex as i32);
+        let numbers: Lanes = std::array::from_fn(|vertex| vertex as i64);
         let mut done = [0; LANES];
         done[0] = FAR;
         let mut nearest = [FAR; LANES];
@@ -155,7 +155,7 @@ impl Dense {
             let row = &rows[new];
             let mut least = FAR;
             for v in 0..lanes {
-                let is_new = -((numbers[v] == new as i32) as i32);
+                let is_new = -((numbers[v] == new as i64) as i64);
                 done[v] |= is_new & FAR;
                 nearest[v] = nearest[v].min(row[v]) | done[v];
                 least = least.min(nearest[v]);
@@ -202,8 +202,8 @@ impl Dense {
 
     /// The rulings, of a graph whose bound is `slack` below the ceiling.
     pub fn rule(&self, graph: &Graph, slack: i64, out: &mut [u8]) {
-        let slack = (slack.min(WIDEST + 1) as u32) << 8;
-        let raise = |key: i32| ((key as u32 | 255) + slack).min(FAR as u32 - 1) as i32;
+        let slack = slack.min(WIDEST + 1) << 8;
+        let raise = |key: i64| (key | 255).saturating_add(slack).min(FAR - 1);
         // The dearest key that each tree edge can be swapped with; always below `FAR`.
         let limit: Lanes = self.tree.map(raise);
         let lanes = self.lanes();
@@ -232,7 +232,7 @@ impl Dense {
     }
 
     /// At vertex 0: swaps with the dearest free tree edge there, and with the cheapest outside.
-    fn rule_first(&self, m: usize, raise: impl Fn(i32) -> i32, rulings: &mut [u8; NUMBERS]) {
+    fn rule_first(&self, m: usize, raise: impl Fn(i64) -> i64, rulings: &mut [u8; NUMBERS]) {
         let [_, dearest, next] = self.first;
         for k in (0..m).filter(|k| self.edges[*k].a == 0) {
             let key = self.keys[k];
@@ -249,11 +249,11 @@ impl Dense {
 
 /// How many of the lanes are below `value`.
 #[inline(always)]
-fn count_below(lanes: &[i32], value: i32) -> usize {
+fn count_below(lanes: &[i64], value: i64) -> usize {
     let mut counts = [0; 4];
     for block in lanes.chunks_exact(4) {
         for i in 0..4 {
-            counts[i] += (block[i] < value) as i32;
+            counts[i] += (block[i] < value) as i64;
         }
     }
     (counts[0] + counts[1] + counts[2] + counts[3]) as usize

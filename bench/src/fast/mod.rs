@@ -9,7 +9,7 @@ mod search;
 pub use calls::{rule, tree};
 pub use search::{Search, Verdict};
 
-use crate::inputs::Graph;
+use crate::inputs::{Graph, OFFSET};
 
 /// Room for every edge number that a byte holds: an index by a byte needs no check.
 const NUMBERS: usize = 256;
@@ -22,12 +22,6 @@ const LANES: usize = 32;
 
 /// Lanes that hold vertices.
 const USED: usize = 20;
-
-/// Added to a charged cost, which is at least -3,000,000: keys are positive, above 255.
-const OFFSET: i32 = 3_000_001;
-
-/// No two charged costs are further apart.
-const WIDEST: i64 = 2 * OFFSET as i64;
 
 #[derive(Clone, Copy, Default)]
 struct Edge {
@@ -50,14 +44,17 @@ fn edges_of(graph: &Graph) -> Edges {
 }
 
 /// Charged cost above, number below: keys differ, and their order is the one in which Kruskal must
-/// go so that of two trees with equal bound the one without the highest-numbered edge comes out.
+/// go so that of two trees with equal bound the one without the highest-numbered edge comes out. They
+/// are positive, above 255.
+type Key = u64;
+
 #[inline(always)]
-fn key(edge: Edge, number: usize, multipliers: &[i32; LANES]) -> u32 {
-    let d = |vertex: u8| multipliers[vertex as usize % LANES];
-    ((edge.cost + d(edge.a) + d(edge.b) + OFFSET) as u32) << 8 | number as u32
+fn key(edge: Edge, number: usize, multipliers: &[i32; LANES]) -> Key {
+    let d = |vertex: u8| multipliers[vertex as usize % LANES] as i64;
+    ((edge.cost as i64 + d(edge.a) + d(edge.b) + OFFSET) as Key) << 8 | number as Key
 }
 
 #[inline(always)]
-fn number(key: u32) -> usize {
+fn number(key: Key) -> usize {
     (key & 255) as usize
 }

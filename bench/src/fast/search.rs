@@ -1,7 +1,7 @@
 //! The search: same nodes, same order, same count as document 01's machine.
 
 use super::pass::{Changes, Keys, Pass, Required};
-use super::{edges_of, key, number, NUMBERS};
+use super::{edges_of, key, number, Key, NUMBERS};
 use crate::inputs::{Graph, EXCLUDED, FREE, PLACES, REQUIRED};
 
 /// A set of edges by rank: place in the order of the opening's keys, those at vertex 0 last.
@@ -41,7 +41,7 @@ pub struct Search {
     m: usize,
     opening_multipliers: [i32; super::LANES],
     /// by rank
-    opening_keys: [u32; NUMBERS],
+    opening_keys: [Key; NUMBERS],
     /// by edge number
     rank: [u8; NUMBERS],
     /// ranks below are of edges beside vertex 0

@@ -3,9 +3,9 @@
 
 use super::record::{Record, NODES};
 use super::Marks;
-use crate::inputs::{Graph, EXCLUDED, PLACES, REQUIRED, VERTICES};
-
-const WIDEST: u64 = 50_000_000;
+use crate::inputs::{
+    Graph, EXCLUDED, MAX_CEILING, MAX_COST, MAX_MULTIPLIER, PLACES, REQUIRED, VERTICES,
+};
 
 /// Document 01, 'Legs and marks'.
 pub fn graph_fits(graph: &Graph) -> bool {
@@ -17,13 +17,15 @@ pub fn graph_fits(graph: &Graph) -> bool {
     let fits = |all: bool, (a, b): (&u8, &u8)| all & (1 <= *a) & (a < b) & (*b <= n as u8);
     let ends = a.iter().zip(b).fold(true, fits);
     let marks = graph.mark[..m].iter();
-    ends && small(&graph.cost[..m])
+    ends && small(&graph.cost[..m], MAX_COST)
         && marks.fold(0, |most, mark| most.max(*mark)) <= EXCLUDED
         && pairs_differ(n, a, b)
 }
 
-fn small(values: &[i32]) -> bool {
-    let fits = |all: bool, value: &i32| all & (value.wrapping_add(1_000_000) as u32 <= 2_000_000);
+/// Whether each is from -most to most.
+#[inline(always)]
+fn small(values: &[i32], most: i32) -> bool {
+    let fits = |all: bool, value: &i32| all & (value.wrapping_add(most) as u32 <= 2 * most as u32);
     values.iter().fold(true, fits)
 }
 
@@ -38,11 +40,11 @@ fn pairs_differ(n: usize, a: &[u8], b: &[u8]) -> bool {
 }
 
 pub fn multipliers_fit(d: &[i32]) -> bool {
-    d[0] == 0 && small(d)
+    d[0] == 0 && small(d, MAX_MULTIPLIER)
 }
 
 pub fn ceiling_fits(ceiling: i64) -> bool {
-    ceiling.unsigned_abs() <= WIDEST
+    ceiling.unsigned_abs() <= MAX_CEILING as u64
 }
 
 pub fn sweeps_fit(sweeps: u32, step: u32) -> bool {

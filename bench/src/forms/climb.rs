@@ -2,10 +2,10 @@
 
 use super::grow::Grown;
 use super::hang::Hung;
-use super::keys::{limit, number, Key, LANES, WIDEST};
+use super::keys::{limit, number, Key, BELOW, LANES};
 use super::order::Order;
 use super::Marks;
-use crate::inputs::{Graph, FREE, PLACES};
+use crate::inputs::{Graph, FREE, PLACES, WIDEST};
 
 const KEEP: u8 = 0;
 const FORCE: u8 = 1;
@@ -20,7 +20,7 @@ pub fn rule(
     slack: i64,
     rulings: &mut Marks,
 ) {
-    let slack = (slack.min(WIDEST + 1) as Key) << 32;
+    let slack = (slack.min(WIDEST + 1) as Key) << BELOW;
     begin(graph, rulings);
     rule_first(grown, slack, rulings);
     let inside = &grown.edges[grown.required..graph.n() - 2];

@@ -68,7 +68,7 @@ impl Grown {
     }
 
     /// Joins the vertices beside vertex 1; the cost, or none where it cannot be done.
-    fn kruskal(&mut self, graph: &Graph, order: &Order) -> Option<i32> {
+    fn kruskal(&mut self, graph: &Graph, order: &Order) -> Option<i64> {
         let mut label = std::array::from_fn(|vertex| vertex as u8);
         let cost = self.take_required(graph, order.required(), &mut label)?;
         self.part = label;
@@ -77,7 +77,7 @@ impl Grown {
 
     /// All required edges; none where they close a circle.
     #[inline(always)]
-    fn take_required(&mut self, graph: &Graph, keys: &[Key], label: &mut Labels) -> Option<i32> {
+    fn take_required(&mut self, graph: &Graph, keys: &[Key], label: &mut Labels) -> Option<i64> {
         if keys.len() > graph.n() - 2 {
             return None;
         }
@@ -97,7 +97,7 @@ impl Grown {
 
     /// Free edges until the tree is whole; none where they do not suffice.
     #[inline(always)]
-    fn take_free(&mut self, graph: &Graph, keys: &[Key], label: &mut Labels) -> Option<i32> {
+    fn take_free(&mut self, graph: &Graph, keys: &[Key], label: &mut Labels) -> Option<i64> {
         let (mut len, mut refusals, mut looked_at) = (self.required, 0, 0);
         let mut cost = 0;
         while len < graph.n() - 2 {
@@ -121,7 +121,7 @@ impl Grown {
     /// Takes a free edge beside vertex 1, and notes what hanging the tree up will ask; while labels are
     /// waited for, this costs little.
     #[inline(always)]
-    fn join(&mut self, graph: &Graph, place: usize, key: Key) -> i32 {
+    fn join(&mut self, graph: &Graph, place: usize, key: Key) -> i64 {
         let k = number(key);
         let (a, b) = self.parts(key);
         self.key[k] = key;
@@ -141,17 +141,17 @@ impl Grown {
 
     /// Takes an edge as this one of the tree; its cost.
     #[inline(always)]
-    fn take(&mut self, graph: &Graph, place: usize, key: Key) -> i32 {
+    fn take(&mut self, graph: &Graph, place: usize, key: Key) -> i64 {
         let k = number(key);
         let (a, b) = ends(key);
         self.edges[place % LANES] = k as u8;
         self.degree[a] += 1;
         self.degree[b] += 1;
-        graph.cost[k]
+        graph.cost[k] as i64
     }
 
     /// Takes two edges at vertex 1, required or least; the cost, or none where it cannot be done.
-    fn find_first(&mut self, graph: &Graph, d: &Lanes, edges: &[u8]) -> Option<i32> {
+    fn find_first(&mut self, graph: &Graph, d: &Lanes, edges: &[u8]) -> Option<i64> {
         let mut least = [FAR; 3];
         let (mut required, mut firsts, mut cost) = (0, 0, 0);
         let place = graph.n() - 2;
@@ -178,10 +178,10 @@ impl Grown {
     }
 
     /// Costs, and each multiplier as often as its vertex has more than two edges.
-    fn bound(&self, cost: i32, d: &Lanes) -> i64 {
+    fn bound(&self, cost: i64, d: &Lanes) -> i64 {
         let pairs = d[..24].iter().zip(&self.degree[..24]);
         let extra: i32 = pairs.map(|(d, degree)| d * (*degree as i32 - 2)).sum();
-        cost as i64 + extra as i64
+        cost + extra as i64
     }
 }
 

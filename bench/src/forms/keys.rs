@@ -1,19 +1,13 @@
 //! Keys of edges: what Kruskal sorts.
 
 use super::Multipliers;
-use crate::inputs::{Graph, VERTICES};
+use crate::inputs::{Graph, OFFSET, VERTICES};
 
 /// Edges in a list, rounded up to whole vectors.
 pub const ROOM: usize = 192;
 
 /// Room for vertices 1 to 20: an index masked by it needs no check.
 pub const LANES: usize = 32;
-
-/// Added to a charged cost, which is at least -3,000,000: a free edge's is then positive.
-const OFFSET: i32 = 3_000_001;
-
-/// No two charged costs are further apart.
-pub const WIDEST: i64 = 2 * OFFSET as i64;
 
 /// Multipliers by vertex, counted from 1.
 pub type Lanes = [i32; LANES];
@@ -24,7 +18,7 @@ pub fn lanes(d: &Multipliers) -> Lanes {
     lanes
 }
 
-/// In the upper half the charged cost, 0 where the edge is required; in the lower the number and both ends.
+/// Above the charged cost, 0 where the edge is required; in the lowest 24 bits the number and both ends.
 /// In ascending order Kruskal takes the required edges first, and finds, of two trees with equal
 /// bound, the one without the highest-numbered edge in which they differ.
 pub type Key = u64;
@@ -32,7 +26,9 @@ pub type Key = u64;
 /// No edge: above every key.
 pub const FAR: Key = Key::MAX;
 
-pub const LOWER_HALF: Key = 0xffff_ffff;
+/// The bits below the charged cost.
+pub const BELOW: u32 = 24;
+pub const LOWER: Key = (1 << BELOW) - 1;
 
 /// The key of a required edge.
 #[inline(always)]
@@ -44,8 +40,8 @@ pub fn uncharged(graph: &Graph, k: usize) -> Key {
 #[inline(always)]
 pub fn charged(graph: &Graph, key: Key, d: &Lanes) -> Key {
     let (a, b) = ends(key);
-    let charge = graph.cost[number(key)] + d[a] + d[b] + OFFSET;
-    (charge as Key) << 32 | key & LOWER_HALF
+    let charge = graph.cost[number(key)] as i64 + d[a] as i64 + d[b] as i64 + OFFSET;
+    (charge as Key) << BELOW | key & LOWER
 }
 
 #[inline(always)]
@@ -60,8 +56,8 @@ pub fn ends(key: Key) -> (usize, usize) {
 }
 
 /// The dearest key that a tree edge with this key can be swapped with, `slack` being what the bound
-/// may gain, in an upper half.
+/// may gain, above the lowest bits.
 #[inline(always)]
 pub fn limit(key: Key, slack: Key) -> Key {
-    (key | LOWER_HALF) + slack
+    (key | LOWER) + slack
 }

@@ -4,7 +4,7 @@ use super::check::{ceiling_fits, graph_fits, multipliers_fit, record_fits, sweep
 use super::record::{Answer, Record, Step};
 use super::tree::{self, Tree, Work};
 use super::{Marks, Multipliers};
-use crate::inputs::{Graph, EXCLUDED, FREE, PLACES, REQUIRED};
+use crate::inputs::{Graph, EXCLUDED, FREE, MAX_MULTIPLIER, PLACES, REQUIRED};
 
 /// Run opens no node beyond.
 const MOST: u64 = (1 << 63) - 1;
@@ -76,7 +76,7 @@ pub fn tell(record: &Record) -> Answer {
 
 fn cost(graph: &Graph, tour: &Marks) -> i64 {
     let both = graph.cost.iter().zip(tour);
-    both.map(|(cost, byte)| cost * *byte as i32).sum::<i32>() as i64
+    both.map(|(cost, byte)| *cost as i64 * *byte as i64).sum()
 }
 
 pub fn show(record: &Record, out: &mut [u8]) -> Answer {
@@ -216,7 +216,7 @@ fn improve(record: &mut Record, tree: &Tree) {
 /// "each d(i), i ≥ 2, gains step × (g − 2) [..] and is held to its range"
 fn adjust(d: &mut Multipliers, tree: &Tree, n: usize, step: i32) {
     for (d, degree) in d[1..n].iter_mut().zip(&tree.degree[2..=n]) {
-        *d = (*d + step * (*degree as i32 - 2)).clamp(-1_000_000, 1_000_000);
+        *d = (*d + step * (*degree as i32 - 2)).clamp(-MAX_MULTIPLIER, MAX_MULTIPLIER);
     }
 }
 

@@ -3,22 +3,17 @@
 
 use super::check::record_fits;
 use super::{Answer, Forms, Record};
-use crate::agree::sparse;
-use crate::inputs::{Random, PLACES, VERTICES};
+use crate::agree::{any_ceiling, any_multipliers, sparse};
+use crate::inputs::{Random, MAX_CEILING, MAX_COST, MAX_MULTIPLIER, PLACES, VERTICES};
 use crate::planner::{Job, Planner, Reference};
 
 fn random_job(random: &mut Random) -> Job {
     let graph = sparse(random);
-    let highest = [0, 3, 50, 1_000_000][random.below(4)];
-    let mut d: Vec<i32> = (0..graph.n())
-        .map(|_| random.between(-highest, highest) as i32)
-        .collect();
-    d[0] = 0;
+    let d = any_multipliers(random, graph.n());
     let mut list = [0; PLACES];
     let bound = Reference::new().tree(&graph, &d, &mut list[..graph.m()]);
-    let above = [0, 1, 7, 100, 3_000, 40_000_000][random.below(6)] - random.below(2) as i64;
     Job {
-        ceiling: (bound.unwrap_or(0) + above).clamp(-50_000_000, 50_000_000),
+        ceiling: any_ceiling(random, bound),
         sweeps: random.below(16) as u32,
         step: [0, 1, 20, 300, 10_000][random.below(5)],
         budget: 0,
@@ -86,7 +81,7 @@ fn plain_check(r: &Record) -> bool {
         let zero = numbers == [0; 4] && r.count == 0 && n == 0 && m == 0 && depth == 0;
         return unused && zero && r.has_best == 0;
     }
-    let within = |value: i32| (-1_000_000..=1_000_000).contains(&value);
+    let within = |value: i32, most: i32| (-most..=most).contains(&value);
     let mut pairs: Vec<_> = (0..m).map(|k| (g.a[k], g.b[k])).collect();
     pairs.sort();
     pairs.dedup();
@@ -96,11 +91,11 @@ fn plain_check(r: &Record) -> bool {
         && pairs
             .iter()
             .all(|(a, b)| 1 <= *a && a < b && *b as usize <= n)
-        && (0..m).all(|k| within(g.cost[k]) && g.mark[k] <= 2)
+        && (0..m).all(|k| within(g.cost[k], MAX_COST) && g.mark[k] <= 2)
         && r.multipliers[0] == 0
-        && r.multipliers.iter().all(|d| within(*d))
-        && r.ceiling.abs() <= 50_000_000
-        && r.upper.abs() <= 50_000_000
+        && r.multipliers.iter().all(|d| within(*d, MAX_MULTIPLIER))
+        && (-MAX_CEILING..=MAX_CEILING).contains(&r.ceiling)
+        && (-MAX_CEILING..=MAX_CEILING).contains(&r.upper)
         && r.sweeps <= 15
         && r.step <= 10_000
         && (0..depth).all(|p| {
@@ -114,16 +109,17 @@ fn plain_check(r: &Record) -> bool {
 fn bend(r: &mut Record, random: &mut Random) {
     let (k, p) = (random.below(PLACES), random.below(r.stack.len()));
     let byte = [0, 1, 2, 3, 21, 255][random.below(6)];
-    let wide = [-1, 0, 1, 50_000_000, 50_000_001, -50_000_001][random.below(6)];
+    let past = MAX_CEILING + 1;
+    let wide = [-1, 0, 1, MAX_CEILING, past, -past, i64::MIN][random.below(7)];
     match random.below(18) {
         0 => r.open = byte,
         1 => r.graph.n = byte,
         2 => r.graph.m = r.graph.m.wrapping_add(1),
         3 => r.graph.a[k] = byte,
         4 => r.graph.b[k] = byte,
-        5 => r.graph.cost[k] = [0, 1_000_001, -1_000_001, i32::MIN][random.below(4)],
+        5 => r.graph.cost[k] = [0, MAX_COST + 1, -MAX_COST - 1, i32::MIN][random.below(4)],
         6 => r.graph.mark[k] = byte,
-        7 => r.multipliers[k % VERTICES] = [0, 1, 1_000_001, i32::MIN][random.below(4)],
+        7 => r.multipliers[k % VERTICES] = [0, 1, MAX_MULTIPLIER + 1, i32::MIN][random.below(4)],
         8 => r.ceiling = wide,
         9 => r.sweeps = [0, 15, 16][random.below(3)],
         10 => r.step = [0, 10_000, 10_001][random.below(3)],
@@ -181,19 +177,22 @@ fn refuses_in_document_01s_order() {
     let mut bad = g.clone();
     bad.mark[0] = 3;
     assert_eq!(
-        record.open(&bad, &d[1..], 60_000_000, 16, 0),
+        record.open(&bad, &d[1..], MAX_CEILING + 1, 16, 0),
         Answer::Refused(15)
     );
     assert_eq!(
-        record.open(g, &d[1..], 60_000_000, 16, 0),
+        record.open(g, &d[1..], MAX_CEILING + 1, 16, 0),
         Answer::Refused(11)
     );
     let high = vec![1_000_001; g.n()];
     assert_eq!(
-        record.open(g, &high, 60_000_000, 16, 0),
+        record.open(g, &high, MAX_CEILING + 1, 16, 0),
         Answer::Refused(12)
     );
-    assert_eq!(record.open(g, d, 60_000_000, 16, 0), Answer::Refused(13));
+    assert_eq!(
+        record.open(g, d, MAX_CEILING + 1, 16, 0),
+        Answer::Refused(13)
+    );
     assert_eq!(record.open(g, d, 0, 0, 10_001), Answer::Refused(14));
     assert_eq!(record.open(g, d, job.ceiling, 0, 0), Answer::Accepted);
     assert_eq!(record.open(&bad, d, 0, 0, 0), Answer::Refused(21));

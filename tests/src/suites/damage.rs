@@ -44,6 +44,12 @@ pub fn sound(random: &mut Random) -> Record {
     Record::of(&machine.search)
 }
 
+/// A number at a limit or past it.
+fn about(random: &mut Random, limit: i32) -> i32 {
+    let past = past(random, limit);
+    random.pick(&[0, 1, limit, -limit, past, past])
+}
+
 /// Changes one part; the record may still pass.
 pub fn harm(random: &mut Random, record: &mut Record) {
     let (n, m) = (record.graph.n.clamp(3, 20), record.graph.m.clamp(1, PLACES));
@@ -57,9 +63,6 @@ pub fn harm(random: &mut Random, record: &mut Record) {
     } else {
         random.below(4) as u8
     };
-    let limit = random.pick(&[0, 1, MAX_COST, MAX_MULTIPLIER]);
-    let past = past(random, limit);
-    let signed = random.pick(&[limit, -limit, past]);
     let wrong = wrong_ceiling(random);
     let wide = random.pick(&[0, 1, MAX_CEILING, -MAX_CEILING, wrong, wrong]);
     let place = match random.below(3) {
@@ -73,9 +76,9 @@ pub fn harm(random: &mut Random, record: &mut Record) {
         2 => record.graph.m = random.pick(&[0, m - 1, m + 1, 190, 191, 255]),
         3 => record.graph.a[k] = byte,
         4 => record.graph.b[k] = byte,
-        5 => record.graph.cost[k] = signed,
+        5 => record.graph.cost[k] = about(random, MAX_COST),
         6 => record.graph.mark[k] = byte,
-        7 => record.multipliers[random.below(20)] = signed,
+        7 => record.multipliers[random.below(n)] = about(random, MAX_MULTIPLIER),
         8 => record.ceiling = wide,
         9 => record.sweeps = random.pick(&[0, 15, 16, u32::MAX]),
         10 => record.step = random.pick(&[0, 10_000, 10_001, u32::MAX]),

@@ -134,8 +134,8 @@ fn record_fields(search: &Search, named: &raw::Record) -> Vec<Field> {
     fields
 }
 
-/// Costs are about so many thousands: all four bytes count.
-const COSTS: i64 = 99_000;
+/// Costs are about so high: all their bytes count.
+const COSTS: i32 = 90_000_000;
 
 /// A complete graph with different costs and marks of all three kinds.
 fn distinct(random: &mut Random, n: usize) -> Graph {
@@ -145,7 +145,7 @@ fn distinct(random: &mut Random, n: usize) -> Graph {
         .map(|(k, (a, b))| Edge {
             a,
             b,
-            cost: 1_000 * random.between(-COSTS, COSTS) as i32 + k,
+            cost: COSTS + 1_000 * random.between(-100, 100) as i32 + k,
             mark: match k {
                 0 => REQUIRED,
                 1 => EXCLUDED,

@@ -415,7 +415,7 @@ class Scripts(unittest.TestCase):
     def step(self, source, graph, search):
         """A random line, the chart after it, and what the line should print."""
         kind = source.choice(("sea", "tree", "preview", "rule", "open", "run", "run", "tell", "show", "show", "close"))
-        ceiling = source.choice((-20, 40, 90, 50_000_001))
+        ceiling = source.choice((-20, 40, 90, 5_000_000_001))
         if kind == "sea":
             graph = random_graph(source, most=6)
             legs = (f"{edge.a}-{edge.b}:{edge.cost}{source.choice(('', 'm0')) if edge.mark == 0 else ' rs'[edge.mark]}" for edge in graph.edges)

@@ -346,7 +346,7 @@ class Forms(unittest.TestCase):
                 self.assertEqual(path.read_text(), commas_text(FOUR))
             self.assertIn("the name does not say the form", faults(planner.save, FOUR, Path(folder, "a.dat"))[0])
             self.assertEqual(faults(planner.save, FOUR, path, "tape"), ["the form 'tape' is unknown; allowed are table, chart, csv, tsplib"])
-            for edge in ((1, 2, 3, 7), (2, 1, 3), (1, 2, 10**7)):
+            for edge in ((1, 2, 3, 7), (2, 1, 3), (1, 2, 100_000_001)):
                 with self.subTest(edge), self.assertRaises(planner.Refused) as raised:
                     planner.save(planner.Graph(4, [edge]), Path(folder, "b.txt"))
                 self.assertEqual(raised.exception.number, 15)
@@ -355,7 +355,7 @@ class Forms(unittest.TestCase):
     def test_examples(self):
         self.assertEqual(formats.written(planner.load(EXAMPLES / "sea.txt"), "chart"), (EXAMPLES / "sea.chart").read_bytes())
         self.assertEqual(planner.load(EXAMPLES / "four.txt"), FOUR)
-        self.assertEqual(struct.pack("<i", 12) + formats.written(FOUR, "chart"), (ROOT / "crates/hunt/stdin").read_bytes())
+        self.assertEqual(struct.pack("<q", 12) + formats.written(FOUR, "chart"), (ROOT / "crates/hunt/stdin").read_bytes())
 
     def test_what_is_no_sea(self):
         """Each in one line."""

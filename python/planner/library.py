@@ -330,10 +330,14 @@ class Told(NamedTuple):
 
 
 class Search:
-    """A search record with the calls on it. Each call answers, or raises Refused and leaves the record as it was."""
+    """A search record with the calls on it. Each call answers, or raises Refused and leaves the record as it was.
 
-    def __init__(self) -> None:
+    Where tours cost more in the graph that is searched than in the one that is meant, `more` says how much; only best_so_far takes it off.
+    """
+
+    def __init__(self, more: int = 0) -> None:
         self.record: CSearch = library().planner_fresh()
+        self.more = more
 
     def open(
         self, graph: Graph, ceiling: int, sweeps: int = 0, step: int = 0, multipliers: Sequence[int] | None = None
@@ -378,4 +382,4 @@ class Search:
 
     def best_so_far(self) -> int | None:
         """What the best tour met so far costs. It need not be the cheapest: only tell says that."""
-        return self.record.upper + 1 if self.record.has_best else None
+        return self.record.upper + 1 - self.more if self.record.has_best else None

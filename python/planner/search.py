@@ -1,16 +1,18 @@
 """The cheapest tour without a ceiling at hand: guesswork for a first ceiling, an ascent of multipliers, a climb of ceilings.
 
 What is chosen here, ceilings, multipliers, sweeps and step, decides how long a search takes and which of several cheapest tours it finds.
-Every answer is the library's: that a cost is the least, or that there is no tour, is proved for every choice.
+Every answer is the library's: that a cost is the least, or that there is no tour, is proved for every choice. Where costs lie further apart than
+multipliers reach, it is asked about the same graph with levelled costs (`levelled`), and about the graph itself what the tour found costs.
 """
 from __future__ import annotations
 
 from collections.abc import Callable, Iterable
 from dataclasses import dataclass, replace
+from functools import cached_property
 
 from .guess import cheap_tour_weight
 from .library import (
-    EXCLUDED, HIGHEST_TOUR, MULTIPLIERS, REQUIRED, STEPS, SWEEPS, Graph, Search, rule, tree,
+    CEILINGS, COSTS, EXCLUDED, HIGHEST_TOUR, MULTIPLIERS, REQUIRED, STEPS, SWEEPS, Graph, Search, rule, tree,
 )  # fmt: skip
 
 LONG = 1_000_000  # nodes that a search opens at most
@@ -24,6 +26,10 @@ TREES = 1_000  # of the ascent
 # alike, and sweeps of spread / 15 to spread / 30 did better than spread / 60. Slow are complete graphs with few different costs, since
 # multipliers are whole numbers: random costs from 1 to 5 took up to 400,000 nodes. A first step of 64 or more helps where all costs are equal.
 FIRST_SHARE, LEAST_FIRST, SWEEP_SHARE = 4, 64, 20
+
+# Multipliers end at 1,000,000. Costs from 1 to 100,000,000 at 20 vertices were undecided after 200,000 nodes with them alone, and took as few
+# nodes as smaller ones once levelled.
+FAR_APART = MULTIPLIERS[-1] // 4
 
 Progress = Callable[[Search], None]
 
@@ -103,22 +109,65 @@ class Ascent:
                 self.present[vertex - 1] = within(moved, MULTIPLIERS)
 
 
+def ascent_of(graph: Graph) -> Ascent:
+    """An ascent with a first step that fits the graph."""
+    return Ascent(graph, within(spread(graph) // FIRST_SHARE, MULTIPLIERS[MULTIPLIERS.index(LEAST_FIRST) :]))
+
+
+def levelled(graph: Graph) -> tuple[Graph, int]:
+    """The graph with costs that lie nearer together, and how much more every tour costs there; itself where they are near enough.
+
+    An edge costs more by what both its ends are charged, and less by one number for all. A tour has two edges at each vertex, so that all
+    tours change alike: the cheapest stay the cheapest. The charges are multipliers of the graph with all costs divided, times the divisor.
+    An edge that is then too dear for a cost is as dear as a cost can be: a tour with it may seem cheaper than it is, and none seems dearer.
+    """
+    divisor = spread(graph) // FAR_APART
+    if divisor == 0:
+        return graph, 0
+    divided = graph.recosted(edge.cost // divisor for edge in graph.edges)
+    charges = [divisor * multiplier for multiplier in ascent_of(divided).reach(HIGHEST_TOUR)]
+    costs = [edge.cost + charges[edge.a - 1] + charges[edge.b - 1] for edge in graph.edges]
+    less = min(cost for cost, edge in zip(costs, graph.edges) if edge.mark != EXCLUDED) - COSTS[0]
+    return graph.recosted(within(cost - less, COSTS) for cost in costs), 2 * sum(charges) - graph.n * less
+
+
 class Solver:
     """Searches one graph at any ceiling, with sweeps and with multipliers that fit it."""
 
     def __init__(self, graph: Graph, progress: Progress | None = None):
-        around = spread(graph)
         self.graph, self.progress = graph, progress
-        self.step = within(around // SWEEP_SHARE, STEPS[1:])
-        self.ascent = Ascent(graph, within(around // FIRST_SHARE, MULTIPLIERS[MULTIPLIERS.index(LEAST_FIRST) :]))
+        self.step = within(spread(graph) // SWEEP_SHARE, STEPS[1:])
+
+    @cached_property
+    def asked(self) -> tuple[Ascent, int]:
+        """An ascent on the graph that the library is asked about, and how much more tours cost there. Made when the graph is known to be fit."""
+        graph, more = levelled(self.graph)
+        return ascent_of(graph), more
 
     def ask(self, ceiling: int, limit: int) -> Answer:
         """What a search answers after at most so many nodes."""
-        search = Search()
-        search.open(self.graph, ceiling, SWEEPS[-1], self.step, self.ascent.reach(ceiling))
+        ascent, more = self.asked
+        search = Search(more)
+        there = within(ceiling + more, CEILINGS)  # beyond them no tour has its cost
+        search.open(ascent.graph, there, SWEEPS[-1], self.step, ascent.reach(there))
         search.run(limit, self.progress)
         told = search.tell()
-        return Answer(told.verdict, told.nodes, told.cost, search.show() if told.verdict == "cost" else ())
+        if told.verdict != "cost":
+            return Answer(told.verdict, told.nodes)
+        tour = search.show()
+        cost = told.cost if ascent.graph is self.graph else cost_of(self.graph, tour)
+        if cost + more != told.cost:
+            # It only seemed so cheap. The graph itself is asked about from now on.
+            self.asked = ascent_of(self.graph), 0
+            return self.ask(ceiling, limit)
+        return Answer(told.verdict, told.nodes, cost, tour)
+
+
+def cost_of(graph: Graph, tour: Iterable[int]) -> int:
+    """What a tour costs, by the library: where all its edges are required, the least 1-tree is the tour."""
+    chosen = set(tour)
+    edges = (edge._replace(mark=REQUIRED) if number in chosen else edge for number, edge in enumerate(graph.edges, 1))
+    return tree(Graph(graph.n, edges)).bound
 
 
 NOTHING = Answer("none", 0)  # where nothing need be asked

@@ -122,7 +122,7 @@ class Layout(unittest.TestCase):
     def test_twenty_on_a_circle(self):
         """In the order of the round, so that its legs are the rim; each of its costs is written."""
         source = random.Random(15)
-        for cost in (99, 1_000_000):
+        for cost in (99, 1_000_000, 100_000_000):
             graph = full_graph(20, lambda *_: source.randint(-cost, cost))
             picture = drawing(graph)
             said = self.held(picture)

@@ -5,7 +5,7 @@ from collections import Counter
 
 import planner
 from planner import search
-from planner.search import LONG, SHORT, Answer, Ascent, Climb, guessed_cost, some_tour
+from planner.search import LONG, SHORT, Answer, Ascent, Climb, cost_of, guessed_cost, levelled, some_tour
 from support import EXAMPLES, FOUR, allowed_tours, distances, full_graph, held_karp, is_tour, planted, random_graph
 
 
@@ -65,7 +65,7 @@ class Solve(unittest.TestCase):
 
     def test_twenty_vertices(self):
         source = random.Random(9)
-        for most in (1000, 300_000):
+        for most in (1000, 300_000, 30_000_000):
             graph, least = planted(source, 20, most)
             self.assertEqual(self.solved(graph).cost, least)
             for graph in (graph, distances(source, 20, most), full_graph(20, lambda *_: source.randint(1, most))):
@@ -153,6 +153,36 @@ class Ceilings(unittest.TestCase):
         ):
             for first in (3, 11, 60, 61, 62, 63, 70, 500, 1000, 2000):
                 self.assertEqual(self.climbed(least, short, long, first)[: len(said)], said)
+
+    def test_levelled(self):
+        """Every tour costs alike more, or seems to cost less where it has an edge at the end of the range; near costs stay as they are."""
+        source, seen = random.Random(13), Counter()
+        for turn in range(200):
+            most = source.choice((20, 300_000, 20_000_000, 100_000_000))
+            graph = random_graph(source, most=7, costs=most)
+            if turn % 4 == 0:
+                graph = graph.recosted(source.choice((-most, most)) for _ in graph.edges)
+            other, more = levelled(graph)
+            planner.check(other)
+            tours, others = allowed_tours(graph), allowed_tours(other)
+            self.assertEqual(tours.keys(), others.keys())
+            dear = {number for number, edge in enumerate(other.edges, 1) if edge.cost == 100_000_000}
+            for tour, cost in tours.items():
+                seen["dear"] += bool(dear & tour)
+                (self.assertLessEqual if dear & tour else self.assertEqual)(others[tour], cost + more)
+            self.assertEqual([edge.mark for edge in other.edges], [edge.mark for edge in graph.edges])
+            for tour, cost in tours.items():
+                self.assertEqual(cost_of(graph, tour), cost)
+            if most == 20:
+                self.assertIs(other, graph)
+            seen[other is graph, bool(tours)] += 1
+        self.assertGreater(min(seen.values()), 10, seen)
+
+    def test_best_so_far(self):
+        search = planner.Search(5)
+        search.open(FOUR, 12)
+        search.run(9)
+        self.assertEqual((search.tell().cost, search.best_so_far()), (12, 7))
 
     def test_spread(self):
         self.assertEqual(search.spread(planner.Graph(3)), 0)

@@ -1,6 +1,7 @@
-//! Document 01 in Rust, with the requests of document 02 that have landed, written from their text alone. Slow and plain where it can be: definitions by
-//! enumeration stand beside each algorithm. Our words: graph (chart, sea), vertex (buoy), edge (leg),
-//! excluded (struck), tour (round), multipliers (dues), search (hunt), stack (pile), incumbent (best).
+//! Document 01 in Rust, with the requests of document 02 that have landed, written from their text alone.
+//! Slow and plain where it can be: definitions by enumeration stand beside each algorithm. Our words:
+//! graph (chart, sea), vertex (buoy), edge (leg), excluded (struck), tour (round), multipliers (dues),
+//! search (hunt), stack (pile), incumbent (best).
 
 pub mod chart;
 pub mod graph;

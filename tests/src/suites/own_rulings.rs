@@ -18,6 +18,7 @@ pub const SUITE: Suite = Suite {
         bends::CEILING_NOT_WITHIN,
         bends::REQUIRED_SWAPPED_OUT,
         bends::MULTIPLIERS_OFF_ONCE,
+        bends::CHEAP_NO_REPLACEMENT,
     ],
 };
 

@@ -178,6 +178,18 @@ class Ceilings(unittest.TestCase):
             seen[other is graph, bool(tours)] += 1
         self.assertGreater(min(seen.values()), 10, seen)
 
+    def test_what_only_seemed_cheap(self):
+        """A tour with an edge that was too dear to be levelled: the graph itself is asked about."""
+        source, again = random.Random(15), 0
+        for _ in range(150):
+            graph = random_graph(source, most=7)
+            graph = graph.recosted(source.choice((-100_000_000, 100_000_000)) for _ in graph.edges)
+            climb = Climb(graph)
+            answer = climb.cheapest(search.HIGHEST_TOUR)
+            self.assertEqual(answer.cost, min(allowed_tours(graph).values(), default=None), graph)
+            again += climb.ask.__self__.asked[0].graph is graph and levelled(graph)[0] is not graph
+        self.assertGreater(again, 5)
+
     def test_best_so_far(self):
         search = planner.Search(5)
         search.open(FOUR, 12)

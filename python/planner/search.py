@@ -27,8 +27,8 @@ TREES = 1_000  # of the ascent
 # multipliers are whole numbers: random costs from 1 to 5 took up to 400,000 nodes. A first step of 64 or more helps where all costs are equal.
 FIRST_SHARE, LEAST_FIRST, SWEEP_SHARE = 4, 64, 20
 
-# Multipliers end at 1,000,000. Costs from 1 to 100,000,000 at 20 vertices were undecided after 200,000 nodes with them alone, and took as few
-# nodes as smaller ones once levelled.
+# Multipliers end at 1,000,000. With them alone six complete graphs of 20 vertices, costs from 1 to 100,000,000, were undecided after 200,000 nodes;
+# levelled they took 1 node each. Random costs over the whole range, six graphs each of 16 and of 20 vertices, then took at most 10,000.
 FAR_APART = MULTIPLIERS[-1] // 4
 
 Progress = Callable[[Search], None]

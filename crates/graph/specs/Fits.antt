@@ -1,5 +1,5 @@
--- How large numbers get that are made of costs and ceilings alone. These follow from the limits by computation, here and nowhere else: whoever
--- needs one cites it (charges, bounds and slack: specs/Fits of crate greedy). Assumes nothing.
+-- How large numbers get that are made of costs and ceilings alone. These follow from the limits by computation; code whose numbers must
+-- fit cites them (charges, bounds and slack: specs/Fits of crate greedy). Assumes nothing.
 use Prim.Native.Nat.{_+_, _*_, _<_, _≤_}
 use native.Mathlib.Omega.{arith}
 use Rattle.graph.specs.Limits.{maxVertices, maxEdges, maxCost, maxCeiling}

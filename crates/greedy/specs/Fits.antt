@@ -1,5 +1,5 @@
 -- Every number that code makes of costs, multipliers and ceilings fits its word, and 'there is none' is more than it is compared with. These
--- follow from the limits by computation, here and nowhere else: whoever needs one cites it. Assumes nothing.
+-- follow from the limits by computation; code whose sums and keys must fit cites them. Assumes nothing.
 use Prim.Native.Nat.{ℕ, _+_, _*_, _<_, _≤_}
 use native.Mathlib.Omega.{arith}
 use Rattle.graph.specs.Limits.{maxVertices, maxEdges, maxCost, maxMultiplier}

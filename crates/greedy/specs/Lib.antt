@@ -15,6 +15,7 @@ pub mod Falling
 pub mod Keys
 pub mod Making
 pub mod Hinting
+pub mod Parting
 -- the greedy choice, edge by edge
 pub mod Relabelling
 pub mod Growth

@@ -24,7 +24,6 @@ use Rattle.tree_theory.specs.OneTree.{Edges}
 use Rattle.tree_theory.specs.Valid.{isExcluded, needed, isNear, near, far, distinct-near, distinct-far, near-in, far-in, in-near, in-far}
 use Rattle.tree_theory.specs.Weight.{oneWeight, oneWeight-le}
 use Rattle.tree_theory.specs.Minimum.{Order}
-use Rattle.tree_theory.specs.Link.{number}
 use Rattle.tree_theory.specs.Arrays.{entry, network-m, edge-in, in-edge, needed-at, excluded-at}
 use Rattle.greedy.specs.Sorting.{Ascending}
 use Rattle.greedy.specs.Falling.{Falls, GoesWith, falls-select, falls-distinct, falls-split, falls-desc}
@@ -209,25 +208,3 @@ far-queued g c ks f o =
     in-order g (farAt (g .a)) c ks f o (λ k. not (isNear G k)) (λ k h. ap not (near-agrees g k h)) (far G) (distinct-far G)
     (λ e m. let r = far-in G e m in (r .0, ap not (r .1), r .2))
     (λ e m h x. in-far G e m (not-true _ h) x)
-
--- together they are no more than the edges
-pub both-fit : (g : Graph) (c ks : List ℕ) (f : ℕ) (ns : List ℕ) (h : ℕ) → InKeyOrder g (farAt (g .a)) c ks f
-    → InKeyOrder g (nearAt (g .a)) c ns h → f + h ≤ g .m
-both-fit g c ks f ns h o p =
-    omega (
-      arith,
-      far-queued g c ks f o .size,
-      near-queued g c ns h p .size,
-      number G live (λ k m e. ap not e),
-      ap length (select-full live (near G) (λ k m. ap not (near-in G k m .2))),
-      ap length (select-full live (far G) (λ k m. ap not (far-in G k m .2))),
-      select-length live (upTo (G .m)),
-      length-upTo (G .m),
-      network-m g,
-    )
-  where
-    G : Network
-    G = network g
-
-    live : Edges
-    live k = not (isExcluded (G .mark k))

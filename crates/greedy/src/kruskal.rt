@@ -1,15 +1,15 @@
 // The greedy choice: of the edges at vertex 1 the first two, and of the others, in order, each that joins two components.
 ghost use mathlib.Core.Path.{_≡_};
 ghost use mathlib.Core.Bool.{cond};
-ghost use Prim.Native.Nat.{ℕ, _+_, _*_, _%_, _<_, _≤_, min, max};
+ghost use Prim.Native.Nat.{ℕ, _+_, _*_, _-_, _%_, _<_, _≤_, min, max};
 ghost use lib.Dec.{eqb};
 ghost use lib.ListN.{length, getD};
 ghost use Rattle.lists.specs.Bools.{Says};
 ghost use Rattle.graph.specs.Limits.{maxEdges};
 ghost use Rattle.spanning.specs.Walks.{relabel};
 ghost use Rattle.greedy.specs.Charged.{maxCharge};
-ghost use Rattle.greedy.specs.ChoiceSoFar.{Joins, ChoiceByEnds, TwoTaken};
-ghost use Rattle.greedy.specs.Required.{Small};
+ghost use Rattle.greedy.specs.ChoiceSoFar.{Joins, ChoiceByEnds, TwoOfPart};
+ghost use Rattle.greedy.specs.Required.{Reached};
 ghost use Rattle.greedy.specs.Stopping.{LooksAsSaid};
 use crate::MAX_LABELS;
 use crate::order::place;
@@ -73,14 +73,15 @@ fn join(l: &mut [u8; MAX_LABELS], x: u8, y: u8)
     }
 }
 
-// How many keys are of required edges, which come first: those below 256, as a free edge's charge is at least 1.
-pub(crate) fn required(keys: &[u64; MAX_EDGES], f: usize) -> usize
-    requires { ⌜ f ≤ maxEdges ⌝ }
-    ensures { λ r. ⌜ Small (now (keys .entry)) f r ⌝ }
+// The first place of those from `from` to before `to` whose key is at least `least`. Of either kind the required edges come first: their charge counts
+// for nothing in the key, and a free edge's is at least 1.
+pub(crate) fn reached(keys: &[u64; MAX_EDGES], from: usize, to: usize, least: u64) -> usize
+    requires { ⌜ (from ≤ to) × (to ≤ maxEdges) ⌝ }
+    ensures { λ r. ⌜ Reached (now (keys .entry)) from to least r ⌝ }
 {
-    let mut i = 0;
-    while i < f {
-        if keys[i] >= 256 {
+    let mut i = from;
+    while i < to {
+        if keys[i] >= least {
             return i;
         }
         i = i + 1;
@@ -133,23 +134,25 @@ pub(crate) fn grow<'a>(
     }
 }
 
-// The first two of the f edges at vertex 1, or as many as there are, onto the others that are taken: one byte an edge in w, and the sum of charges.
+// The first two of the edges at vertex 1, or as many as there are, onto the others that are taken: one byte an edge in w, and the sum of charges. Their
+// keys stand from place `from` to before `to`.
 pub(crate) fn take_two<'a>(
     c: &'a [u64; MAX_EDGES],
     keys: &'a [u64; MAX_EDGES],
-    f: usize,
+    from: usize,
+    to: usize,
     sum: u64,
     w: &mut [u8; MAX_EDGES],
 ) -> u64
-    requires { ⌜ (f ≤ maxEdges) × (sum ≤ maxCharge * maxEdges) × (length (now w) ≡ maxEdges)
-        × ((i : ℕ) → i < f → (getD (now keys) i 0 % 256 < maxEdges) × (getD (now c) (getD (now keys) i 0 % 256) 0 ≤ maxCharge)) ⌝ }
-    ensures { λ r. ⌜ TwoTaken (now (c .entry)) (now (keys .entry)) f (now (w .entry)) sum (now (w .exit)) r
-        × (length (now (w .exit)) ≡ maxEdges) × (r ≤ sum + maxCharge * f) ⌝ }
+    requires { ⌜ (from ≤ to) × (to ≤ maxEdges) × (sum ≤ maxCharge * maxEdges) × (length (now w) ≡ maxEdges)
+        × ((i : ℕ) → i < to → (getD (now keys) i 0 % 256 < maxEdges) × (getD (now c) (getD (now keys) i 0 % 256) 0 ≤ maxCharge)) ⌝ }
+    ensures { λ r. ⌜ TwoOfPart (now (c .entry)) (now (keys .entry)) from to to (now (w .entry)) sum (now (w .exit)) r
+        × (length (now (w .exit)) ≡ maxEdges) × (r ≤ sum + maxCharge * (to - from)) ⌝ }
 {
     let mut all = sum;
-    let mut i = 0;
-    while i < f {
-        if i == 2 {
+    let mut i = from;
+    while i < to {
+        if i == from + 2 {
             break;
         }
         let k = place(keys[i]);

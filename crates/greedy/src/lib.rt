@@ -18,6 +18,7 @@ mod sort;
 use graph::MAX_EDGES;
 use graph::MAX_VERTICES;
 use kruskal::Grown;
+use order::NEAR_KEYS;
 pub use refusals::ceiling_fits;
 pub use refusals::multipliers_fit;
 
@@ -76,11 +77,10 @@ pub(crate) fn find<'a>(
 {
     charges::charges(a, b, cost, m, multipliers, c);
     let mut ks = [0u64; MAX_EDGES];
-    let mut ns = [0u64; MAX_EDGES];
-    let f = order::order(a, mark, m, c, hint, &mut ks, &mut ns);
-    order::places(&ks, f.far, 0, order);
-    order::places(&ns, f.near, f.far, order);
-    let r = kruskal::required(&ks, f.far);
+    let f = order::order(a, mark, m, c, hint, &mut ks);
+    order::places(&ks, f, order);
+    let away = order::away(&ks, f);
+    let r = kruskal::reached(&ks, 0, away, 256);
     let mut l = kruskal::labels();
     let none = Grown {
         next: 0,
@@ -91,18 +91,17 @@ pub(crate) fn find<'a>(
     // the required edges are all taken, however few connect the vertices
     let first = kruskal::grow(a, b, c, &ks, r, MAX_EDGES, none, &mut l, w);
     *rep = l;
-    let t = kruskal::grow(a, b, c, &ks, f.far, enough, first, &mut l, w);
-    let must = kruskal::required(&ns, f.near);
-    let sum = kruskal::take_two(c, &ns, f.near, t.sum, w);
-    let any = kruskal::whole(n, f.near, must, t.far, r, first.far);
+    let t = kruskal::grow(a, b, c, &ks, away, enough, first, &mut l, w);
+    let must = kruskal::reached(&ks, away, f, NEAR_KEYS + 256) - away;
+    let sum = kruskal::take_two(c, &ks, away, f, t.sum, w);
+    let any = kruskal::whole(n, f - away, must, t.far, r, first.far);
     let lowest = charges::bound(sum, n, charges::total(multipliers));
-    let live = f.far + f.near;
     let looked = t.next - r;
     let found = Found {
         fault: 0,
         any: any,
         bound: lowest,
-        live: live,
+        live: f,
     };
     Outcome {
         found: found,

@@ -3,7 +3,7 @@
 use mathlib.Core.Path.{_≡_, _∙_, sym, ap, subst}
 use mathlib.Core.Logic.{_≢_}
 use mathlib.Core.List.{List, [], _∷_}
-use Prim.Native.Nat.{ℕ, zero, suc, _+_, _-_, _*_, _%_, _<_, _≤_}
+use Prim.Native.Nat.{ℕ, zero, suc, _+_, _*_, _%_, _<_, _≤_}
 use native.Mathlib.Omega.{arith}
 use native.Mathlib.Decide.{ℕ-discrete}
 use lib.ListN.{length, getD, set, length-set}
@@ -142,32 +142,3 @@ module _ (c ns : List ℕ) (i : ℕ) (w₀ : List ℕ) (sum₀ : ℕ) (w : List 
       go (yes e) below = subst (λ (x : ℕ). TwoTaken c ns x w₀ sum₀ w sum) e t
       go (no e) below = λ G es far s.
           grow-spare G c (queued ns f) es w far sum (below (omega arith) G es far s) _ (omega (arith, queued-length ns f))
-
--- ---- where their keys stand behind others, from place `from` to before `to`
-
--- ns has the same edges
-abbrev pub SamePlaces : List ℕ → ℕ → ℕ → List ℕ → Type 0
-SamePlaces ks from to ns = (i : ℕ) → from + i < to → getD ks (from + i) 0 % 256 ≡ getD ns i 0 % 256
-
--- of those before place i
-abbrev pub TwoOfPart : List ℕ → List ℕ → ℕ → ℕ → ℕ → List ℕ → ℕ → List ℕ → ℕ → Type 0
-TwoOfPart c ks from to i w₀ sum₀ w sum = (ns : List ℕ) → SamePlaces ks from to ns → TwoTaken c ns (i - from) w₀ sum₀ w sum
-
-pub part-none : (c ks : List ℕ) (from to : ℕ) (w : List ℕ) (sum : ℕ) → TwoOfPart c ks from to from w sum w sum
-part-none c ks from to w sum ns same =
-    let e : 0 ≡ from - from = omega arith in
-    subst (λ (x : ℕ). TwoTaken c ns x w sum w sum) e (two-none c ns w sum)
-
-module _ (c ks : List ℕ) (from to i : ℕ) (w₀ : List ℕ) (sum₀ : ℕ) (w : List ℕ) (sum : ℕ) (t : TwoOfPart c ks from to i w₀ sum₀ w sum)
-    (h : from ≤ i) where
-  pub part-more : (k : ℕ) → k ≡ getD ks i 0 % 256 → k < length w → i < to → i < from + 2
-      → TwoOfPart c ks from to (i + 1) w₀ sum₀ (set w k 1) (sum + getD c k 0)
-  part-more k e room l o ns same =
-      let j : i ≡ from + (i - from) = omega arith in
-      let here : k ≡ getD ns (i - from) 0 % 256 = e ∙ ap (λ (x : ℕ). getD ks x 0 % 256) j ∙ same (i - from) (omega arith) in
-      let next : (i - from) + 1 ≡ i + 1 - from = omega arith in
-      subst (λ (x : ℕ). TwoTaken c ns x w₀ sum₀ (set w k 1) (sum + getD c k 0)) next
-      (two-more c ns (i - from) w₀ sum₀ w sum (t ns same) k here room (omega arith))
-
-  pub part-spare : i ≤ to → from + 2 ≤ i → TwoOfPart c ks from to to w₀ sum₀ w sum
-  part-spare l o ns same = two-spare c ns (i - from) w₀ sum₀ w sum (t ns same) (to - from) (omega arith) (omega arith)

@@ -3,7 +3,7 @@
 use Prim.Native.Nat.{ℕ, _+_, _*_, _<_, _≤_}
 use native.Mathlib.Omega.{arith}
 use Rattle.graph.specs.Limits.{maxVertices, maxEdges, maxCost, maxMultiplier}
-use Rattle.greedy.specs.Keys.{nearCharge, nearKeys}
+use Rattle.greedy.specs.Keys.{farCharge, farKeys}
 use Rattle.greedy.specs.Charged.{maxCharge, highBound, lowBound, maxSlack, noCharge}
 
 -- words of 64 bits, unsigned and signed
@@ -24,11 +24,11 @@ raised-fits = omega arith
 pub raised-sum-fits : (sum x : ℕ) → sum ≤ 2 * maxMultiplier * maxVertices → x ≤ 2 * maxMultiplier → sum + x < word
 raised-sum-fits sum x h l = omega arith
 
--- a charge and the edge's place in one number: no edge's key reaches those of the edges at vertex 1, and these fit too
-pub far-below : (c k : ℕ) → c ≤ maxCharge → k < 256 → c * 256 + k < nearKeys
-far-below c k h l = omega arith
+-- a charge and the edge's place in one number: it is below the keys of the edges away from vertex 1, and these fit too
+pub near-below : (c k : ℕ) → c ≤ maxCharge → k < 256 → c * 256 + k < farKeys
+near-below c k h l = omega arith
 
-pub parted-fits : (p c k : ℕ) → p ≤ nearCharge → c ≤ maxCharge → k < 256 → (p + c) * 256 + k < word
+pub parted-fits : (p c k : ℕ) → p ≤ farCharge → c ≤ maxCharge → k < 256 → (p + c) * 256 + k < word
 parted-fits p c k g h l = omega arith
 
 -- n charges and one more: as many as there are edges, and the two at vertex 1 besides

@@ -21,7 +21,8 @@ use Rattle.spanning.specs.Held.{HoldsLabels}
 use Rattle.tree_theory.specs.OneTree.{Edges}
 use Rattle.tree_theory.specs.Valid.{needed, far, others-in, far-within}
 use Rattle.tree_theory.specs.Arrays.{needed-at, network-valid}
-use Rattle.greedy.specs.Keys.{keyAt, key-required, key-free, Kind, farAt, nearKeys, queued, queued-in}
+use Rattle.greedy.specs.Keys.{keyAt, key-required, key-free, Kind, farAt, farKeys, queued, queued-in}
+use Rattle.greedy.specs.Parting.{Reached}
 use Rattle.greedy.specs.ChoiceSoFar.{maxLabels}
 use Rattle.greedy.specs.Queue.{InKeyOrder, requiredOf, freeOf, turn-key, listed, far-queued}
 use Rattle.tree_theory.specs.Merges.{Merges}
@@ -30,18 +31,13 @@ use Rattle.tree_theory.specs.Merges.{Merges}
 abbrev pub Small : List ℕ → ℕ → ℕ → Type 0
 Small ks f r = (r ≤ f) × ((i : ℕ) → i < r → getD ks i 0 < 256) × (r < f → 256 ≤ getD ks r 0)
 
--- r is the first place of those from `from` to before `to` whose key is at least `least`, or `to`
-abbrev pub Reached : List ℕ → ℕ → ℕ → ℕ → ℕ → Type 0
-Reached ks from to least r =
-    (from ≤ r) × (r ≤ to) × ((i : ℕ) → from ≤ i → i < r → getD ks i 0 < least) × (r < to → least ≤ getD ks r 0)
-
 -- so it is with the keys of either kind
-pub far-small : (ks : List ℕ) (f r : ℕ) → Reached ks 0 f 256 r → Small ks f r
-far-small ks f r h = (h .1, λ i l. h .2 i (omega arith) l, h .3)
+pub near-small : (ks : List ℕ) (f r : ℕ) → Reached ks 0 f 256 r → Small ks f r
+near-small ks f r h = (h .1, λ i l. h .2 i (omega arith) l, h .3)
 
-pub near-small : (ks ns : List ℕ) (from to r : ℕ) → ((i : ℕ) → from + i < to → getD ks (from + i) 0 ≡ nearKeys + getD ns i 0)
-    → Reached ks from to (nearKeys + 256) r → Small ns (to - from) (r - from)
-near-small ks ns from to r at h = (
+pub far-small : (ks fs : List ℕ) (from to r : ℕ) → ((i : ℕ) → from + i < to → getD ks (from + i) 0 ≡ farKeys + getD fs i 0)
+    → Reached ks from to (farKeys + 256) r → Small fs (to - from) (r - from)
+far-small ks fs from to r at h = (
   omega (arith, h .0, h .1),
   λ i l. omega (arith, at i (omega (arith, h .1)), h .2 (from + i) (omega arith) (omega arith)),
   λ l.

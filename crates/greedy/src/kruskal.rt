@@ -1,15 +1,15 @@
 // The greedy choice: of the edges at vertex 1 the first two, and of the others, in order, each that joins two components.
 ghost use mathlib.Core.Path.{_≡_};
 ghost use mathlib.Core.Bool.{cond};
-ghost use Prim.Native.Nat.{ℕ, _+_, _*_, _-_, _%_, _<_, _≤_, min, max};
+ghost use Prim.Native.Nat.{ℕ, _+_, _*_, _%_, _<_, _≤_, min, max};
 ghost use lib.Dec.{eqb};
 ghost use lib.ListN.{length, getD};
 ghost use Rattle.lists.specs.Bools.{Says};
 ghost use Rattle.graph.specs.Limits.{maxEdges};
 ghost use Rattle.spanning.specs.Walks.{relabel};
 ghost use Rattle.greedy.specs.Charged.{maxCharge};
-ghost use Rattle.greedy.specs.ChoiceSoFar.{Joins, ChoiceByEnds, TwoOfPart};
-ghost use Rattle.greedy.specs.Required.{Reached};
+ghost use Rattle.greedy.specs.ChoiceSoFar.{Joins, ChoiceByEnds, TwoTaken};
+ghost use Rattle.greedy.specs.Parting.{Reached, unraised, SamePlaces};
 ghost use Rattle.greedy.specs.Stopping.{LooksAsSaid};
 use crate::MAX_LABELS;
 use crate::order::place;
@@ -89,24 +89,27 @@ pub(crate) fn reached(keys: &[u64; MAX_EDGES], from: usize, to: usize, least: u6
     i
 }
 
-// From the key at t .next to that before `to`, onto what t says of those before: the labels l, and one byte an edge in w. It ends as soon as
-// `enough` edges are taken.
+// The keys of the edges away from vertex 1 stand from place `from` on. From that in turn t .next to that before `to`, onto what t says of those before:
+// the labels l, and one byte an edge in w. It ends as soon as `enough` edges are taken.
 pub(crate) fn grow<'a>(
     a: &'a [u8; MAX_EDGES],
     b: &'a [u8; MAX_EDGES],
     c: &'a [u64; MAX_EDGES],
     keys: &'a [u64; MAX_EDGES],
+    from: usize,
     to: usize,
     enough: usize,
     t: Grown,
     l: &mut [u8; MAX_LABELS],
     w: &mut [u8; MAX_EDGES],
 ) -> Grown
-    requires { ⌜ (t .next ≤ to) × (to ≤ maxEdges) × ((i : ℕ) → i < to → Joins (now a) (now b) (now c) (getD (now keys) i 0 % 256))
-        × ChoiceByEnds (now a) (now b) (now c) (now keys) to (t .next) (now l) (now w) (t .far) (t .sum) ⌝ }
-    ensures { λ r. ⌜ ChoiceByEnds (now (a .entry)) (now (b .entry)) (now (c .entry)) (now (keys .entry)) to (r .next)
+    requires { ⌜ (t .next ≤ to) × (from + to ≤ maxEdges)
+        × SamePlaces (now keys) from to
+        × ((i : ℕ) → i < to → Joins (now a) (now b) (now c) (getD (unraised (now keys) from) i 0 % 256))
+        × ChoiceByEnds (now a) (now b) (now c) (unraised (now keys) from) to (t .next) (now l) (now w) (t .far) (t .sum) ⌝ }
+    ensures { λ r. ⌜ ChoiceByEnds (now (a .entry)) (now (b .entry)) (now (c .entry)) (unraised (now (keys .entry)) from) to (r .next)
         (now (l .exit)) (now (w .exit)) (r .far) (r .sum)
-        × LooksAsSaid (now (a .entry)) (now (b .entry)) (now (c .entry)) (now (keys .entry)) to enough (t .next) (r .next)
+        × LooksAsSaid (now (a .entry)) (now (b .entry)) (now (c .entry)) (unraised (now (keys .entry)) from) to enough (t .next) (r .next)
         × (t .next ≤ r .next) × (r .next ≤ to) × (r .next < to → enough ≤ r .far) ⌝ }
 {
     let mut far = t.far;
@@ -116,7 +119,7 @@ pub(crate) fn grow<'a>(
         if far >= enough {
             break;
         }
-        let k = place(keys[i]);
+        let k = place(keys[from + i]);
         let x = l[wide(a[k])];
         let y = l[wide(b[k])];
         if x != y {
@@ -134,25 +137,23 @@ pub(crate) fn grow<'a>(
     }
 }
 
-// The first two of the edges at vertex 1, or as many as there are, onto the others that are taken: one byte an edge in w, and the sum of charges. Their
-// keys stand from place `from` to before `to`.
+// The first two of the f edges at vertex 1, or as many as there are, onto the others that are taken: one byte an edge in w, and the sum of charges.
 pub(crate) fn take_two<'a>(
     c: &'a [u64; MAX_EDGES],
     keys: &'a [u64; MAX_EDGES],
-    from: usize,
-    to: usize,
+    f: usize,
     sum: u64,
     w: &mut [u8; MAX_EDGES],
 ) -> u64
-    requires { ⌜ (from ≤ to) × (to ≤ maxEdges) × (sum ≤ maxCharge * maxEdges) × (length (now w) ≡ maxEdges)
-        × ((i : ℕ) → i < to → (getD (now keys) i 0 % 256 < maxEdges) × (getD (now c) (getD (now keys) i 0 % 256) 0 ≤ maxCharge)) ⌝ }
-    ensures { λ r. ⌜ TwoOfPart (now (c .entry)) (now (keys .entry)) from to to (now (w .entry)) sum (now (w .exit)) r
-        × (length (now (w .exit)) ≡ maxEdges) × (r ≤ sum + maxCharge * (to - from)) ⌝ }
+    requires { ⌜ (f ≤ maxEdges) × (sum ≤ maxCharge * maxEdges) × (length (now w) ≡ maxEdges)
+        × ((i : ℕ) → i < f → (getD (now keys) i 0 % 256 < maxEdges) × (getD (now c) (getD (now keys) i 0 % 256) 0 ≤ maxCharge)) ⌝ }
+    ensures { λ r. ⌜ TwoTaken (now (c .entry)) (now (keys .entry)) f (now (w .entry)) sum (now (w .exit)) r
+        × (length (now (w .exit)) ≡ maxEdges) × (r ≤ sum + maxCharge * f) ⌝ }
 {
     let mut all = sum;
-    let mut i = from;
-    while i < to {
-        if i == from + 2 {
+    let mut i = 0;
+    while i < f {
+        if i == 2 {
             break;
         }
         let k = place(keys[i]);

@@ -18,7 +18,7 @@ mod sort;
 use graph::MAX_EDGES;
 use graph::MAX_VERTICES;
 use kruskal::Grown;
-use order::NEAR_KEYS;
+use order::FAR_KEYS;
 pub use refusals::ceiling_fits;
 pub use refusals::multipliers_fit;
 
@@ -79,8 +79,10 @@ pub(crate) fn find<'a>(
     let mut ks = [0u64; MAX_EDGES];
     let f = order::order(a, mark, m, c, hint, &mut ks);
     order::places(&ks, f, order);
-    let away = order::away(&ks, f);
-    let r = kruskal::reached(&ks, 0, away, 256);
+    let near = kruskal::reached(&ks, 0, f, FAR_KEYS);
+    let away = f - near;
+    let must = kruskal::reached(&ks, 0, near, 256);
+    let r = kruskal::reached(&ks, near, f, FAR_KEYS + 256) - near;
     let mut l = kruskal::labels();
     let none = Grown {
         next: 0,
@@ -89,12 +91,11 @@ pub(crate) fn find<'a>(
     };
     let enough = n - 2;
     // the required edges are all taken, however few connect the vertices
-    let first = kruskal::grow(a, b, c, &ks, r, MAX_EDGES, none, &mut l, w);
+    let first = kruskal::grow(a, b, c, &ks, near, r, MAX_EDGES, none, &mut l, w);
     *rep = l;
-    let t = kruskal::grow(a, b, c, &ks, away, enough, first, &mut l, w);
-    let must = kruskal::reached(&ks, away, f, NEAR_KEYS + 256) - away;
-    let sum = kruskal::take_two(c, &ks, away, f, t.sum, w);
-    let any = kruskal::whole(n, f - away, must, t.far, r, first.far);
+    let t = kruskal::grow(a, b, c, &ks, near, away, enough, first, &mut l, w);
+    let sum = kruskal::take_two(c, &ks, near, t.sum, w);
+    let any = kruskal::whole(n, near, must, t.far, r, first.far);
     let lowest = charges::bound(sum, n, charges::total(multipliers));
     let looked = t.next - r;
     let found = Found {

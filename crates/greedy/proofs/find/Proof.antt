@@ -19,13 +19,13 @@ use Rattle.tree_theory.specs.Inputs.{multiplier}
 use Rattle.tree_theory.specs.Looked.{Looked}
 use Rattle.greedy.specs.Charged.{maxCharge, highBound, lowBound, Charged}
 use Rattle.greedy.specs.Found.{FoundIs}
-use Rattle.greedy.specs.Keys.{nearAt, farAt, keyed-small, queued}
+use Rattle.greedy.specs.Keys.{farKeys, nearAt, farAt, keyed-small, queued}
 use Rattle.greedy.specs.Hinting.{keyed-hinted}
-use Rattle.greedy.specs.Parting.{unraised, raised-at, far-keyed, near-keyed, far-ascends, near-ascends, same-place}
+use Rattle.greedy.specs.Parting.{unraised, raised-at, SamePlaces, same-places, near-keyed, near-ascends, far-keyed, far-ascends}
 use Rattle.greedy.specs.Queue.{InKeyOrder}
 use Rattle.greedy.specs.Growth.{TakenGreedily}
 use Rattle.greedy.specs.ChoiceSoFar.{Joins, ChoiceSoFar, choice-none}
-use Rattle.greedy.specs.Required.{Small, far-small, near-small, merges}
+use Rattle.greedy.specs.Required.{Small, near-small, far-small, merges}
 use Rattle.greedy.specs.Kruskal.{Choice, found, missing, weighs, bit-at, past-none}
 use Rattle.greedy.specs.Stopping.{stopped, reads}
 use Rattle.greedy.specs.Charging.{Raised, chargeable, charged-of, bound-is}
@@ -47,16 +47,19 @@ from-order c = c .before .before .before
 abbrev from-places : tie.After-places → tie.After-order
 from-places c = c .before .before .before
 
-abbrev from-away : tie.After-away → tie.After-places
-from-away c = c .before .before
+abbrev from-near : tie.After-reached → tie.After-places
+from-near c = c .before .before
 
-abbrev from-reached : tie.After-reached → tie.After-away
-from-reached c = c .before .before
+abbrev from-must : tie.After-reached2 → tie.After-reached
+from-must c = c .before .before
+
+abbrev from-required : tie.After-reached3 → tie.After-reached2
+from-required c = c .before .before
 
 abbrev from-first-args : tie.After-grow-arg2 → tie.After-labels
 from-first-args c = let at-ks4 = c .before .before in at-ks4 .before .before
 
-abbrev from-first : tie.After-grow → tie.After-reached
+abbrev from-first : tie.After-grow → tie.After-reached3
 from-first c = from-first-args (c .before) .before
 
 abbrev from-grow-args : tie.After-grow-arg4 → tie.After-grow
@@ -65,53 +68,61 @@ from-grow-args c = let at-ks5 = c .before .before in at-ks5 .before .before
 abbrev from-grow : tie.After-grow2 → tie.After-grow
 from-grow c = from-grow-args (c .before)
 
-abbrev from-must : tie.After-reached2 → tie.After-grow2
-from-must c = c .before .before
-
-abbrev from-two-args : tie.After-take-two-arg2 → tie.After-reached2
+abbrev from-two-args : tie.After-take-two-arg2 → tie.After-grow2
 from-two-args c = c .before .before .before
 
-abbrev from-two : tie.After-take-two → tie.After-reached2
+abbrev from-two : tie.After-take-two → tie.After-grow2
 from-two c = from-two-args (c .before)
 
 -- where the order was parted, and where it was found
-abbrev parted : tie.After-grow → tie.After-away
-parted c = from-reached (from-first c)
+abbrev from-parts : tie.After-reached3 → tie.After-reached
+from-parts c = from-must (from-required c)
 
-abbrev parted2 : tie.After-grow2 → tie.After-away
+abbrev parted : tie.After-grow → tie.After-reached
+parted c = from-parts (from-first c)
+
+abbrev parted2 : tie.After-grow2 → tie.After-reached
 parted2 c = parted (from-grow c)
 
-abbrev ordered : tie.After-away → tie.After-order
-ordered c = from-places (from-away c)
+abbrev ordered : tie.After-reached → tie.After-order
+ordered c = from-places (from-near c)
 
 abbrev begun : tie.After-order → tie.Start
 begun c = from-charges (from-order c)
 
-abbrev start : tie.After-away → tie.Start
+abbrev start : tie.After-reached → tie.Start
 start c = begun (ordered c)
 
--- the charges, the keys and how many there are; of these how many are away from vertex 1, and the others
-abbrev charges : tie.After-away → List ℕ
+-- the charges, the keys and how many there are
+abbrev charges : tie.After-reached → List ℕ
 charges c = from-order (ordered c) .charges .last .1 .1 .1 .1 .1 .0
 
-abbrev keys : tie.After-away → List ℕ
+abbrev keys : tie.After-reached → List ℕ
 keys c = ordered c .order .last .1 .1 .1 .1 .1 .0
 
-abbrev all : tie.After-away → ℕ
+abbrev all : tie.After-reached → ℕ
 all c = ordered c .order .result
 
-abbrev far : tie.After-away → ℕ
-far c = c .away .result
+-- how many are of edges at vertex 1, how many of the others, and these by themselves
+abbrev near : tie.After-reached → ℕ
+near c = c .reached .result
 
-abbrev nears : tie.After-away → List ℕ
-nears c = unraised (keys c) (far c)
+abbrev far : tie.After-reached → ℕ
+far c = all c - near c
+
+abbrev fars : tie.After-reached → List ℕ
+fars c = unraised (keys c) (near c)
+
+-- of these so many are required
+abbrev required : tie.After-reached3 → ℕ
+required c = c .reached3 .result - near (from-parts c)
 
 -- what was taken away from vertex 1, and all that was taken
 abbrev joined : tie.After-grow2 → List ℕ
-joined c = c .grow2 .last .1 .1 .1 .1 .1 .1 .1 .1 .0
+joined c = c .grow2 .last .1 .1 .1 .1 .1 .1 .1 .1 .1 .0
 
 abbrev tree : tie.After-take-two → List ℕ
-tree c = c .take-two .last .1 .1 .1 .1 .1 .0
+tree c = c .take-two .last .1 .1 .1 .1 .0
 
 charges-requires : tie.Need-charges-requires
 charges-requires c κs =
@@ -130,48 +141,78 @@ few c = omega (arith, c .order .ensures .0 .few, begun c .pre .0 .few)
 places-requires : tie.Need-places-requires
 places-requires c κs = let o = c .before .before in (few o, begun o .pre .5)
 
-away-requires : tie.Need-away-requires
-away-requires c κs = few (from-places (c .before))
+reached-requires : tie.Need-reached-requires
+reached-requires c κs = (omega arith, few (from-places (c .before)))
 
-few-far : (c : tie.After-away) → far c ≤ 190
-few-far c = omega (arith, c .away .ensures .0, few (ordered c))
+sub-away : tie.Need-sub-away
+sub-away c = c .reached .ensures .1
+
+-- both kinds together are all
+fit : (c : tie.After-reached) → near c + far c ≤ 190
+fit c = omega (arith, c .reached .ensures .1, few (ordered c))
+
+reached-requires-2 : tie.Need-reached-requires-2
+reached-requires-2 c κs = (omega arith, omega (arith, fit (c .before)))
+
+add-reached : tie.Need-add-reached
+add-reached c = omega arith
+
+reached-requires-3 : tie.Need-reached-requires-3
+reached-requires-3 c κs = let o = from-must (c .before) in (o .reached .ensures .1, few (ordered o))
+
+sub-r : tie.Need-sub-r
+sub-r c = c .reached3 .ensures .0
 
 -- the orders of both kinds
-cheap : (c : tie.After-away) → (k : ℕ) → k < start c .args .m → getD (charges c) k 0 ≤ maxCharge
+cheap : (c : tie.After-reached) → (k : ℕ) → k < start c .args .m → getD (charges c) k 0 ≤ maxCharge
 cheap c k h = from-order (ordered c) .charges .ensures .0 k h .2
 
-small : (c : tie.After-away) → start c .args .m ≤ 256
+small : (c : tie.After-reached) → start c .args .m ≤ 256
 small c = omega (arith, start c .pre .0 .few)
 
-far-order : (c : tie.After-away) → InKeyOrder (lent (start c)) (farAt (start c .args .a .now)) (charges c) (keys c) (far c)
-far-order c =
+raised : (c : tie.After-reached) → (i : ℕ) → near c + i < all c → getD (keys c) (near c + i) 0 ≡ farKeys + getD (fars c) i 0
+raised c =
+    let a = start c .args in
     let o = ordered c .order .ensures in
-    record {
-      valid = start c .pre .0;
-      low = λ k h. from-order (ordered c) .charges .ensures .0 k h .1;
-      keyed = far-keyed _ _ (charges c) _ (keys c) (all c) (far c) (small c) (cheap c) (o .0) (o .1) (c .away .ensures);
-      ascending = far-ascends (start c .args .a .now) (start c .args .mark .now) (charges c) (start c .args .m) (keys c) (all c) (far c) (small c) (cheap c) (o .0) (o .1) (c .away .ensures);
-    }
+    raised-at (a .a .now) (a .mark .now) (charges c) (a .m) (keys c) (all c) (near c) (small c) (cheap c) (o .0) (o .1) (c .reached .ensures)
 
-near-order : (c : tie.After-away)
-    → InKeyOrder (lent (start c)) (nearAt (start c .args .a .now)) (charges c) (nears c) (all c - far c)
+same : (c : tie.After-reached) → SamePlaces (keys c) (near c) (far c)
+same c =
+    let a = start c .args in
+    let o = ordered c .order .ensures in
+    same-places (a .a .now) (a .mark .now) (charges c) (a .m) (keys c) (all c) (near c) (small c) (cheap c) (o .0) (o .1) (c .reached .ensures)
+
+near-order : (c : tie.After-reached) → InKeyOrder (lent (start c)) (nearAt (start c .args .a .now)) (charges c) (keys c) (near c)
 near-order c =
+    let a = start c .args in
     let o = ordered c .order .ensures in
     record {
       valid = start c .pre .0;
       low = λ k h. from-order (ordered c) .charges .ensures .0 k h .1;
-      keyed = near-keyed _ _ (charges c) _ (keys c) (all c) (far c) (small c) (cheap c) (o .0) (o .1) (c .away .ensures);
-      ascending = near-ascends (start c .args .a .now) (start c .args .mark .now) (charges c) (start c .args .m) (keys c) (all c) (far c) (small c) (cheap c) (o .0) (o .1) (c .away .ensures);
+      keyed = near-keyed (a .a .now) (a .mark .now) (charges c) (a .m) (keys c) (all c) (near c) (small c) (cheap c) (o .0) (o .1)
+          (c .reached .ensures);
+      ascending = near-ascends (a .a .now) (a .mark .now) (charges c) (a .m) (keys c) (all c) (near c) (small c) (cheap c) (o .0) (o .1)
+          (c .reached .ensures);
     }
 
-reached-requires : tie.Need-reached-requires
-reached-requires c κs = (omega arith, few-far (c .before))
+far-order : (c : tie.After-reached) → InKeyOrder (lent (start c)) (farAt (start c .args .a .now)) (charges c) (fars c) (far c)
+far-order c =
+    let a = start c .args in
+    let o = ordered c .order .ensures in
+    record {
+      valid = start c .pre .0;
+      low = λ k h. from-order (ordered c) .charges .ensures .0 k h .1;
+      keyed = far-keyed (a .a .now) (a .mark .now) (charges c) (a .m) (keys c) (all c) (near c) (small c) (cheap c) (o .0) (o .1)
+          (c .reached .ensures);
+      ascending = far-ascends (a .a .now) (a .mark .now) (charges c) (a .m) (keys c) (all c) (near c) (small c) (cheap c) (o .0) (o .1)
+          (c .reached .ensures);
+    }
 
 labels-requires : tie.Need-labels-requires
 labels-requires c κs = tt
 
 -- an edge that is looked at is one of the graph's
-edge : (c : tie.After-away) → let a = start c .args in
+edge : (c : tie.After-reached) → let a = start c .args in
     (i : ℕ) → i < all c → Joins (a .a .now) (a .b .now) (charges c) (getD (keys c) i 0 % 256)
 edge c i h =
     let v = start c .pre .0 in
@@ -183,77 +224,81 @@ edge c i h =
       cheap c _ k,
     )
 
--- how many are required of those away from vertex 1
-must : (c : tie.After-reached) → Small (keys (from-reached c)) (far (from-reached c)) (c .reached .result)
-must c = far-small (keys (from-reached c)) (far (from-reached c)) (c .reached .result) (c .reached .ensures)
+far-edge : (c : tie.After-reached) → let a = start c .args in
+    (i : ℕ) → i < far c → Joins (a .a .now) (a .b .now) (charges c) (getD (fars c) i 0 % 256)
+far-edge c i h =
+    let a = start c .args in
+    subst (λ (k : ℕ). Joins (a .a .now) (a .b .now) (charges c) k) (same c i h) (edge c (near c + i) (omega arith))
+
+-- how many are required of either kind
+must : (c : tie.After-reached2) → Small (keys (from-must c)) (near (from-must c)) (c .reached2 .result)
+must c = near-small (keys (from-must c)) (near (from-must c)) (c .reached2 .result) (c .reached2 .ensures)
+
+far-must : (c : tie.After-reached3) → Small (fars (from-parts c)) (far (from-parts c)) (required c)
+far-must c =
+    let o = from-parts c in
+    far-small (keys o) (fars o) (near o) (all o) (c .reached3 .result) (raised o) (c .reached3 .ensures)
 
 sub-enough : tie.Need-sub-enough
-sub-enough c = omega (arith, start (from-reached (c .before)) .pre .0 .low)
+sub-enough c = omega (arith, start (from-parts (c .before)) .pre .0 .low)
 
 grow-requires : tie.Need-grow-requires
 grow-requires c κs =
     let l = from-first-args c in
-    let o = from-reached (l .before) in
+    let o = from-parts (l .before) in
     let p = start o .pre in
-    let r = must (l .before) .0 in (
+    let r = far-must (l .before) .0 in (
       omega arith,
-      omega (arith, r, few-far o),
-      λ i h. edge o i (omega (arith, r, o .away .ensures .0)),
+      omega (arith, r, fit o),
+      λ i h. same o i (omega (arith, r)),
+      λ i h. far-edge o i (omega (arith, r)),
       λ G q. choice-none G _ _ _ _ (l .labels .ensures .0) (l .labels .ensures .1) (ap length (p .3)) (rw (p .3) (zeros 190)),
     )
 
 -- the labels, the set and the counts after the loop over the required edges
 looped : (c : tie.After-grow) → let o = parted c in let r = c .grow .result in
-    ChoiceSoFar (network (lent (start o))) (charges o) (keys o) (r .next)
-    (c .grow .last .1 .1 .1 .1 .1 .1 .1 .0) (c .grow .last .1 .1 .1 .1 .1 .1 .1 .1 .0) (r .far) (r .sum)
+    ChoiceSoFar (network (lent (start o))) (charges o) (fars o) (r .next)
+    (c .grow .last .1 .1 .1 .1 .1 .1 .1 .1 .0) (c .grow .last .1 .1 .1 .1 .1 .1 .1 .1 .1 .0) (r .far) (r .sum)
 looped c =
     c .grow .ensures .0 _
-    (λ i h. reads _ _ _ _ _ (far-order (parted c)) i (omega (arith, must (from-first c) .0)))
+    (λ i h. reads _ _ _ _ _ (far-order (parted c)) i (omega (arith, far-must (from-first c) .0)))
 
 -- it looks at all of them
-all-required : (c : tie.After-grow) → c .grow .result .next ≡ from-first c .reached .result
-all-required c = at (decLe (suc (c .grow .result .next)) (from-first c .reached .result))
+all-required : (c : tie.After-grow) → c .grow .result .next ≡ required (from-first c)
+all-required c = at (decLe (suc (c .grow .result .next)) (required (from-first c)))
   where
-    at : Dec (c .grow .result .next < from-first c .reached .result) → c .grow .result .next ≡ from-first c .reached .result
+    at : Dec (c .grow .result .next < required (from-first c)) → c .grow .result .next ≡ required (from-first c)
     at (no h) = omega (arith, c .grow .ensures .3)
-    at (yes h) = absurd (omega (arith, c .grow .ensures .4 h, looped c .less, must (from-first c) .0, few-far (parted c)))
+    at (yes h) = absurd (omega (arith, c .grow .ensures .4 h, looped c .less, far-must (from-first c) .0, fit (parted c)))
 
 first : (c : tie.After-grow) → let o = parted c in let r = c .grow .result in
-    ChoiceSoFar (network (lent (start o))) (charges o) (keys o) (from-first c .reached .result)
-    (c .grow .last .1 .1 .1 .1 .1 .1 .1 .0) (c .grow .last .1 .1 .1 .1 .1 .1 .1 .1 .0) (r .far) (r .sum)
+    ChoiceSoFar (network (lent (start o))) (charges o) (fars o) (required (from-first c))
+    (c .grow .last .1 .1 .1 .1 .1 .1 .1 .1 .0) (c .grow .last .1 .1 .1 .1 .1 .1 .1 .1 .1 .0) (r .far) (r .sum)
 first c =
     let o = parted c in
     let r = c .grow .result in
     subst
-    (λ (i : ℕ). ChoiceSoFar (network (lent (start o))) (charges o) (keys o) i
-    (c .grow .last .1 .1 .1 .1 .1 .1 .1 .0) (c .grow .last .1 .1 .1 .1 .1 .1 .1 .1 .0) (r .far) (r .sum))
+    (λ (i : ℕ). ChoiceSoFar (network (lent (start o))) (charges o) (fars o) i
+    (c .grow .last .1 .1 .1 .1 .1 .1 .1 .1 .0) (c .grow .last .1 .1 .1 .1 .1 .1 .1 .1 .1 .0) (r .far) (r .sum))
     (all-required c) (looped c)
 
 grow-requires-2 : tie.Need-grow-requires-2
 grow-requires-2 c κs =
     let t = from-grow-args c in
     let o = parted t in
-    let r = must (from-first t) .0 in (
+    let r = far-must (from-first t) .0 in (
       omega (arith, all-required t, r),
-      few-far o,
-      λ i h. edge o i (omega (arith, o .away .ensures .0)),
+      fit o,
+      same o,
+      far-edge o,
       λ G q. t .grow .ensures .0 G (λ i h. q i (omega (arith, r))),
     )
 
 -- after the loop over the free ones
 last : (c : tie.After-grow2) → let o = parted2 c in let r = c .grow2 .result in
-    ChoiceSoFar (network (lent (start o))) (charges o) (keys o) (r .next)
-    (c .grow2 .last .1 .1 .1 .1 .1 .1 .1 .0) (joined c) (r .far) (r .sum)
+    ChoiceSoFar (network (lent (start o))) (charges o) (fars o) (r .next)
+    (c .grow2 .last .1 .1 .1 .1 .1 .1 .1 .1 .0) (joined c) (r .far) (r .sum)
 last c = c .grow2 .ensures .0 _ (reads _ _ _ _ _ (far-order (parted2 c)))
-
-add-reached : tie.Need-add-reached
-add-reached c = omega arith
-
-reached-requires-2 : tie.Need-reached-requires-2
-reached-requires-2 c κs = let o = parted2 (c .before) in (o .away .ensures .0, few (ordered o))
-
-sub-must : tie.Need-sub-must
-sub-must c = c .reached2 .ensures .0
 
 -- what the edges away from vertex 1 weigh at most
 light : (c : tie.After-grow2) → c .grow2 .result .sum ≤ maxCharge * far (parted2 c)
@@ -261,26 +306,22 @@ light c = omega (arith, last c .light, c .grow2 .ensures .3)
 
 take-two-requires : tie.Need-take-two-requires
 take-two-requires c κs =
-    let t = from-must (from-two-args c) in
+    let t = from-two-args c in
     let o = parted2 t in (
-      o .away .ensures .0,
-      few (ordered o),
-      omega (arith, light t, few-far o),
+      omega (arith, fit o),
+      omega (arith, light t, fit o),
       last t .wide,
-      λ i h. let e = edge o i h in (e .0, e .3),
+      λ i h. let e = edge o i (omega (arith, o .reached .ensures .1)) in (e .0, e .3),
     )
-
-sub-whole : tie.Need-sub-whole
-sub-whole c = parted2 (from-must (from-two c)) .away .ensures .0
 
 whole-requires : tie.Need-whole-requires
 whole-requires c κs =
-    let t = from-must (from-two c) in
-    omega (arith, last t .less, t .grow2 .ensures .3, few-far (parted2 t))
+    let t = from-two c in
+    omega (arith, last t .less, t .grow2 .ensures .3, fit (parted2 t))
 
 -- where the order was found, from further on
 abbrev grown : tie.After-whole → tie.After-grow2
-grown c = from-must (from-two (c .before))
+grown c = from-two (c .before)
 
 total-requires : tie.Need-total-requires
 total-requires c κs = let p = start (parted2 (grown c)) .pre in (p .1, omega (arith, p .2, p .0 .high))
@@ -290,7 +331,7 @@ heavy : (c : tie.After-whole) → c .before .take-two .result ≤ maxCharge * ma
 heavy c =
     let t = grown c in
     let o = parted2 t in
-    omega (arith, light t, c .before .take-two .ensures .2, few (ordered o), o .away .ensures .0)
+    omega (arith, light t, c .before .take-two .ensures .2, fit o)
 
 bound-requires : tie.Need-bound-requires
 bound-requires c κs =
@@ -305,60 +346,50 @@ range c =
     (omega (arith, d .0, heavy s), omega (arith, d .1, c .before .total .ensures .1, p .2, p .0 .high))
 
 -- the required edges were passed
-passed : (c : tie.After-grow2) → from-first (from-grow c) .reached .result ≤ c .grow2 .result .next
+passed : (c : tie.After-grow2) → required (from-first (from-grow c)) ≤ c .grow2 .result .next
 passed c = omega (arith, c .grow2 .ensures .2, all-required (from-grow c))
 
 sub-looked : tie.Need-sub-looked
 sub-looked c = let at-bound = c .before in omega (arith, passed (grown (at-bound .before .before)))
 
 -- what the greedy choice took: an end before the last edge changes nothing
-taken : (c : tie.After-take-two) → let t = from-must (from-two c) in let o = parted2 t in
-    TakenGreedily (network (lent (start o))) (charges o) (queued (nears o) (all o - far o)) (queued (keys o) (far o))
+taken : (c : tie.After-take-two) → let t = from-two c in let o = parted2 t in
+    TakenGreedily (network (lent (start o))) (charges o) (queued (keys o) (near o)) (queued (fars o) (far o))
     (tree c) (t .grow2 .result .far) (c .take-two .result)
 taken c =
-    let t = from-must (from-two c) in
+    let t = from-two c in
     let o = parted2 t in
     let e = t .grow2 .ensures in
-    let y = ordered o .order .ensures in
-    c .take-two .ensures .0 (nears o)
-    (same-place (start o .args .a .now) (start o .args .mark .now) (charges o) (start o .args .m) (keys o) (all o) (far o) (small o) (cheap o) (y .0) (y .1) (o .away .ensures)) _ _ _
-    (stopped (lent (start o)) (charges o) (keys o) (far o) (far-order o) (t .grow2 .result .next) (e .3) [] (joined t)
+    c .take-two .ensures .0 _ _ _
+    (stopped (lent (start o)) (charges o) (fars o) (far o) (far-order o) (t .grow2 .result .next) (e .3) [] (joined t)
     (t .grow2 .result .far) (t .grow2 .result .sum) (λ h. omega (arith, e .4 h)) (last t .grew))
 
--- how many are required of those at vertex 1
-near-must : (c : tie.After-reached2) → let o = parted2 (from-must c) in Small (nears o) (all o - far o) (c .reached2 .result - far o)
-near-must c =
-    let o = parted2 (from-must c) in
-    let y = ordered o .order .ensures in
-    near-small (keys o) (nears o) (far o) (all o) (c .reached2 .result)
-    (raised-at (start o .args .a .now) (start o .args .mark .now) (charges o) (start o .args .m) (keys o) (all o) (far o) (small o) (cheap o) (y .0) (y .1) (o .away .ensures))
-    (c .reached2 .ensures)
-
-abbrev made : (c : tie.After-take-two) → Choice (lent (start (parted2 (from-must (from-two c)))))
+abbrev made : (c : tie.After-take-two) → Choice (lent (start (parted2 (from-two c))))
 made c =
-    let t = from-must (from-two c) in
+    let t = from-two c in
     let one = from-grow t in
-    let at = parted one in record {
+    let at = parted one in
+    let parts = from-first one in record {
       charges = charges at;
-      keys = keys at;
+      keys = fars at;
       count = far at;
       order = far-order at;
-      nearKeys = nears at;
-      nearCount = all at - far at;
+      nearKeys = keys at;
+      nearCount = near at;
       nearOrder = near-order at;
       tree = tree c;
       far = t .grow2 .result .far;
       sum = c .take-two .result;
       all = taken c;
-      required = from-first one .reached .result;
-      small = must (from-first one);
+      required = required parts;
+      small = far-must parts;
       joined = one .grow .result .far;
       first = first one .grew .joined;
-      must = from-two c .reached2 .result - far at;
-      nearSmall = near-must (from-two c);
+      must = from-required parts .reached2 .result;
+      nearSmall = must (from-required parts);
     }
 
-charged : (c : tie.After-away) → Charged (lent (start c)) (start c .args .multipliers .now) (charges c)
+charged : (c : tie.After-reached) → Charged (lent (start c)) (start c .args .multipliers .now) (charges c)
 charged c = charged-of (lent (start c)) (start c .args .multipliers .now) (charges c) (from-order (ordered c) .charges .ensures .0)
 
 -- and so what was found
@@ -393,7 +424,7 @@ is c =
 -- at how many free edges the loop looked
 looks : (c : tie.After-grow2) → let o = parted2 c in
     Looked (network (lent (start o))) (multiplier (start o .args .multipliers .now))
-    (c .grow2 .result .next - from-first (from-grow c) .reached .result)
+    (c .grow2 .result .next - required (from-first (from-grow c)))
 looks c =
     let one = from-grow c in
     let o = parted one in
@@ -401,7 +432,7 @@ looks c =
     let e = all-required one in
     subst (λ (x : ℕ). Looked (network (lent (start o))) (multiplier (a .multipliers .now)) (c .grow2 .result .next - x)) e
     (c .grow2 .ensures .1 (a .n) (a .m) (a .cost .now) (a .mark .now) (a .multipliers .now) (far-order o)
-    (subst (λ (x : ℕ). Small (keys o) (far o) x) (sym e) (must (from-first one))) (charged o)
+    (subst (λ (x : ℕ). Small (fars o) (far o) x) (sym e) (far-must (from-first one))) (charged o)
     (omega (arith, start o .pre .0 .low)))
 
 returns : tie.Need-returns
@@ -413,14 +444,14 @@ returns c =
     let at = parted one in
     let begin = start at in
     let charges-are = from-order (ordered at) .charges .ensures in
-    let places = from-away at .places in
+    let places = from-near at .places in
     rw (back64 (at-bound .bound .result) (at-bound .bound .ok)) (
       record {
         faultless = refl;
         found = is at-bound;
         long = (s .before .take-two .ensures .1, charges-are .2);
         rest = λ k h. charges-are .1 k h ∙ rw (begin .pre .4) (zeros 190 k);
-        merges = merges (lent begin) (charges at) (keys at) (far at) (far-order at) (from-first one .reached .result) (must (from-first one)) _
+        merges = merges (lent begin) (charges at) (fars at) (far at) (far-order at) (required (from-first one)) (far-must (from-first one)) _
             (first one .long) (first one .holds);
         hinted = keyed-hinted (begin .args .a .now) (begin .args .mark .now) (charges at) (begin .args .m) (keys at) (all at)
             (places .last .1 .1 .0) (begin .pre .0 .few) (ordered at .order .ensures .0) (places .ensures .0) (places .ensures .1);
@@ -435,17 +466,17 @@ find-spec =
     charges-requires
     order-requires
     places-requires
-    away-requires
     reached-requires
+    sub-away
+    reached-requires-2
+    add-reached
+    reached-requires-3
+    sub-r
     labels-requires
     sub-enough
     grow-requires
     grow-requires-2
-    add-reached
-    reached-requires-2
-    sub-must
     take-two-requires
-    sub-whole
     whole-requires
     total-requires
     bound-requires

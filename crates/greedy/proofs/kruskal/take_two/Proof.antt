@@ -1,4 +1,4 @@
--- The loop keeps `TwoOfPart`, of the keys before place i; past the second the others are left (part-spare).
+-- The loop keeps `TwoTaken`, of the keys before i; past the second the others are left (two-spare).
 use Prim.Native.Nat.{ℕ, _≤_, _<_, _-_, _+_, _*_, _%_}
 use mathlib.Core.Path.{_≡_, sym, _∙_, subst}
 use lib.ListN.{length, getD, length-set}
@@ -7,7 +7,7 @@ use native.Mathlib.Omega.{arith}
 use Rattle.graph.specs.Limits.{maxEdges}
 use Rattle.greedy.specs.Charged.{maxCharge}
 use Rattle.greedy.specs.Fits.{sum-fits}
-use Rattle.greedy.specs.ChoiceSoFar.{TwoOfPart, part-none, part-more, part-spare}
+use Rattle.greedy.specs.ChoiceSoFar.{TwoTaken, two-none, two-more, two-spare}
 use Rattle.greedy.proofs.kruskal.take_two.Statement.{statement}
 use Rattle.greedy.proofs.kruskal.take_two.Tie as tie
 use Rattle.greedy.proofs.kruskal.take_two.Reads as reads
@@ -15,13 +15,13 @@ use Rattle.greedy.proofs.kruskal.take_two.Lts as lts
 use Rattle.greedy.proofs.order.place.Reads as place-reads
 
 abbrev Inv-loop : tie.InvT-loop
-Inv-loop c keys from to sum w₀ all₀ i₀ w all i =
-    (from ≤ i) × (i ≤ to) × (i ≤ from + 2) × (to ≤ 190) × (sum ≤ maxCharge * maxEdges) × (length w ≡ maxEdges)
-    × ((j : ℕ) → j < to → (getD keys j 0 % 256 < maxEdges) × (getD c (getD keys j 0 % 256) 0 ≤ maxCharge))
-    × (all ≤ sum + maxCharge * (i - from)) × TwoOfPart c keys from to i w₀ sum w all
+Inv-loop c keys f sum w₀ all₀ i₀ w all i =
+    (i ≤ f) × (i ≤ 2) × (f ≤ 190) × (sum ≤ maxCharge * maxEdges) × (length w ≡ maxEdges)
+    × ((j : ℕ) → j < f → (getD keys j 0 % 256 < maxEdges) × (getD c (getD keys j 0 % 256) 0 ≤ maxCharge))
+    × (all ≤ sum + maxCharge * i) × TwoTaken c keys i w₀ sum w all
 
 abbrev μ-loop : tie.MeasureT-loop
-μ-loop c keys from to sum w₀ all₀ i₀ w all i = to - i
+μ-loop c keys f sum w₀ all₀ i₀ w all i = f - i
 
 abbrev at-loop : tie.After-place Inv-loop μ-loop → tie.At-loop Inv-loop μ-loop
 at-loop c = let at-loop-test = c .before .before .before in at-loop-test .before
@@ -33,15 +33,10 @@ edge : (c : tie.After-place Inv-loop μ-loop)
 edge c =
     let l = at-loop c .loop in
     let s = at-loop c .before .args in
-    subst (λ (k : ℕ). (k < maxEdges) × (getD (s .c .now) k 0 ≤ maxCharge)) (sym (c .place .ensures)) (l .inv .6 (l .i) (omega arith))
+    subst (λ (k : ℕ). (k < maxEdges) × (getD (s .c .now) k 0 ≤ maxCharge)) (sym (c .place .ensures)) (l .inv .5 (l .i) (omega arith))
 
 loop-holds : tie.Need-loop-holds Inv-loop μ-loop
-loop-holds c =
-    let p = c .pre in
-    (omega arith, p .0, omega arith, p .1, p .2, p .3, p .4, omega arith, part-none _ (c .args .keys .now) _ (c .args .to) _ _)
-
-add-if1 : tie.Need-add-if1 Inv-loop μ-loop
-add-if1 c = search needs
+loop-holds c = (omega arith, omega arith, c .pre .0, c .pre .1, c .pre .2, c .pre .3, omega arith, two-none _ _ _ _)
 
 mul-place : tie.Need-mul-place Inv-loop μ-loop
 mul-place c = search needs
@@ -65,7 +60,7 @@ add-all : tie.Need-add-all Inv-loop μ-loop
 add-all c =
     let at = c .before in
     let l = at-loop at .loop in
-    omega (arith, sum-fits (l .all) _ (maxEdges + 2) (omega (arith, l .inv .2, l .inv .4, l .inv .7)) (edge at .1) (omega arith))
+    omega (arith, sum-fits (l .all) _ (maxEdges + 2) (omega (arith, l .inv .1, l .inv .3, l .inv .6)) (edge at .1) (omega arith))
 
 add-i : tie.Need-add-i Inv-loop μ-loop
 add-i c = search needs
@@ -78,38 +73,36 @@ loop-again c =
     let at = c .before in
     let l = at-loop at .loop in
     let s = at-loop at .before .args in
-    let k = at .place .result in
-    let first : l .i < s .from + 2 = omega (arith, l .inv .2, at .before .before .if1 .left) in (
-      omega (arith, l .inv .0),
+    let k = at .place .result in (
       omega arith,
-      omega arith,
+      omega (arith, l .inv .1, at .before .before .if1 .left),
+      l .inv .2,
       l .inv .3,
-      l .inv .4,
-      length-set (l .w) k 1 ∙ l .inv .5,
-      l .inv .6,
-      omega (arith, edge at .1, l .inv .7, l .inv .0),
-      part-more (s .c .now) (s .keys .now) (s .from) (s .to) (l .i) (s .w .now) (s .sum) (l .w) (l .all) (l .inv .8) (l .inv .0) k
-          (at .place .ensures) (omega (arith, edge at .0, l .inv .5)) (omega arith) first,
+      length-set (l .w) k 1 ∙ l .inv .4,
+      l .inv .5,
+      omega (arith, edge at .1, l .inv .6),
+      two-more (s .c .now) (s .keys .now) (l .i) (s .w .now) (s .sum) (l .w) (l .all) (l .inv .7) k (at .place .ensures)
+          (omega (arith, edge at .0, l .inv .4)) (omega (arith, l .inv .1, at .before .before .if1 .left)),
     )
 
 returns : tie.Need-returns Inv-loop μ-loop
 returns c =
     let l = c .before .loop in
     let s = c .before .before .args in
-    let e : l .i ≡ s .to = omega (arith, l .inv .1) in (
-      subst (λ (i : ℕ). TwoOfPart (s .c .now) (s .keys .now) (s .from) (s .to) i (s .w .now) (s .sum) (l .w) (l .all)) e (l .inv .8),
-      l .inv .5,
-      omega (arith, l .inv .7, l .inv .1),
+    let e : l .i ≡ s .f = omega arith in (
+      subst (λ (i : ℕ). TwoTaken (s .c .now) (s .keys .now) i (s .w .now) (s .sum) (l .w) (l .all)) e (l .inv .7),
+      l .inv .4,
+      omega (arith, l .inv .6),
     )
 
 returns-2 : tie.Need-returns-2 Inv-loop μ-loop
 returns-2 c =
     let l = c .before .before .loop in
     let s = c .before .before .before .args in (
-      part-spare (s .c .now) (s .keys .now) (s .from) (s .to) (l .i) (s .w .now) (s .sum) (l .w) (l .all) (l .inv .8) (l .inv .0) (l .inv .1)
+      two-spare (s .c .now) (s .keys .now) (l .i) (s .w .now) (s .sum) (l .w) (l .all) (l .inv .7) (s .f) (l .inv .0)
           (omega (arith, c .if1 .taken)),
-      l .inv .5,
-      omega (arith, l .inv .7, l .inv .1),
+      l .inv .4,
+      omega (arith, l .inv .6, l .inv .0),
     )
 
 pub take-two-spec : {M : Type 1} → statement M
@@ -119,7 +112,6 @@ take-two-spec =
     Inv-loop
     μ-loop
     loop-holds
-    add-if1
     mul-place
     element-copy-out-place
     place-requires

@@ -44,8 +44,9 @@ more keys from least i below here j h l = go (ℕ-discrete j i)
 
 loop-again : tie.Need-loop-again Inv-loop μ-loop
 loop-again c =
-    let l = c .before .before .before .loop in
-    let s = c .before .before .before .before .args in
+    let at-loop = c .before .before .before in
+    let l = at-loop .loop in
+    let s = at-loop .before .args in
     (omega arith, omega arith, l .inv .2, more (s .keys .now) (s .from) (s .least) (l .i) (l .inv .3) (omega arith))
 
 returns-2 : tie.Need-returns-2 Inv-loop μ-loop

@@ -2,6 +2,7 @@
 -- nodes, 0 where the answer has none. Definitions only.
 use mathlib.Core.Path.{_≡_}
 use mathlib.Core.Bool.{cond}
+use mathlib.Core.List.{List}
 use Prim.Native.Nat.{ℕ}
 use lib.IntN.{ℤ, pos}
 use Rattle.graph.specs.declared.Graph.{Graph}
@@ -9,6 +10,7 @@ use Rattle.graph.specs.Valid.{valid}
 use Rattle.charts.specs.Answers.{Outcome, accepted, refused}
 use Rattle.charts.specs.Chart.{ReadResult}
 use Rattle.onetree.specs.Answers as one
+use Rattle.recent.specs.Answers as recent
 use Rattle.search.specs.declared.Answer.{Answer}
 use Rattle.search.specs.declared.Answer.the-variants.{Refused, Accepted, GoingOn, Finished, Searching, NoTour, Best}
 use Rattle.ffi.specs.declared.Said.{Said}
@@ -38,6 +40,18 @@ filledBy g r = filled g (r .graph) (r .outcome)
 
 abbrev pub Fills : Graph → ReadResult → Said → Graph → Type 0
 Fills g r said after = (said ≡ filledBy g r .said) × (after ≡ filledBy g r .graph)
+
+-- the lent graph with the costs that a log makes: where the log is refused the graph is as it was
+unfoldable pub saidRecent : recent.Reply → Said
+saidRecent recent.made = plain 0 0
+saidRecent (recent.refused number place) = plain number place
+
+abbrev pub recentFilled : Graph → ℕ → List ℕ → List ℤ → Filled
+recentFilled g w edges times =
+    record { graph = recent.recentLeaves g w edges times; said = saidRecent (recent.recentReply g w edges times) }
+
+abbrev pub RecentFills : Graph → ℕ → List ℕ → List ℤ → Said → Graph → Type 0
+RecentFills g w edges times said after = (said ≡ recentFilled g w edges times .said) × (after ≡ recentFilled g w edges times .graph)
 
 -- ---- the tree call and the rule call: the value is the bound
 

@@ -1,9 +1,19 @@
 -- DEMAND 3 HOLDS OF THE EXPORTED CALLS: the calls of crate search follow the machine, however their answers are said. Assumes nothing.
 use Rattle.machine.specs.Demand3.{Demand3}
 use Rattle.machine.specs.Following.{follows-demand-3}
-use Rattle.search.specs.Theorem.{calls-follow}
 use Rattle.ffi.specs.Answers.{saidOf}
 use Rattle.ffi.specs.Demand3.{exported}
+use Rattle.recent_theorems.specs.Recent.{Searched}
+use Rattle.recent_theorems.specs.Theorems.{searched}
+use Rattle.search.specs.Demand3.{calls}
+use Rattle.search.specs.Theorem.{calls-follow, demand-3}
 
 pub demand-3-exported : Demand3 exported
 demand-3-exported = follows-demand-3 exported (calls-follow saidOf)
+
+-- document 02's "Hunts are then about the chart so made.", of the exported calls and of crate search's
+pub recent-exported : Searched exported
+recent-exported = searched exported demand-3-exported
+
+pub recent-calls : Searched calls
+recent-calls = searched calls demand-3

@@ -6,6 +6,7 @@ ghost use lib.ListN.{length};
 ghost use Rattle.charts.specs.Chart.{reading, writeOutcome, writeLeaves};
 ghost use Rattle.ffi.specs.Answers.{plain, saidOutcome, checkOutcome, filledBy, Fills};
 
+mod logs;
 mod searches;
 mod trees;
 
@@ -34,7 +35,7 @@ pub struct Said {
     pub nodes: u64,
 }
 
-// A lent graph as reading leaves it, and the answer.
+// A lent graph as a call leaves it, and the answer.
 pub(crate) struct Filled {
     pub graph: Graph,
     pub said: Said,

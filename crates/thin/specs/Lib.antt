@@ -6,3 +6,4 @@ pub mod Number
 pub mod Bytes
 pub mod List
 pub mod Opening
+pub mod Log

@@ -11,8 +11,9 @@
  * before.
  * Other calls: 15 a graph that breaks the rules, those of costs as in 9; 11 a list of wrong length; 12 a multiplier not -1,000,000 to 1,000,000,
  * or the first not 0; 13 ceiling not -5,000,000,000 to 5,000,000,000; 14 sweeps not 0 to 15, or step not 0 to 10,000; 30 a preview of no edge,
- * or of a mark that is not 1 or 2; 31 of an edge that is not free. Of a record: 24 it fails its check; 20 no search is open; 21 one is open;
- * 22 show while going on; 23 show after 'none'.
+ * or of a mark that is not 1 or 2; 31 of an edge that is not free; 38 a window that is not 1 to 32; 39 a log entry that names no edge or a time
+ * that is no cost as in 9, with its place from 1. Of a record: 24 it fails its check; 20 no search is open; 21 one is open; 22 show while going
+ * on; 23 show after 'none'.
  */
 #ifndef PLANNER_H
 #define PLANNER_H
@@ -28,6 +29,7 @@ enum {
     PLANNER_VERTICES = 20,   /* at most */
     PLANNER_EDGES = 190,     /* at most */
     PLANNER_NODES = 22,      /* a search has at most n + 2 nodes waiting */
+    PLANNER_WINDOW = 32,     /* at most */
     PLANNER_NONE = 1000,     /* tree, preview: no tree; rule: no 1-tree is within the ceiling */
     PLANNER_GOING_ON = 1001, /* run, tell */
     PLANNER_FINISHED = 1002, /* run */
@@ -91,6 +93,11 @@ planner_said planner_preview(planner_graph g, const int32_t *multipliers, size_t
  * PLANNER_NONE, which leaves out as it was; 15, 11, 12 or 13. */
 planner_said planner_rule(planner_graph g, const int32_t *multipliers, size_t multipliers_length, int64_t ceiling, uint8_t *out,
                           size_t length);
+
+/* Each edge's cost becomes the greatest of its last w times (1 to PLANNER_WINDOW) in a log, entry i of which is edges[i] (1 to m) with times[i]; an
+ * edge with fewer times uses those it has, one with none keeps its cost. Nothing else in *g changes; 0, or 15, 11, 38, or 39 with the place of the
+ * first entry that is refused, from 1. */
+planner_said planner_recent(planner_graph *g, size_t w, const size_t *edges, size_t edges_length, const int32_t *times, size_t times_length);
 
 /* A fresh record. */
 planner_search planner_fresh(void);

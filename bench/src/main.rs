@@ -14,6 +14,7 @@ mod measure;
 mod optimum;
 mod ours;
 mod planner;
+mod recent;
 mod table;
 
 use lines::Options;
@@ -71,5 +72,8 @@ fn main() {
     let mut tables = lines::searches(&options);
     tables.extend(lines::calls(&options));
     tables.extend(optimum::lines(&options));
+    if ours {
+        recent::lines(&options);
+    }
     table::print_summary(&tables);
 }

@@ -10,7 +10,7 @@ what is wrong with a text file is the exception Faults, a line a fault.
 from __future__ import annotations
 
 import os
-from collections.abc import Sequence
+from collections.abc import Iterable, Sequence
 
 from . import ceilings as _ceilings
 from . import library as _library
@@ -49,6 +49,15 @@ def rule(chart: Chart, ceiling: int, multipliers: Sequence[int] | None = None) -
     return _library.rule(graph_of(chart), ceiling, multipliers)
 
 
+def recent_costs(chart: Chart, last: int, log: Iterable[tuple[int, int]]) -> Graph:
+    """The sea in which each leg costs the greatest of its last so many times (1 to 32) in a log of (leg, time) entries, the oldest first.
+
+    A leg with fewer entries uses those it has, one with none keeps its cost.
+    """
+    entries = list(log)
+    return _library.recent_costs(graph_of(chart), last, [edge for edge, _ in entries], [time for _, time in entries])
+
+
 def falling(chart: Chart, high: int, low: int, multipliers: Sequence[int] | None = None) -> Falling | None:
     """Which rulings appear where the ceiling falls from `high` to `low`; None where the sea is dead at `high`."""
     return _ceilings.falling(graph_of(chart), high, low, multipliers)
@@ -57,5 +66,5 @@ def falling(chart: Chart, high: int, low: int, multipliers: Sequence[int] | None
 __all__ = [
     "EXCLUDED", "FREE", "MARKS", "REQUIRED", "RULINGS",
     "Answer", "Edge", "Falling", "Faults", "Graph", "Ran", "Refused", "Rulings", "Search", "Told", "Tree",
-    "check", "falling", "graph_of", "load", "order", "parse", "preview", "read", "rule", "save", "solve", "tree", "write",
+    "check", "falling", "graph_of", "load", "order", "parse", "preview", "read", "recent_costs", "rule", "save", "solve", "tree", "write",
 ]  # fmt: skip

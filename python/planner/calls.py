@@ -1,7 +1,7 @@
 """A script of calls, one answer a line: what a line says is sent to the library as it is, and the library judges it.
 
 One search record serves the whole script. Settings print nothing: the current chart ('sea', 'chart'), the dues, the length of the next list
-that is lent ('list'). Calls print one line: tree, preview, rule, open, run, tell, show, close.
+that is lent ('list'). Calls print one line: tree, preview, rule, recent, open, run, tell, show, close.
 """
 from __future__ import annotations
 
@@ -12,15 +12,18 @@ from typing import IO
 from .faults import Faults, shown, whole_number
 from .formats import LONGEST, load
 from .library import (
-    BYTE, EXCLUDED, FREE, INT32, INT64, REQUIRED, UINT32, UINT64, Edge, Graph, Refused, Search, Tree, preview, rule, tree,
+    BYTE, EXCLUDED, FREE, INT32, INT64, REQUIRED, UINT32, UINT64, Edge, Graph, Refused, Search, Tree, preview, recent_costs, rule,
+    tree,
 )  # fmt: skip
 from .output import Progress, complain, listed
 
 LEG = re.compile(r"([0-9]+)-([0-9]+):(-?[0-9]+)(?:([rs])|m([0-9]+))?")
+ENTRY = re.compile(r"([0-9]+):(-?[0-9]+)")
 FORMS = {
     "tree": "tree",
     "preview": "preview LEG MARK",
     "rule": "rule CEILING",
+    "recent": "recent W LEG:TIME ..",
     "open": "open CEILING SWEEPS STEP",
     "run": "run BUDGET",
     "tell": "tell",
@@ -101,6 +104,14 @@ class Script:
             return "dead", {"verdict": "dead"}
         return f"bound {found.bound} rulings {listed(found.rulings)}", {"bound": found.bound, "rulings": found.rulings}
 
+    def recent(self, last: str, *entries: str) -> Answer:
+        """The costs that a log makes; the current chart then has them."""
+        number = whole_number(last, "number of last times", UINT64)
+        log = [entry(word) for word in entries]
+        self.graph = recent_costs(self.graph, number, [edge for edge, _ in log], [time for _, time in log])
+        costs = [edge.cost for edge in self.graph.edges]
+        return " ".join(["costs", *map(str, costs)]), {"costs": costs}
+
     def open(self, ceiling: str, sweeps: str, step: str) -> Answer:
         """An opening."""
         number = whole_number(ceiling, "ceiling", INT64)
@@ -165,10 +176,11 @@ def said_tree(found: Tree | None) -> Answer:
 
 
 def taken(words: list[str], allowed: str) -> list[str]:
-    """The words behind a name, of which there must be as many as the form has."""
-    count = len(allowed.split()) - 1
-    if len(words) != count:
-        raise Faults(f"too {'many' if len(words) > count else 'few'} words; allowed is {allowed}")
+    """The words behind a name, of which there must be as many as the form has; '..' at its end stands for any number of those before it."""
+    form = allowed.split()[1:]
+    least, most = (len(form) - 2, len(words)) if form[-1:] == [".."] else (len(form), len(form))
+    if not least <= len(words) <= most:
+        raise Faults(f"too {'few' if len(words) < least else 'many'} words; allowed is {allowed}")
     return words
 
 
@@ -180,6 +192,14 @@ def leg(word: str) -> Edge:
     a, b, cost, kind, byte = found.groups()
     mark = whole_number(byte, "mark", BYTE) if byte else {None: FREE, "r": REQUIRED, "s": EXCLUDED}[kind]
     return Edge(whole_number(a, "buoy", BYTE), whole_number(b, "buoy", BYTE), whole_number(cost, "cost", INT32), mark)
+
+
+def entry(word: str) -> tuple[int, int]:
+    """A log's entry as the line 'recent' has it."""
+    found = ENTRY.fullmatch(word)
+    if not found:
+        raise Faults(f"'{shown(word)}' is no entry; allowed is LEG:TIME")
+    return whole_number(found[1], "leg", UINT64), whole_number(found[2], "time", INT32)
 
 
 def lines_of(file: IO[bytes]) -> Iterator[bytes]:

@@ -11,10 +11,12 @@ from typing import Any, NamedTuple, NoReturn
 
 from . import formats
 from .faults import Faults, shown, whole_number
-from .library import INT32, INT64, UINT32, UINT64
+from .library import INT32, INT64, UINT32, UINT64, WINDOWS
 from .output import OutputLost, complain, say, silence
 from .search import LONG
-from .subcommands import LOST, WRONG, on_graph, run_calls, run_convert, run_draw, run_page, run_preview, run_regrade, run_rule, run_solve, run_tree
+from .subcommands import (
+    LOST, WRONG, on_graph, run_calls, run_convert, run_draw, run_page, run_preview, run_recent, run_regrade, run_rule, run_solve, run_tree,
+)  # fmt: skip
 
 ABOUT = "The cheapest round of a sea of 3 to 20 buoys, every answer by proved calls of the library. docs/USING.md walks through all of it."
 STATUSES = "Exit status: 0 answered; 1 'none', 'no tree', 'dead' or a wrong record; 2 bad usage or refused; 3 undecided; 4 output lost."
@@ -101,6 +103,19 @@ COMMANDS = (
             "mark": {"metavar": "MARK", "nargs": "?", "type": mark, "help": "required or struck, 1 or 2"}, **DUES, **JSON,
         },
         "preview examples/four.txt 1 struck",
+    ),
+    Command(
+        "recent", on_graph(run_recent), "make each leg's cost the greatest of its last times in a log",
+        {
+            **FILE, "log": {"metavar": "LOG", "help": "lines 'LEG,TIME', the oldest first; '-' is standard input"},
+            "out": {"metavar": "OUT", "nargs": "?", "default": "-", "help": "the file to write; standard output if not said"},
+            "--last": {
+                "metavar": "W", "type": number_of("number of last times", UINT64), "required": True,
+                "help": f"how many of a leg's last times count, {WINDOWS[0]} to {WINDOWS[-1]}",
+            },
+            "--to": {"choices": formats.FORMS, "help": "the form, whatever the name"}, **JSON,
+        },
+        "recent examples/four.txt examples/season.csv --last 2",
     ),
     Command(
         "regrade", run_regrade, "hold the recorded costs of a folder of charts to the library",

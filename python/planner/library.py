@@ -7,6 +7,7 @@ from __future__ import annotations
 
 import ctypes
 import os
+from array import array
 from collections.abc import Callable, Iterable, Iterator, Mapping, Sequence
 from ctypes import POINTER, c_int32, c_int64, c_size_t, c_uint8, c_uint32, c_uint64
 from dataclasses import dataclass, field
@@ -23,6 +24,7 @@ COSTS = range(-100_000_000, 100_000_001)
 MULTIPLIERS = range(-1_000_000, 1_000_001)
 CEILINGS = range(-5_000_000_000, 5_000_000_001)
 SWEEPS, STEPS = range(16), range(10_001)
+WINDOWS = range(1, 33)  # how many of a leg's last times its recent cost may look at
 HIGHEST_TOUR = MOST_VERTICES * COSTS[-1]
 FREE, REQUIRED, EXCLUDED = range(3)
 MARKS = ("free", "required", "struck")
@@ -58,6 +60,8 @@ MEANINGS = {
     24: "the record fails its check",
     30: "no such leg, or a new mark that is not 1 or 2",
     31: "the leg is not free",
+    38: "the number of last times not 1 to 32",
+    39: "a log entry that names no leg, or a time outside the cost range",
 }
 
 
@@ -119,6 +123,7 @@ _CALLS = {
     "planner_tree": (CSaid, (CGraph, *_DUES, _BYTES, c_size_t)),
     "planner_preview": (CSaid, (CGraph, *_DUES, c_size_t, c_uint32, _BYTES, c_size_t)),
     "planner_rule": (CSaid, (CGraph, *_DUES, c_int64, _BYTES, c_size_t)),
+    "planner_recent": (CSaid, (POINTER(CGraph), c_size_t, POINTER(c_size_t), c_size_t, POINTER(c_int32), c_size_t)),
     "planner_fresh": (CSearch, ()),
     "planner_open": (CSaid, (_RECORD, CGraph, *_DUES, CSettings)),
     "planner_run": (CSaid, (_RECORD, c_uint64)),
@@ -309,6 +314,23 @@ def rule(graph: Graph, ceiling: int, multipliers: Sequence[int] | None = None, l
     ceiling = _fits(ceiling, INT64, "ceiling")
     said = _accepted(library().planner_rule(graph.c, lent, count, ceiling, out, told))
     return None if said.number == NONE else Rulings(said.value, tuple(out[: graph.m]))
+
+
+# Recent costs
+
+
+def recent_costs(graph: Graph, last: int, edges: Iterable[int], times: Iterable[int]) -> Graph:
+    """The graph with each edge's cost the greatest of its last so many times in a log, entry i of which is edges[i] with times[i].
+
+    An edge with fewer times uses those it has, one with none keeps its cost. Refused 39 has the place of the first bad entry, from 1.
+    """
+    legs = array("Q", (_fits(edge, UINT64, "leg") for edge in edges))
+    lasted = array("i", (_fits(time, INT32, "time") for time in times))
+    lent = (c_size_t * max(1, len(legs))).from_buffer(legs or array("Q", [0]))
+    lent_times = (c_int32 * max(1, len(lasted))).from_buffer(lasted or array("i", [0]))
+    made = CGraph.from_buffer_copy(graph.c)
+    _accepted(library().planner_recent(made, _fits(last, UINT64, "number of last times"), lent, len(legs), lent_times, len(lasted)))
+    return graph.recosted(made.cost[: graph.m])
 
 
 # Searches

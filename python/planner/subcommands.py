@@ -13,7 +13,8 @@ from .calls import run_script
 from .ceilings import falling
 from .drawing import Drawing
 from .faults import Faults
-from .library import FREE, RULINGS, Graph, Refused, Tree, preview, rule, tree
+from .library import FREE, RULINGS, Graph, Refused, Tree, preview, recent_costs, rule, tree
+from .logs import read_log
 from .output import Progress, complain, listed, say, write_file
 from .page import Page
 from .regrading import COLUMNS, Grade, regrade, row, summary
@@ -201,6 +202,34 @@ def run_convert(arguments: argparse.Namespace, name: str, graph: Graph) -> int:
     pairs = [(edge.a, edge.b) for edge in graph.edges]
     if form == "tsplib" and pairs != sorted(pairs):
         complain(f"{name}: legs are numbered anew: TSPLIB has them in the order 1-2, 1-3, ..")
+    return ANSWERED
+
+
+def run_recent(arguments: argparse.Namespace, name: str, graph: Graph) -> int:
+    """planner recent"""
+    if arguments.file == arguments.log == "-":
+        raise Faults("planner recent: FILE and LOG cannot both be standard input")
+    not_over_input(arguments.out, arguments.file)
+    not_over_input(arguments.out, arguments.log)
+    form = formats.form_to_write(arguments.out, arguments.to)
+    log = read_log(arguments.log)
+    try:
+        made = recent_costs(graph, arguments.last, log.edges, log.times)
+    except Refused as refused:
+        if not refused.place:
+            raise
+        return refuse(f"{formats.shown_path(arguments.log)}:{log.lines[refused.place - 1]}", refused, arguments.json)
+    with faults_of(name):
+        data = formats.written(made, form, Path(name).stem)
+    changed = [(number, old, new.cost) for number, (old, new) in enumerate(zip(graph.edges, made.edges), 1) if old.cost != new.cost]
+    if not arguments.json or arguments.out != "-":
+        write_file(arguments.out, data)
+    if arguments.json:
+        rows = [{"leg": number, "was": old.cost, "now": cost} for number, old, cost in changed]
+        say_json(file=name, entries=len(log.edges), costs=[edge.cost for edge in made.edges], changed=rows)
+    else:
+        lines = [f"{number} {old.a}-{old.b} was {old.cost} now {cost}" for number, old, cost in changed]
+        (complain if arguments.out == "-" else say)("\n".join([f"entries {len(log.edges)} changed {len(changed)}", *lines]))
     return ANSWERED
 
 

@@ -92,6 +92,21 @@ preview 5 1 > bound 14 legs 1 2 5 6
 preview 6 2 > bound 15 legs 1 2 4 5
 tree > bound 10 legs 1 2 4 6
 
+# Costs from the last times of a log, entry by entry; the chart then has them, and keeps its dues.
+recent 2 1:9 > costs 9 3 5 2 6 1
+{FOUR}
+recent 2 1:9 1:-3 4:2 1:7 1:1 1:0 4:-5 4:-8 4:-6 > costs 1 3 5 -6 6 1
+tree > bound -1 legs 1 2 4 6
+{FOUR}
+recent 1 1:9 1:-3 4:2 1:7 1:1 1:0 4:-5 4:-8 4:-6 > costs 0 3 5 -6 6 1
+recent 32 > costs 0 3 5 -6 6 1
+{FOUR}
+recent 3 1:9 1:-3 4:2 1:7 1:1 1:0 4:-5 4:-8 4:-6 > costs 7 3 5 -5 6 1
+open 20 0 0 > accepted
+run 1000 > finished nodes 9
+tell > cost 8 nodes 9
+close > accepted
+
 # Marks as letters and as bytes.
 sea 4 1-2:4m0 1-3:3s 1-4:5m1 2-3:-2r 2-4:6 3-4:1m2
 tree > bound 13 legs 1 3 4 5
@@ -187,6 +202,20 @@ sea 4 2-1:5
 preview 1 1 > refused 15 at 0
 {FOUR}
 
+# Of a log: 15, 38, then 39 with the place of the first bad entry; the chart stays.
+recent 0 7:1 > refused 38 at 0
+recent 33 7:1 > refused 38 at 0
+recent 18446744073709551615 > refused 38 at 0
+recent 2 1:5 7:1 0:1 > refused 39 at 2
+recent 2 0:5 > refused 39 at 1
+recent 2 18446744073709551615:5 > refused 39 at 1
+recent 2 1:5 2:2147483647 > refused 39 at 2
+recent 2 1:5 2:-2147483648 > refused 39 at 2
+tree > bound 10 legs 1 2 4 6
+sea 4 2-1:5
+recent 0 7:1 > refused 15 at 0
+{FOUR}
+
 # A list of wrong length serves one call, refused or not; a setting in between leaves it, a sea does not.
 list 5
 tree > refused 11 at 0
@@ -262,7 +291,7 @@ class Scripts(unittest.TestCase):
 
     def test_lines_that_cannot_be_read(self):
         """Each says its line on standard error; the script goes on, settings as they were; the status is 2."""
-        names = "allowed are sea, chart, dues, list, tree, preview, rule, open, run, tell, show, close"
+        names = "allowed are sea, chart, dues, list, tree, preview, rule, recent, open, run, tell, show, close"
         wide = "allowed is -9223372036854775808 to 9223372036854775807"
         no_leg = "is no leg; allowed is A-B:COST, with r, s or mK behind it"
         wrong = (
@@ -274,6 +303,11 @@ class Scripts(unittest.TestCase):
             ("tell me", "too many words; allowed is tell"),
             ("preview 1", "too few words; allowed is preview LEG MARK"),
             ("preview 1 2 3", "too many words; allowed is preview LEG MARK"),
+            ("recent", "too few words; allowed is recent W LEG:TIME .."),
+            ("recent x", "number of last times 'x' is not a whole number; allowed is 0 to 18446744073709551615"),
+            ("recent 1 1", "'1' is no entry; allowed is LEG:TIME"),
+            ("recent 1 -1:4", "'-1:4' is no entry; allowed is LEG:TIME"),
+            ("recent 1 1:2147483648", "time 2147483648 is out of range; allowed is -2147483648 to 2147483647"),
             ("save 1", f"'save' is unknown; {names}"),
             ("lifting yes", f"'lifting' is unknown; {names}"),
             ("denominator 2", f"'denominator' is unknown; {names}"),
@@ -414,7 +448,7 @@ class Scripts(unittest.TestCase):
 
     def step(self, source, graph, search):
         """A random line, the chart after it, and what the line should print."""
-        kind = source.choice(("sea", "tree", "preview", "rule", "open", "run", "run", "tell", "show", "show", "close"))
+        kind = source.choice(("sea", "tree", "preview", "rule", "recent", "open", "run", "run", "tell", "show", "show", "close"))
         ceiling = source.choice((-20, 40, 90, 5_000_000_001))
         if kind == "sea":
             graph = random_graph(source, most=6)
@@ -425,6 +459,15 @@ class Scripts(unittest.TestCase):
         if kind == "preview":
             edge, mark = source.randint(0, graph.m + 1), source.choice((0, 1, 1, 2, 2, 3))
             return graph, f"preview {edge} {mark}", lambda: bound_and(library.preview(graph, edge, mark), "legs", "no tree")
+        if kind == "recent":
+            last, log = source.choice((0, 1, 2, 32, 33)), [(source.randint(1, graph.m + 1), source.randint(-60, 60)) for _ in range(3)]
+            words = " ".join(f"{leg}:{time}" for leg, time in log)
+            try:
+                made = planner.recent_costs(graph, last, log)
+            except planner.Refused as refused:
+                line = f"refused {refused.number} at {refused.place}"
+                return graph, f"recent {last} {words}", lambda: line
+            return made, f"recent {last} {words}", lambda: f"costs {' '.join(str(edge.cost) for edge in made.edges)}"
         if kind == "rule":
             return graph, f"rule {ceiling}", lambda: bound_and(library.rule(graph, ceiling), "rulings", "dead")
         if kind == "open":

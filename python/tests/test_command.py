@@ -136,7 +136,7 @@ class Usage(unittest.TestCase):
         out, _, status = command("--help")
         self.assertEqual(status, 0)
         names = re.findall(r"^    (\w+) ", out, re.MULTILINE)
-        self.assertEqual(names, ["solve", "rule", "tree", "preview", "regrade", "convert", "draw", "page", "calls"])
+        self.assertEqual(names, ["solve", "rule", "tree", "preview", "recent", "regrade", "convert", "draw", "page", "calls"])
         for name in names:
             out, complaints, status = command(name, "--help")
             self.assertEqual((out.startswith(f"usage: planner {name} "), complaints, status), (True, "", 0))
@@ -151,6 +151,8 @@ class Usage(unittest.TestCase):
                       ("tree", "examples/four.txt", "--dues", 2**31), ("tree", "examples/four.txt", "--dues", long),
                       ("convert", "examples/four.txt"), ("preview", "examples/four.txt", 1), ("preview", "examples/four.txt", "x", 1),
                       ("preview", "examples/four.txt", 1, "free"), ("preview", "examples/four.txt", 1, 2**32),
+                      ("recent", "examples/four.txt", "examples/season.csv"), ("recent", "examples/four.txt", "--last", 2),
+                      ("recent", "examples/four.txt", "examples/season.csv", "--last", "x"),
                       ("convert", "examples/four.txt", "-", "--to", "tapes"), ("solve", "examples/four.txt", "--nodes", -1), ("draw",),
                       ("page",), ("page", "examples/four.txt", "b.html"), ("page", "examples/four.txt", "--low", "x"),
                       (long,)):  # fmt: skip

@@ -136,6 +136,21 @@ int main(void) {
     bytes[8 + 12 * 5] = g.a[5];
     expect("the file that was written", memcmp(out, bytes, FILE_LENGTH) == 0);
 
+    {
+        const size_t edges[5] = {2, M, 2, 2, M + 1};
+        const int32_t times[5] = {900, -7, 300, 200, 1};
+        planner_graph made = g;
+        read = g;
+        made.cost[1] = 300;
+        made.cost[M - 1] = -7;
+        said_so("recent costs", planner_recent(&read, 2, edges, 4, times, 4), 0, 0, 0, 0);
+        expect("the graph that a log makes", memcmp(&read, &made, sizeof made) == 0);
+        said_so("a bad entry's place", planner_recent(&read, PLANNER_WINDOW, edges, 5, times, 5), 39, 5, 0, 0);
+        said_so("lists of two lengths", planner_recent(&read, 2, edges, 4, times, 5), 11, 0, 0, 0);
+        said_so("a window too long", planner_recent(&read, PLANNER_WINDOW + 1, edges, 4, times, 4), 38, 0, 0, 0);
+        expect("a refused log leaves the graph", memcmp(&read, &made, sizeof made) == 0);
+    }
+
     memset(&s, 0xa5, sizeof s);
     s = planner_fresh();
     expect("a fresh record is zero", memcmp(&s, &fresh, sizeof s) == 0);

@@ -276,3 +276,38 @@ pub const REQUIRED_LOOKED_AT: Bend = Bend {
     what: "required legs are looked at in the loop that ends early",
     bend: |law| law.required_first = false,
 };
+
+pub const WINDOW_OF_33: Bend = Bend {
+    what: "w may be 33",
+    bend: |law| law.max_window = 33,
+};
+
+pub const ONE_TIME_MORE: Bend = Bend {
+    what: "a leg's cost is the greatest of its last w + 1 times",
+    bend: |law| law.times_more = 1,
+};
+
+pub const WINDOW_ALWAYS_32: Bend = Bend {
+    what: "w is always 32",
+    bend: |law| law.window_is_asked = false,
+};
+
+pub const BEGINS_WITH_ZERO: Bend = Bend {
+    what: "a leg's times begin with 0",
+    bend: |law| law.begins_empty = false,
+};
+
+pub const CHART_AS_A_TIME: Bend = Bend {
+    what: "the chart's cost is the first time of a leg",
+    bend: |law| law.chart_is_no_time = false,
+};
+
+pub const ENTRIES_FROM_ZERO: Bend = Bend {
+    what: "39's place is counted from 0",
+    bend: |law| law.first_entry = 0,
+};
+
+pub const ENTRIES_BEFORE_WINDOW: Bend = Bend {
+    what: "39 comes before 38",
+    bend: |law| law.window_before_entries = false,
+};

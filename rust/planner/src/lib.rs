@@ -22,7 +22,7 @@ pub use raw::{Graph, Record, Settings};
 use raw::{Said, EDGES};
 use std::fmt;
 
-/// Document 01's answer to a wrong call: a number and a place, which is 0 but in reading.
+/// Document 01's answer to a wrong call: a number and a place, which is 0 but in reading and in a log.
 #[derive(Clone, Copy, PartialEq, Eq, Debug)]
 pub struct Refusal {
     pub number: u32,
@@ -55,6 +55,8 @@ impl Refusal {
             24 => "the record fails its own check",
             30 => "a preview of no edge, or of a mark that is not 1 or 2",
             31 => "a preview of an edge that is not free",
+            38 => "a window that is not 1 to 32",
+            39 => "a log entry that names no edge, or a time out of the cost range",
             _ => "a number that documents 01 and 02 do not have",
         }
     }
@@ -298,6 +300,37 @@ pub fn rule(graph: &Graph, multipliers: &[i32], ceiling: i64) -> Result<Ruled, R
     let bound = said.accepted()?.value;
     let rulings = out.iter().map(|byte| Ruling::of(*byte)).collect();
     Ok(Ruled::Within { bound, rulings })
+}
+
+/// Each edge's cost becomes the greatest of its last `last` times in a log (1 to 32): entry i is the edge `edges[i]`, numbered from 1, with
+/// `times[i]`. An edge with fewer times uses those it has, one with none keeps its cost; 15, 11, 38, 39, which leave the graph as it was.
+///
+/// ```
+/// use planner::{recent_costs, Edge, Graph};
+///
+/// let mut graph = Graph::from_edges(3, &[Edge::free(1, 2, 4), Edge::free(1, 3, 3), Edge::free(2, 3, 2)]);
+/// recent_costs(&mut graph, 2, &[1, 1, 1], &[9, -3, 1])?;
+/// assert_eq!(graph.edges()[0].cost, 1);
+/// # Ok::<(), planner::Refusal>(())
+/// ```
+pub fn recent_costs(
+    graph: &mut Graph,
+    last: usize,
+    edges: &[usize],
+    times: &[i32],
+) -> Result<(), Refusal> {
+    // SAFETY: `edges` and `times` have the lengths that are passed with them and are only read; `graph` is borrowed here alone.
+    let said = unsafe {
+        raw::planner_recent(
+            graph,
+            last,
+            edges.as_ptr(),
+            edges.len(),
+            times.as_ptr(),
+            times.len(),
+        )
+    };
+    said.accepted().map(|_| ())
 }
 
 fn bits(bytes: &[u8]) -> Vec<bool> {

@@ -7,6 +7,8 @@ pub const VERTICES: usize = 20;
 pub const EDGES: usize = 190;
 /// The most nodes that wait in a search.
 pub const NODES: usize = VERTICES + 2;
+/// The most times of an edge that its recent cost looks at.
+pub const WINDOW: usize = 32;
 
 /// A call is accepted. No refusal has this number or one of those below.
 pub const ACCEPTED: u32 = 0;
@@ -114,6 +116,14 @@ extern "C" {
         ceiling: i64,
         out: *mut u8,
         length: usize,
+    ) -> Said;
+    pub fn planner_recent(
+        g: *mut Graph,
+        w: usize,
+        edges: *const usize,
+        edges_length: usize,
+        times: *const i32,
+        times_length: usize,
     ) -> Said;
     pub fn planner_fresh() -> Record;
     pub fn planner_open(

@@ -84,6 +84,20 @@ pub struct Law {
     pub ceiling_bytes: usize,
     /// C-14: of those bytes, so many count
     pub ceiling_bytes_read: usize,
+    /// C-22: "w from 1 to 32"
+    pub max_window: usize,
+    /// C-22: "its last w times", and so many more
+    pub times_more: usize,
+    /// C-22: w is the caller's, not always the most
+    pub window_is_asked: bool,
+    /// C-22: "A leg with fewer sailings uses those it has", with nothing beside them
+    pub begins_empty: bool,
+    /// C-22: the chart's cost is no time
+    pub chart_is_no_time: bool,
+    /// C-22: the place is given "from 1"
+    pub first_entry: usize,
+    /// C-22: 38, "then 39"
+    pub window_before_entries: bool,
 
     /// "sweeps (0 to 15)"
     pub max_sweeps: u32,
@@ -152,6 +166,13 @@ impl Law {
         unless_dead: true,
         ceiling_bytes: 8,
         ceiling_bytes_read: 8,
+        max_window: 32,
+        times_more: 0,
+        window_is_asked: true,
+        begins_empty: true,
+        chart_is_no_time: true,
+        first_entry: 1,
+        window_before_entries: true,
         max_sweeps: 15,
         max_step: 10_000,
         below_tour: 1,

@@ -8,6 +8,7 @@ pub mod graph;
 pub mod law;
 pub mod machine;
 pub mod programs;
+pub mod recent;
 pub mod rulings;
 pub mod tours;
 pub mod tree;

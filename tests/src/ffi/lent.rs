@@ -46,6 +46,12 @@ impl Lent {
         Lent::holding(&bytes)
     }
 
+    /// Leg numbers, as they lie in memory.
+    pub fn words(words: &[usize]) -> Lent {
+        let bytes: Vec<u8> = words.iter().flat_map(|x| x.to_ne_bytes()).collect();
+        Lent::holding(&bytes)
+    }
+
     pub fn pointer<T>(&mut self) -> *mut T {
         self.cells[self.start + MARGIN..].as_mut_ptr().cast()
     }

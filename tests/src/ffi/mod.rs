@@ -2,11 +2,12 @@
 //! both sides, and what is only read is looked at again after the call.
 
 use crate::document::graph::Graph;
+use crate::document::recent::Log;
 use crate::document::Refusal;
 use crate::record::{graph_bytes, graph_of, GRAPH};
 use crate::report::Hex;
 use lent::Lent;
-use planner::raw::{self, planner_check, planner_read, planner_write, Said};
+use planner::raw::{self, planner_check, planner_read, planner_recent, planner_write, Said};
 
 pub mod lent;
 pub mod searches;
@@ -89,6 +90,35 @@ pub fn read(bytes: &[u8]) -> ReadReply {
         said,
         graph: graph.changed().map(|bytes| graph_of(&bytes)),
         margins_kept: given.kept(&Lent::holding(bytes)) && graph.margins_kept(),
+    }
+}
+
+/// What the call on a lent graph answers, and the graph after it, to the byte.
+#[derive(PartialEq, Eq, Debug)]
+pub struct RecentReply {
+    pub said: Said,
+    pub graph: Graph,
+    pub margins_kept: bool,
+}
+
+/// The costs that a log makes.
+pub fn recent(graph: &Graph, log: &Log) -> RecentReply {
+    let mut lent = Lent::holding(&graph_bytes(graph));
+    let (mut legs, mut times) = (Lent::words(&log.legs), Lent::numbers(&log.times));
+    let (g, l, t) = (lent.pointer(), legs.pointer(), times.pointer());
+    let said = call!(planner_recent(
+        g,
+        log.w,
+        l,
+        log.legs.len(),
+        t,
+        log.times.len()
+    ));
+    let read = legs.kept(&Lent::words(&log.legs)) && times.kept(&Lent::numbers(&log.times));
+    RecentReply {
+        said,
+        graph: graph_of(lent.body()),
+        margins_kept: read && lent.margins_kept(),
     }
 }
 

@@ -7,12 +7,12 @@ use crate::document::chart;
 use crate::document::graph::Graph;
 use crate::document::law::Law;
 use crate::document::tree::Method;
-use crate::ffi::{self, trees, ReadReply, Reply};
+use crate::ffi::{self, trees, ReadReply, RecentReply, Reply};
 use crate::generate;
 use crate::random::Random;
 use crate::report::{hex, Outcome};
 use crate::suites::rule::{arguments, Arguments};
-use crate::suites::{check, preview, read, rule, tree, write};
+use crate::suites::{check, preview, read, recent, rule, tree, write};
 
 pub const FILES: Kind = Kind {
     name: "files",
@@ -44,10 +44,19 @@ pub const VALUES: Kind = Kind {
         bends::PAST_M_JUDGED,
         bends::FREE_BEFORE_LEG,
         bends::PREVIEW_WITHOUT_MARK,
+        bends::ENTRIES_FROM_ZERO,
+        bends::ENTRIES_BEFORE_WINDOW,
+        bends::WINDOW_ALWAYS_32,
     ],
 };
 
 impl Numbered for Reply {
+    fn number(&self) -> Option<u32> {
+        Some(self.said.number)
+    }
+}
+
+impl Numbered for RecentReply {
     fn number(&self) -> Option<u32> {
         Some(self.said.number)
     }
@@ -114,7 +123,20 @@ fn values(random: &mut Random, watch: &mut Watch) -> Outcome {
     let expected = rule::expected(watch.law, Method::Kruskal, &given);
     watch.compare("rule", input, expected, || {
         trees::rule(graph, multipliers, *ceiling, *length)
-    })
+    })?;
+    logs(random, watch, graph)
+}
+
+/// A log on a graph value, whatever it holds.
+fn logs(random: &mut Random, watch: &mut Watch, graph: &Graph) -> Outcome {
+    let entries = random.pick(&[0, 1, 31, 32, 33, 200]);
+    let mut log = recent::log(random, graph, entries);
+    if random.one_in(3) {
+        recent::break_log(random, graph, &mut log);
+    }
+    let input = || format!("{graph:?}, {log:?}");
+    let expected = recent::expected(watch.law, graph, &log);
+    watch.compare("recent", input, expected, || ffi::recent(graph, &log))
 }
 
 /// The ends of every type, any contents at all, and lists that are wrong by one, empty or far too long.

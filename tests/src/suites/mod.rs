@@ -29,6 +29,8 @@ pub mod programs;
 #[cfg(feature = "library")]
 pub mod read;
 #[cfg(feature = "library")]
+pub mod recent;
+#[cfg(feature = "library")]
 pub mod records;
 #[cfg(feature = "library")]
 pub mod round_trips;
@@ -68,6 +70,8 @@ pub fn all() -> Vec<Suite> {
         limits::SUITE,
         #[cfg(feature = "library")]
         falling_ceilings::SUITE,
+        #[cfg(feature = "library")]
+        recent::SUITE,
         #[cfg(feature = "library")]
         records::SUITE,
         #[cfg(feature = "library")]

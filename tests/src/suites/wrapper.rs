@@ -1,11 +1,13 @@
 //! The safe wrapper for Rust against the reference: reading, writing, trees, rulings, and lists of calls on a search.
 
+use super::recent::{break_log, log};
 use super::rule::{arguments, Arguments};
 use crate::bends;
 use crate::chart_cases::every_file;
 use crate::document::graph::{self, Graph, FREE, PLACES, REQUIRED};
 use crate::document::law::Law;
 use crate::document::machine::{self, Answer, Call, Machine};
+use crate::document::recent;
 use crate::document::rulings::{self, BAR, FORCE, KEEP};
 use crate::document::tree::{self, Method};
 use crate::document::{chart, Refusal};
@@ -26,6 +28,7 @@ pub const SUITE: Suite = Suite {
         bends::HIGHER_NUMBERED_FIRST,
         bends::CEILING_NOT_WITHIN,
         bends::HIGHER_MULTIPLIER,
+        bends::ENTRIES_FROM_ZERO,
         bends::UPPER_AT_COST,
         bends::MORE_SWEEPS,
     ],
@@ -39,6 +42,10 @@ fn run(law: &Law, tally: &mut Tally) -> Outcome {
     }
     for _ in 0..2_000 {
         searches(law, tally, random)?;
+    }
+    let random = &mut Random::new(0x6c_6f67_73);
+    for _ in 0..3_000 {
+        logs(law, tally, random)?;
     }
     too_many(tally)
 }
@@ -170,6 +177,24 @@ fn trees(law: &Law, tally: &mut Tally, random: &mut Random, wrong: bool) -> Outc
     tally.compare("preview", input, &found(wanted), &got)?;
     let got = planner::rule(&graph, multipliers, ceiling);
     tally.compare("rule", input, &expected_rulings(law, &given), &got)
+}
+
+/// A log on one graph: the costs that it makes, or a refusal that leaves the graph.
+fn logs(law: &Law, tally: &mut Tally, random: &mut Random) -> Outcome {
+    let broken = random.one_in(8);
+    let graph = &generate::graph_value(random, broken);
+    let mut log = log(random, graph, 40);
+    if random.one_in(3) {
+        break_log(random, graph, &mut log);
+    }
+    let mut made = by_value(graph);
+    let got = planner::recent_costs(&mut made, log.w, &log.legs, &log.times);
+    let wanted = match recent::call(law, graph, &log) {
+        Ok(made) => (by_value(&made), Ok(())),
+        Err(refused) => (by_value(graph), Err(refusal(refused))),
+    };
+    let input = || format!("{graph:?}, {log:?}");
+    tally.compare("recent costs", input, &wanted, &(made, got))
 }
 
 /// What the wrapper's call on a search must answer, in one type for all five.

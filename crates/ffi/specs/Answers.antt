@@ -13,7 +13,9 @@ use Rattle.onetree.specs.Answers as one
 use Rattle.recent.specs.Answers as recent
 use Rattle.search.specs.declared.Answer.{Answer}
 use Rattle.search.specs.declared.Answer.the-variants.{Refused, Accepted, GoingOn, Finished, Searching, NoTour, Best}
+use Rattle.sailing.specs.Simulation as sailing
 use Rattle.ffi.specs.declared.Said.{Said}
+use Rattle.ffi.specs.declared.simulations.Sailed.{Sailed}
 use Rattle.ffi.specs.declared.Filled.{Filled}
 
 -- a number and a place alone
@@ -78,3 +80,9 @@ saidOf (Finished count) = counted 1002 (pos 0) count
 saidOf (Searching count) = counted 1001 (pos 0) count
 saidOf (NoTour count) = counted 1003 (pos 0) count
 saidOf (Best c count) = counted 1004 c count
+
+-- ---- a simulation: the total and the last state
+
+unfoldable pub saidSailing : sailing.Reply → Sailed
+saidSailing (sailing.sailed total state) = record { number = 0; place = 0; total = total; state = state }
+saidSailing (sailing.refused number place) = record { number = number; place = place; total = pos 0; state = 0 }

@@ -25,7 +25,7 @@ pub(crate) struct Replied {
 }
 
 // The numbers of an answer.
-fn said_of(answer: Answer) -> Said
+pub(crate) fn said_of(answer: Answer) -> Said
     ensures { λ r. ⌜ r ≡ saidOf answer ⌝ }
 {
     match answer {

@@ -1,0 +1,5 @@
+-- what a reader must believe
+pub mod Answers
+-- what its code needs
+pub mod Steps
+pub mod Listed

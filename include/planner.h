@@ -1,7 +1,7 @@
 /* The route planner for C and C++. `make` builds build/libplanner.a and build/libplanner.so; installed, `pkg-config --cflags --libs planner`
  * says how to compile and link.
  *
- * Every call takes any values, answers and ends. It answers a planner_said: `number` is 0 where the call is accepted, a code from 1000 on, or
+ * Every call takes any values, answers and ends. It answers a planner_said (planner_simulate a planner_sailed): `number` is 0 where the call is accepted, a code from 1000 on, or
  * the number of a refusal with its `place`; `value` and `nodes` are what the call says they are. A field without a value is 0. A refusal
  * leaves everything lent as it was. What each call promises is proved: see crates/ffi/specs. The proofs take for granted what C cannot check:
  * no pointer is null, not even with length 0, each leads to as much memory as the call is told, and no two parts that are lent overlap.
@@ -11,7 +11,8 @@
  * before.
  * Other calls: 15 a graph that breaks the rules, those of costs as in 9; 11 a list of wrong length; 12 a multiplier not -1,000,000 to 1,000,000,
  * or the first not 0; 13 ceiling not -5,000,000,000 to 5,000,000,000; 14 sweeps not 0 to 15, or step not 0 to 10,000; 30 a preview of no edge,
- * or of a mark that is not 1 or 2; 31 of an edge that is not free; 38 a window that is not 1 to 32; 39 a log entry that names no edge or a time
+ * or of a mark that is not 1 or 2; 31 of an edge that is not free; 36 edges that are not a tour of all vertices in sailing order from vertex 1;
+ * 37 a student number not 0 to 65,535, or a spread not 0 to 1,000; 38 a window that is not 1 to 32; 39 a log entry that names no edge or a time
  * that is no cost as in 9, with its place from 1. Of a record: 24 it fails its check; 20 no search is open; 21 one is open; 22 show while going
  * on; 23 show after 'none'.
  */
@@ -30,6 +31,9 @@ enum {
     PLANNER_EDGES = 190,     /* at most */
     PLANNER_NODES = 22,      /* a search has at most n + 2 nodes waiting */
     PLANNER_WINDOW = 32,     /* at most */
+    PLANNER_PAIRS = 16,      /* at most, in a comparison */
+    PLANNER_STUDENT = 65535, /* at most */
+    PLANNER_SPREAD = 1000,   /* at most */
     PLANNER_NONE = 1000,     /* tree, preview: no tree; rule: no 1-tree is within the ceiling */
     PLANNER_GOING_ON = 1001, /* run, tell */
     PLANNER_FINISHED = 1002, /* run */
@@ -58,6 +62,20 @@ typedef struct {
     int64_t ceiling;
     uint32_t sweeps, step;
 } planner_settings;
+
+/* What a simulation answers: 0 with the total and the last state, or a refusal. */
+typedef struct {
+    uint32_t number;
+    uint64_t place;
+    int64_t total;
+    uint64_t state;
+} planner_sailed;
+
+/* What every search of a comparison has alike. */
+typedef struct {
+    int64_t ceiling;
+    uint64_t budget;
+} planner_terms;
 
 /* A search record (docs/RECORD.md). Begin with planner_fresh; write nothing in it. */
 typedef struct {
@@ -98,6 +116,17 @@ planner_said planner_rule(planner_graph g, const int32_t *multipliers, size_t mu
  * edge with fewer times uses those it has, one with none keeps its cost. Nothing else in *g changes; 0, or 15, 11, 38, or 39 with the place of the
  * first entry that is refused, from 1. */
 planner_said planner_recent(planner_graph *g, size_t w, const size_t *edges, size_t edges_length, const int32_t *times, size_t times_length);
+
+/* A tour sailed edge by edge: the n edges in sailing order from vertex 1, numbered from 1; a student number, and a spread of delays. Each edge's
+ * time into times, of n numbers; 15, 11, 36 or 37. */
+planner_sailed planner_simulate(planner_graph g, const size_t *edges, size_t edges_length, uint64_t student, uint64_t spread, int64_t *times,
+                                size_t length);
+
+/* A search without a record for each pair of sweeps and step, of 1 to 16 pairs, each with the whole budget: into report, of one number a pair, the
+ * count with which it finishes, or 0 if it is still going on; 0, 15, 11, 12, 13 or 14. */
+planner_said planner_compare(planner_graph g, const int32_t *multipliers, size_t multipliers_length, planner_terms terms,
+                             const uint32_t *sweeps, size_t sweeps_length, const uint32_t *steps, size_t steps_length, uint64_t *report,
+                             size_t length);
 
 /* A fresh record. */
 planner_search planner_fresh(void);
@@ -143,6 +172,9 @@ PLANNER_ASSERT(offsetof(planner_search, best) == 5632 && offsetof(planner_search
 PLANNER_ASSERT(offsetof(planner_search, has_best) == 5823);
 PLANNER_ASSERT(sizeof(planner_said) == 32 && offsetof(planner_said, number) == 0 && offsetof(planner_said, place) == 8);
 PLANNER_ASSERT(offsetof(planner_said, value) == 16 && offsetof(planner_said, nodes) == 24);
+PLANNER_ASSERT(sizeof(planner_sailed) == 32 && offsetof(planner_sailed, number) == 0 && offsetof(planner_sailed, place) == 8);
+PLANNER_ASSERT(offsetof(planner_sailed, total) == 16 && offsetof(planner_sailed, state) == 24);
+PLANNER_ASSERT(sizeof(planner_terms) == 16 && offsetof(planner_terms, ceiling) == 0 && offsetof(planner_terms, budget) == 8);
 #undef PLANNER_ASSERT
 #endif
 

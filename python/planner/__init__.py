@@ -18,7 +18,9 @@ from . import search as _search
 from .ceilings import Falling
 from .faults import Faults
 from .formats import load, parse, save
-from .library import EXCLUDED, FREE, MARKS, REQUIRED, RULINGS, Edge, Graph, Ran, Refused, Rulings, Search, Told, Tree, check, read, write
+from .library import (
+    EXCLUDED, FREE, MARKS, REQUIRED, RULINGS, Edge, Graph, Ran, Refused, Rulings, Sailing, Search, Told, Tree, check, read, write,
+)  # fmt: skip
 from .search import LONG, Answer, Progress, order
 
 Chart = Graph | str | os.PathLike[str]
@@ -63,8 +65,21 @@ def falling(chart: Chart, high: int, low: int, multipliers: Sequence[int] | None
     return _ceilings.falling(graph_of(chart), high, low, multipliers)
 
 
+def simulate(chart: Chart, edges: Sequence[int], student: int, spread: int) -> Sailing:
+    """A tour sailed edge by edge, its edges in sailing order from vertex 1: each one's time, the total and the last state."""
+    return _library.simulate(graph_of(chart), edges, student, spread)
+
+
+def compare(
+    chart: Chart, ceiling: int, budget: int, pairs: Sequence[tuple[int, int]], multipliers: Sequence[int] | None = None
+) -> tuple[int, ...]:
+    """For each pair of sweeps and step the count of nodes with which a search finishes, or 0 if it is still going on after the budget."""
+    return _library.compare(graph_of(chart), ceiling, budget, pairs, multipliers)
+
+
 __all__ = [
     "EXCLUDED", "FREE", "MARKS", "REQUIRED", "RULINGS",
-    "Answer", "Edge", "Falling", "Faults", "Graph", "Ran", "Refused", "Rulings", "Search", "Told", "Tree",
-    "check", "falling", "graph_of", "load", "order", "parse", "preview", "read", "recent_costs", "rule", "save", "solve", "tree", "write",
+    "Answer", "Edge", "Falling", "Faults", "Graph", "Ran", "Refused", "Rulings", "Sailing", "Search", "Told", "Tree",
+    "check", "compare", "falling", "graph_of", "load", "order", "parse", "preview", "read", "recent_costs", "rule", "save", "simulate", "solve",
+    "tree", "write",
 ]  # fmt: skip

@@ -1,7 +1,8 @@
 """A script of calls, one answer a line: what a line says is sent to the library as it is, and the library judges it.
 
 One search record serves the whole script. Settings print nothing: the current chart ('sea', 'chart'), the dues, the length of the next list
-that is lent ('list'). Calls print one line: tree, preview, rule, recent, open, run, tell, show, close.
+that is lent ('list'). Calls print one line: tree, preview, rule, recent, simulate, compare, open, run,
+tell, show, close.
 """
 from __future__ import annotations
 
@@ -12,8 +13,8 @@ from typing import IO
 from .faults import Faults, shown, whole_number
 from .formats import LONGEST, load
 from .library import (
-    BYTE, EXCLUDED, FREE, INT32, INT64, REQUIRED, UINT32, UINT64, Edge, Graph, Refused, Search, Tree, preview, recent_costs, rule,
-    tree,
+    BYTE, EXCLUDED, FREE, INT32, INT64, REQUIRED, UINT32, UINT64, Edge, Graph, Refused, Search, Tree, compare, preview, recent_costs,
+    rule, simulate, tree,
 )  # fmt: skip
 from .output import Progress, complain, listed
 
@@ -24,6 +25,8 @@ FORMS = {
     "preview": "preview LEG MARK",
     "rule": "rule CEILING",
     "recent": "recent W LEG:TIME ..",
+    "simulate": "simulate STUDENT E LEG ..",
+    "compare": "compare CEILING BUDGET SWEEPS/STEP ..",
     "open": "open CEILING SWEEPS STEP",
     "run": "run BUDGET",
     "tell": "tell",
@@ -112,6 +115,19 @@ class Script:
         costs = [edge.cost for edge in self.graph.edges]
         return " ".join(["costs", *map(str, costs)]), {"costs": costs}
 
+    def simulate(self, student: str, spread: str, *legs: str) -> Answer:
+        """A round sailed leg by leg."""
+        numbers = [whole_number(word, "leg", UINT64) for word in legs]
+        sailed = simulate(self.graph, numbers, whole_number(student, "student", UINT64), whole_number(spread, "spread", UINT64))
+        line = f"times {listed(sailed.times)} total {sailed.total} state {sailed.state}"
+        return line, {"times": sailed.times, "total": sailed.total, "state": sailed.state}
+
+    def compare(self, ceiling: str, budget: str, *pairs: str) -> Answer:
+        """A hunt for each pair of sweeps and step."""
+        read = [pair(word) for word in pairs]
+        counts = compare(self.graph, whole_number(ceiling, "ceiling", INT64), whole_number(budget, "budget", UINT64), read, self.dues)
+        return f"nodes {listed(counts)}", {"nodes": counts}
+
     def open(self, ceiling: str, sweeps: str, step: str) -> Answer:
         """An opening."""
         number = whole_number(ceiling, "ceiling", INT64)
@@ -182,6 +198,14 @@ def taken(words: list[str], allowed: str) -> list[str]:
     if not least <= len(words) <= most:
         raise Faults(f"too {'few' if len(words) < least else 'many'} words; allowed is {allowed}")
     return words
+
+
+def pair(word: str) -> tuple[int, int]:
+    """Sweeps and step, as the line 'compare' has them."""
+    sweeps, slash, step = word.partition("/")
+    if not slash:
+        raise Faults(f"'{shown(word)}' is no pair; allowed is SWEEPS/STEP")
+    return whole_number(sweeps, "sweeps", UINT32), whole_number(step, "step", UINT32)
 
 
 def leg(word: str) -> Edge:

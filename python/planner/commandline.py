@@ -10,12 +10,14 @@ from pathlib import Path
 from typing import Any, NamedTuple, NoReturn
 
 from . import formats
+from .calls import pair
 from .faults import Faults, shown, whole_number
-from .library import INT32, INT64, UINT32, UINT64, WINDOWS
+from .library import HIGHEST_TOUR, INT32, INT64, UINT32, UINT64, WINDOWS
 from .output import OutputLost, complain, say, silence
 from .search import LONG
 from .subcommands import (
-    LOST, WRONG, on_graph, run_calls, run_convert, run_draw, run_page, run_preview, run_recent, run_regrade, run_rule, run_solve, run_tree,
+    LOST, WRONG, on_graph, run_calls, run_compare, run_convert, run_draw, run_page, run_preview, run_recent, run_regrade, run_rule, run_simulate,
+    run_solve, run_tree,
 )  # fmt: skip
 
 ABOUT = "The cheapest round of a sea of 3 to 20 buoys, every answer by proved calls of the library. docs/USING.md walks through all of it."
@@ -54,6 +56,20 @@ def mark(word: str) -> int:
     return {"required": 1, "struck": 2}.get(word) or number_of("mark", UINT32)(word)
 
 
+def legs(text: str) -> list[int]:
+    """Legs of the command line: 1,4,6,3."""
+    read = number_of("leg", UINT64)
+    return [read(word) for word in text.replace(",", " ").split()]
+
+
+def pairs(text: str) -> list[tuple[int, int]]:
+    """Pairs of the command line: 0/0,15/10."""
+    try:
+        return [pair(word) for word in text.replace(",", " ").split()]
+    except Faults as fault:
+        raise argparse.ArgumentTypeError(str(fault)) from None
+
+
 def dues(text: str) -> list[int]:
     """Dues of the command line: 0,0,1,-1."""
     read = number_of("due", INT32)
@@ -75,6 +91,9 @@ CEILING = {"metavar": "C", "type": number_of("ceiling", INT64)}
 MOST = {"metavar": "N", "type": number_of("nodes", UINT64), "default": LONG, "help": f"open at most so many nodes in one search ({LONG})"}
 DUES = {"--dues": {"metavar": "D,D,..", "type": dues, "help": "a due for each buoy, the first 0; zeros if not said"}}
 JSON = {"--json": {"action": "store_true", "help": "print one JSON object a line"}}
+
+PAIRS_SAID = "0/0,1/1,2/1,5/2,15/1,15/10"
+PAIRS = pairs(PAIRS_SAID)
 
 COMMANDS = (
     Command(
@@ -116,6 +135,26 @@ COMMANDS = (
             "--to": {"choices": formats.FORMS, "help": "the form, whatever the name"}, **JSON,
         },
         "recent examples/four.txt examples/season.csv --last 2",
+    ),
+    Command(
+        "simulate", on_graph(run_simulate), "sail a round leg by leg, with a student's own delays",
+        {
+            **FILE, "--round": {"metavar": "L,L,..", "type": legs, "required": True, "help": "its legs in sailing order from buoy 1"},
+            "--student": {"metavar": "S", "type": number_of("student", UINT64), "required": True, "help": "the student's number, 0 to 65,535"},
+            "--spread": {"metavar": "E", "type": number_of("spread", UINT64), "required": True, "help": "delays are -E to E minutes, E 0 to 1,000"},
+            **JSON,
+        },
+        "simulate examples/four.txt --round 1,4,6,3 --student 0 --spread 2",
+    ),
+    Command(
+        "compare", on_graph(run_compare), "how many nodes a hunt opens with each of some settings",
+        {
+            **FILE, "--pairs": {"metavar": "S/P,..", "type": pairs, "default": PAIRS, "help": f"sweeps and step, 1 to 16 pairs ({PAIRS_SAID})"},
+            "--ceiling": {**CEILING, "default": HIGHEST_TOUR, "help": "only rounds that cost at most this"},
+            "--allowance": {"metavar": "N", "type": number_of("allowance", UINT64), "default": 10_000, "help": "nodes for each pair (10,000)"},
+            **DUES, **JSON,
+        },
+        "compare examples/four.txt --ceiling 12",
     ),
     Command(
         "regrade", run_regrade, "hold the recorded costs of a folder of charts to the library",

@@ -14,7 +14,7 @@ from dataclasses import dataclass, field
 from functools import cache, cached_property
 from operator import index
 from pathlib import Path
-from typing import NamedTuple
+from typing import NamedTuple, TypeVar
 
 from .faults import Faults, span
 
@@ -60,6 +60,8 @@ MEANINGS = {
     24: "the record fails its check",
     30: "no such leg, or a new mark that is not 1 or 2",
     31: "the leg is not free",
+    36: "the legs are not a round of all buoys in sailing order from buoy 1",
+    37: "the student number or the spread is out of range",
     38: "the number of last times not 1 to 32",
     39: "a log entry that names no leg, or a time outside the cost range",
 }
@@ -96,6 +98,14 @@ class CSettings(ctypes.Structure):
     _fields_ = [("ceiling", c_int64), ("sweeps", c_uint32), ("step", c_uint32)]
 
 
+class CSailed(ctypes.Structure):
+    _fields_ = [("number", c_uint32), ("place", c_uint64), ("total", c_int64), ("state", c_uint64)]
+
+
+class CTerms(ctypes.Structure):
+    _fields_ = [("ceiling", c_int64), ("budget", c_uint64)]
+
+
 class CSearch(ctypes.Structure):
     _fields_ = [
         ("settings", CSettings),
@@ -111,11 +121,14 @@ class CSearch(ctypes.Structure):
     ]
 
 
-for struct, size in ((CSaid, 32), (CGraph, 1_332), (CSettings, 16), (CSearch, 5_824)):
+Said = TypeVar("Said", CSaid, CSailed)
+
+for struct, size in ((CSaid, 32), (CGraph, 1_332), (CSettings, 16), (CSailed, 32), (CTerms, 16), (CSearch, 5_824)):
     assert ctypes.sizeof(struct) == size, f"{struct.__name__} is not as the library has it"
 
 _BYTES, _RECORD = POINTER(c_uint8), POINTER(CSearch)
 _DUES = (POINTER(c_int32), c_size_t)
+_PAIR = (POINTER(c_uint32), c_size_t)
 _CALLS = {
     "planner_check": (CSaid, (CGraph,)),
     "planner_read": (CSaid, (POINTER(CGraph), _BYTES, c_size_t)),
@@ -124,6 +137,8 @@ _CALLS = {
     "planner_preview": (CSaid, (CGraph, *_DUES, c_size_t, c_uint32, _BYTES, c_size_t)),
     "planner_rule": (CSaid, (CGraph, *_DUES, c_int64, _BYTES, c_size_t)),
     "planner_recent": (CSaid, (POINTER(CGraph), c_size_t, POINTER(c_size_t), c_size_t, POINTER(c_int32), c_size_t)),
+    "planner_simulate": (CSailed, (CGraph, POINTER(c_size_t), c_size_t, c_uint64, c_uint64, POINTER(c_int64), c_size_t)),
+    "planner_compare": (CSaid, (CGraph, *_DUES, CTerms, *_PAIR, *_PAIR, POINTER(c_uint64), c_size_t)),
     "planner_fresh": (CSearch, ()),
     "planner_open": (CSaid, (_RECORD, CGraph, *_DUES, CSettings)),
     "planner_run": (CSaid, (_RECORD, c_uint64)),
@@ -169,7 +184,7 @@ def library() -> ctypes.CDLL:
     return loaded
 
 
-def _accepted(said: CSaid) -> CSaid:
+def _accepted(said: Said) -> Said:
     """What was said, where that is no refusal."""
     if 0 < said.number < NONE:
         raise Refused(said.number, said.place)
@@ -331,6 +346,40 @@ def recent_costs(graph: Graph, last: int, edges: Iterable[int], times: Iterable[
     made = CGraph.from_buffer_copy(graph.c)
     _accepted(library().planner_recent(made, _fits(last, UINT64, "number of last times"), lent, len(legs), lent_times, len(lasted)))
     return graph.recosted(made.cost[: graph.m])
+
+
+# Simulated sailings
+
+
+class Sailing(NamedTuple):
+    """A simulated sailing: each leg's time in sailing order, their total, and the last state."""
+
+    times: tuple[int, ...]
+    total: int
+    state: int
+
+
+def simulate(graph: Graph, edges: Sequence[int], student: int, spread: int) -> Sailing:
+    """A tour sailed edge by edge: its edges in sailing order from vertex 1."""
+    legs = (c_size_t * max(1, len(edges)))(*(_fits(edge, UINT64, "leg") for edge in edges))
+    times = (c_int64 * max(1, graph.n))()
+    student, spread = _fits(student, UINT64, "student"), _fits(spread, UINT64, "spread")
+    said = _accepted(library().planner_simulate(graph.c, legs, len(edges), student, spread, times, graph.n))
+    return Sailing(tuple(times[: graph.n]), said.total, said.state)
+
+
+def compare(
+    graph: Graph, ceiling: int, budget: int, pairs: Sequence[tuple[int, int]], multipliers: Sequence[int] | None = None
+) -> tuple[int, ...]:
+    """For each pair of sweeps and step the count with which a search finishes, or 0 if it is still going on after the whole budget."""
+    lent, count = _multipliers(graph, multipliers)
+    size, room = len(pairs), max(1, len(pairs))
+    sweeps = (c_uint32 * room)(*(_fits(pair[0], UINT32, "sweeps") for pair in pairs))
+    steps = (c_uint32 * room)(*(_fits(pair[1], UINT32, "step") for pair in pairs))
+    report = (c_uint64 * room)()
+    terms = CTerms(_fits(ceiling, INT64, "ceiling"), _fits(budget, UINT64, "budget"))
+    _accepted(library().planner_compare(graph.c, lent, count, terms, sweeps, size, steps, size, report, size))
+    return tuple(report[:size])
 
 
 # Searches

@@ -13,7 +13,7 @@ from .calls import run_script
 from .ceilings import falling
 from .drawing import Drawing
 from .faults import Faults
-from .library import FREE, RULINGS, Graph, Refused, Tree, preview, recent_costs, rule, tree
+from .library import FREE, RULINGS, Graph, Refused, Tree, compare, preview, recent_costs, rule, simulate, tree
 from .logs import read_log
 from .output import Progress, complain, listed, say, write_file
 from .page import Page
@@ -184,6 +184,29 @@ def rule_at(arguments: argparse.Namespace, name: str, graph: Graph) -> int:
     else:
         say("dead")
     return ANSWERED if found else NEGATIVE
+
+
+def run_simulate(arguments: argparse.Namespace, name: str, graph: Graph) -> int:
+    """planner simulate"""
+    sailed = simulate(graph, arguments.round, arguments.student, arguments.spread)
+    if arguments.json:
+        say_json(file=name, legs=arguments.round, times=sailed.times, total=sailed.total, state=sailed.state)
+        return ANSWERED
+    legs = ((number, graph.edges[number - 1], time) for number, time in zip(arguments.round, sailed.times))
+    lines = [f"{number} {leg.a}-{leg.b} cost {leg.cost} delay {time - leg.cost} time {time}" for number, leg, time in legs]
+    say("\n".join([*lines, f"total {sailed.total}", f"state {sailed.state}"]))
+    return ANSWERED
+
+
+def run_compare(arguments: argparse.Namespace, name: str, graph: Graph) -> int:
+    """planner compare"""
+    counts = compare(graph, arguments.ceiling, arguments.allowance, arguments.pairs, arguments.dues)
+    rows = [(sweeps, step, count) for (sweeps, step), count in zip(arguments.pairs, counts)]
+    if arguments.json:
+        say_json(file=name, pairs=[{"sweeps": sweeps, "step": step, "nodes": count} for sweeps, step, count in rows])
+    else:
+        say("\n".join(["sweeps  step  nodes", *(f"{sweeps:6} {step:5}  {count or 'going on'}" for sweeps, step, count in rows)]))
+    return ANSWERED if all(counts) else UNDECIDED
 
 
 def not_over_input(out: str, read: str) -> None:

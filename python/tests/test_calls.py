@@ -106,6 +106,12 @@ open 20 0 0 > accepted
 run 1000 > finished nodes 9
 tell > cost 8 nodes 9
 close > accepted
+{FOUR}
+# A round sailed, and settings compared.
+simulate 0 2 1 4 6 3 > times 2 1 2 7 total 12 state 2868466484
+simulate 0 0 3 6 4 1 > times 5 1 2 4 total 12 state 2868466484
+compare 12 5 0/0 0/10000 2/1 15/1 15/10 > nodes 5 5 1 1 1
+compare 16 5 0/0 0/10000 2/1 15/1 15/10 > nodes 0 0 1 1 5
 
 # Marks as letters and as bytes.
 sea 4 1-2:4m0 1-3:3s 1-4:5m1 2-3:-2r 2-4:6 3-4:1m2
@@ -200,6 +206,29 @@ preview 6 1 > refused 31 at 0
 preview 2 1 > no tree
 sea 4 2-1:5
 preview 1 1 > refused 15 at 0
+simulate 65536 1001 1 > refused 15 at 0
+compare 50000001 5 > refused 15 at 0
+{FOUR}
+
+# Of a sailing: 15, 11, then 36, then 37; of a comparison 15, 11, 12, 13, 14.
+simulate 65536 2 4 6 3 > refused 11 at 0
+simulate 65536 2 > refused 11 at 0
+simulate 65536 2 4 6 3 1 > refused 36 at 0
+simulate 0 2 1 4 6 6 > refused 36 at 0
+simulate 0 2 1 6 4 3 > refused 36 at 0
+simulate 0 2 1 4 6 259 > refused 36 at 0
+simulate 0 2 18446744073709551615 4 6 3 > refused 36 at 0
+simulate 65536 2 1 4 6 3 > refused 37 at 0
+simulate 0 1001 1 4 6 3 > refused 37 at 0
+simulate 4294967296 2 1 4 6 3 > refused 37 at 0
+compare 50000001 5 > refused 11 at 0
+compare 12 5 0/0 0/0 0/0 0/0 0/0 0/0 0/0 0/0 0/0 0/0 0/0 0/0 0/0 0/0 0/0 0/0 0/0 > refused 11 at 0
+compare 5000000001 5 0/0 16/0 > refused 13 at 0
+compare 12 5 0/0 0/10001 > refused 14 at 0
+dues 0 0 0
+compare 5000000001 5 16/0 > refused 11 at 0
+dues 1 0 0 0
+compare 5000000001 5 16/0 > refused 12 at 0
 {FOUR}
 
 # Of a log: 15, 38, then 39 with the place of the first bad entry; the chart stays.
@@ -291,7 +320,7 @@ class Scripts(unittest.TestCase):
 
     def test_lines_that_cannot_be_read(self):
         """Each says its line on standard error; the script goes on, settings as they were; the status is 2."""
-        names = "allowed are sea, chart, dues, list, tree, preview, rule, recent, open, run, tell, show, close"
+        names = "allowed are sea, chart, dues, list, tree, preview, rule, recent, simulate, compare, open, run, tell, show, close"
         wide = "allowed is -9223372036854775808 to 9223372036854775807"
         no_leg = "is no leg; allowed is A-B:COST, with r, s or mK behind it"
         wrong = (
@@ -313,7 +342,9 @@ class Scripts(unittest.TestCase):
             ("denominator 2", f"'denominator' is unknown; {names}"),
             ("TREE", f"'TREE' is unknown; {names}"),
             ("ashore 0 0 0 1", f"'ashore' is unknown; {names}"),
-            ("simulate 0 2 1 4 6 3", f"'simulate' is unknown; {names}"),
+            ("simulate 0", "too few words; allowed is simulate STUDENT E LEG .."),
+            ("compare 12", "too few words; allowed is compare CEILING BUDGET SWEEPS/STEP .."),
+            ("compare 12 5 3", "'3' is no pair; allowed is SWEEPS/STEP"),
             ("turn 1", f"'turn' is unknown; {names}"),
             ("tellat 1", f"'tellat' is unknown; {names}"),
             ("settings", f"'settings' is unknown; {names}"),

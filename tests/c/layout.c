@@ -29,6 +29,14 @@ CLAIM(sizeof(planner_settings) == 16);
 AT(planner_settings, ceiling, 0);
 AT(planner_settings, sweeps, 8);
 AT(planner_settings, step, 12);
+CLAIM(sizeof(planner_sailed) == 32);
+AT(planner_sailed, number, 0);
+AT(planner_sailed, place, 8);
+AT(planner_sailed, total, 16);
+AT(planner_sailed, state, 24);
+CLAIM(sizeof(planner_terms) == 16);
+AT(planner_terms, ceiling, 0);
+AT(planner_terms, budget, 8);
 
 CLAIM(sizeof(planner_search) == 5824);
 AT(planner_search, settings, 0);

@@ -311,3 +311,53 @@ pub const ENTRIES_BEFORE_WINDOW: Bend = Bend {
     what: "39 comes before 38",
     bend: |law| law.window_before_entries = false,
 };
+
+pub const HIGHER_STUDENT: Bend = Bend {
+    what: "student 65,536 is taken",
+    bend: |law| law.max_student += 1,
+};
+
+pub const HIGHER_SPREAD: Bend = Bend {
+    what: "e of 1,001 is taken",
+    bend: |law| law.max_spread += 1,
+};
+
+pub const SET_OF_LEGS: Bend = Bend {
+    what: "36 looks at the set of legs",
+    bend: |law| law.in_sailing_order = false,
+};
+
+pub const BUOY_MET_TWICE: Bend = Bend {
+    what: "36 lets a buoy be met twice",
+    bend: |law| law.each_buoy_once = false,
+};
+
+pub const NUMBERS_BEFORE_ORDER: Bend = Bend {
+    what: "37 comes before 36",
+    bend: |law| law.order_before_numbers = false,
+};
+
+pub const REMAINDER_FIRST: Bend = Bend {
+    what: "the remainder is taken before the division",
+    bend: |law| law.divided_first = false,
+};
+
+pub const TWO_E: Bend = Bend {
+    what: "the remainder is by 2e",
+    bend: |law| law.delays_beside_pairs = 0,
+};
+
+pub const DELAY_BEFORE_STEP: Bend = Bend {
+    what: "the delay is drawn before the step",
+    bend: |law| law.step_first = false,
+};
+
+pub const MORE_PAIRS: Bend = Bend {
+    what: "17 pairs are taken",
+    bend: |law| law.max_pairs += 1,
+};
+
+pub const ONE_BUDGET: Bend = Bend {
+    what: "all pairs share one allowance",
+    bend: |law| law.budget_each = false,
+};

@@ -17,7 +17,7 @@
 
 pub mod raw;
 
-pub use raw::{Graph, Record, Settings};
+pub use raw::{Graph, Record, Settings, Terms};
 
 use raw::{Said, EDGES};
 use std::fmt;
@@ -55,6 +55,8 @@ impl Refusal {
             24 => "the record fails its own check",
             30 => "a preview of no edge, or of a mark that is not 1 or 2",
             31 => "a preview of an edge that is not free",
+            36 => "edges that are not a tour of all vertices in sailing order from vertex 1",
+            37 => "a student number or a spread out of range",
             38 => "a window that is not 1 to 32",
             39 => "a log entry that names no edge, or a time out of the cost range",
             _ => "a number that documents 01 and 02 do not have",
@@ -278,6 +280,79 @@ pub fn preview(
         )
     };
     Tree::of(said, &out)
+}
+
+/// A simulated sailing.
+#[derive(Clone, PartialEq, Eq, Debug)]
+pub struct Sailing {
+    /// of each edge, in sailing order
+    pub times: Vec<i64>,
+    pub total: i64,
+    /// the state after the last edge
+    pub state: u64,
+}
+
+/// A tour sailed edge by edge: its n edges in sailing order from vertex 1, numbered from 1; 15, 11, 36, 37.
+pub fn simulate(
+    graph: &Graph,
+    edges: &[usize],
+    student: u64,
+    spread: u64,
+) -> Result<Sailing, Refusal> {
+    let mut times = vec![0; usize::from(graph.n)];
+    // SAFETY: the pointers lead to as many numbers as the call is told, and the lists do not overlap.
+    let said = unsafe {
+        raw::planner_simulate(
+            *graph,
+            edges.as_ptr(),
+            edges.len(),
+            student,
+            spread,
+            times.as_mut_ptr(),
+            times.len(),
+        )
+    };
+    match said.number {
+        raw::ACCEPTED => Ok(Sailing {
+            times,
+            total: said.total,
+            state: said.state,
+        }),
+        number => Err(Refusal {
+            number,
+            place: said.place,
+        }),
+    }
+}
+
+/// A search for each pair of sweeps and step, 1 to 16 of them, each with the whole budget: the count of nodes with which it finishes, or none
+/// if it is still going on; 15, 11, 12, 13, 14.
+pub fn compare(
+    graph: &Graph,
+    multipliers: &[i32],
+    terms: Terms,
+    pairs: &[(u32, u32)],
+) -> Result<Vec<Option<u64>>, Refusal> {
+    let sweeps: Vec<u32> = pairs.iter().map(|pair| pair.0).collect();
+    let steps: Vec<u32> = pairs.iter().map(|pair| pair.1).collect();
+    let mut report = vec![0; pairs.len()];
+    // SAFETY: as in `simulate`.
+    let said = unsafe {
+        raw::planner_compare(
+            *graph,
+            multipliers.as_ptr(),
+            multipliers.len(),
+            terms,
+            sweeps.as_ptr(),
+            sweeps.len(),
+            steps.as_ptr(),
+            steps.len(),
+            report.as_mut_ptr(),
+            report.len(),
+        )
+    };
+    said.accepted()?;
+    Ok(report.into_iter().map(|k| (k != 0).then_some(k)).collect())
 }
 
 /// What a ceiling rules for each edge, under n multipliers; 15, 11, 12, 13.

@@ -9,6 +9,12 @@ pub const EDGES: usize = 190;
 pub const NODES: usize = VERTICES + 2;
 /// The most times of an edge that its recent cost looks at.
 pub const WINDOW: usize = 32;
+/// The most pairs of a comparison.
+pub const PAIRS: usize = 16;
+/// The greatest student number.
+pub const STUDENT: u64 = 65_535;
+/// The greatest spread of delays.
+pub const SPREAD: u64 = 1_000;
 
 /// A call is accepted. No refusal has this number or one of those below.
 pub const ACCEPTED: u32 = 0;
@@ -55,6 +61,24 @@ pub struct Settings {
     pub step: u32,
 }
 
+/// What a simulation answers. A field without a value is 0.
+#[repr(C)]
+#[derive(Clone, Copy, PartialEq, Eq, Debug)]
+pub struct Sailed {
+    pub number: u32,
+    pub place: u64,
+    pub total: i64,
+    pub state: u64,
+}
+
+/// What every search of a comparison has alike.
+#[repr(C)]
+#[derive(Clone, Copy, PartialEq, Eq, Debug)]
+pub struct Terms {
+    pub ceiling: i64,
+    pub budget: u64,
+}
+
 /// The record that the calls on a search work on (docs/RECORD.md). With contents that fail its check every call is refused 24.
 #[repr(C)]
 #[derive(Clone, PartialEq, Eq, Debug)]
@@ -82,6 +106,8 @@ macro_rules! layout {
 layout!(Said, 32, number at 0, place at 8, value at 16, nodes at 24);
 layout!(Graph, 1_332, cost at 0, a at 760, b at 950, mark at 1_140, n at 1_330, m at 1_331);
 layout!(Settings, 16, ceiling at 0, sweeps at 8, step at 12);
+layout!(Sailed, 32, number at 0, place at 8, total at 16, state at 24);
+layout!(Terms, 16, ceiling at 0, budget at 8);
 layout!(
     Record, 5_824,
     settings at 0, upper at 16, count at 24, depth at 32, graph at 40, multipliers at 1_372, stack at 1_452, best at 5_632, open at 5_822,
@@ -124,6 +150,27 @@ extern "C" {
         edges_length: usize,
         times: *const i32,
         times_length: usize,
+    ) -> Said;
+    pub fn planner_simulate(
+        g: Graph,
+        edges: *const usize,
+        edges_length: usize,
+        student: u64,
+        spread: u64,
+        times: *mut i64,
+        length: usize,
+    ) -> Sailed;
+    pub fn planner_compare(
+        g: Graph,
+        multipliers: *const i32,
+        multipliers_length: usize,
+        terms: Terms,
+        sweeps: *const u32,
+        sweeps_length: usize,
+        steps: *const u32,
+        steps_length: usize,
+        report: *mut u64,
+        length: usize,
     ) -> Said;
     pub fn planner_fresh() -> Record;
     pub fn planner_open(

@@ -29,7 +29,7 @@ const OWN: usize = 128 * 1024;
 const STACK_RUNS: u64 = 3_000;
 
 /// The calls that the library exports.
-const CALLS: usize = 13;
+const CALLS: usize = 15;
 
 /// What to do, as the command line says it.
 #[derive(Clone)]

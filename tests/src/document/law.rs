@@ -98,6 +98,26 @@ pub struct Law {
     pub first_entry: usize,
     /// C-22: 38, "then 39"
     pub window_before_entries: bool,
+    /// C-21: "A student number, 0 to 65,535"
+    pub max_student: u64,
+    /// C-21: "e is 0 to 1,000"
+    pub max_spread: u64,
+    /// C-21: "a round .. in sailing order", not a set of legs
+    pub in_sailing_order: bool,
+    /// C-21: "of all the chart's buoys": each is come to once
+    pub each_buoy_once: bool,
+    /// C-21: 37 comes after 36
+    pub order_before_numbers: bool,
+    /// C-21: "s divided by 65,536, rounded down", and then the remainder
+    pub divided_first: bool,
+    /// C-21: "by 2e + 1"
+    pub delays_beside_pairs: u64,
+    /// C-21: "each leg first makes s .."
+    pub step_first: bool,
+    /// C-21: "up to 16 pairs"
+    pub max_pairs: usize,
+    /// C-21: "an allowance that each pair has in full"
+    pub budget_each: bool,
 
     /// "sweeps (0 to 15)"
     pub max_sweeps: u32,
@@ -173,6 +193,16 @@ impl Law {
         chart_is_no_time: true,
         first_entry: 1,
         window_before_entries: true,
+        max_student: 65_535,
+        max_spread: 1_000,
+        in_sailing_order: true,
+        each_buoy_once: true,
+        order_before_numbers: true,
+        divided_first: true,
+        delays_beside_pairs: 1,
+        step_first: true,
+        max_pairs: 16,
+        budget_each: true,
         max_sweeps: 15,
         max_step: 10_000,
         below_tour: 1,

@@ -10,6 +10,7 @@ pub mod machine;
 pub mod programs;
 pub mod recent;
 pub mod rulings;
+pub mod sailing;
 pub mod tours;
 pub mod tree;
 

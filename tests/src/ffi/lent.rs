@@ -46,9 +46,9 @@ impl Lent {
         Lent::holding(&bytes)
     }
 
-    /// Leg numbers, as they lie in memory.
-    pub fn words(words: &[usize]) -> Lent {
-        let bytes: Vec<u8> = words.iter().flat_map(|x| x.to_ne_bytes()).collect();
+    /// Wider numbers, each as its bytes in memory.
+    pub fn words<const N: usize>(words: impl IntoIterator<Item = [u8; N]>) -> Lent {
+        let bytes: Vec<u8> = words.into_iter().flatten().collect();
         Lent::holding(&bytes)
     }
 

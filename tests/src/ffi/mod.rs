@@ -10,6 +10,7 @@ use lent::Lent;
 use planner::raw::{self, planner_check, planner_read, planner_recent, planner_write, Said};
 
 pub mod lent;
+pub mod sailings;
 pub mod searches;
 pub mod trees;
 
@@ -104,7 +105,8 @@ pub struct RecentReply {
 /// The costs that a log makes.
 pub fn recent(graph: &Graph, log: &Log) -> RecentReply {
     let mut lent = Lent::holding(&graph_bytes(graph));
-    let (mut legs, mut times) = (Lent::words(&log.legs), Lent::numbers(&log.times));
+    let sent = || Lent::words(log.legs.iter().map(|leg| leg.to_ne_bytes()));
+    let (mut legs, mut times) = (sent(), Lent::numbers(&log.times));
     let (g, l, t) = (lent.pointer(), legs.pointer(), times.pointer());
     let said = call!(planner_recent(
         g,
@@ -114,7 +116,7 @@ pub fn recent(graph: &Graph, log: &Log) -> RecentReply {
         t,
         log.times.len()
     ));
-    let read = legs.kept(&Lent::words(&log.legs)) && times.kept(&Lent::numbers(&log.times));
+    let read = legs.kept(&sent()) && times.kept(&Lent::numbers(&log.times));
     RecentReply {
         said,
         graph: graph_of(lent.body()),

@@ -7,12 +7,13 @@ use crate::document::chart;
 use crate::document::graph::Graph;
 use crate::document::law::Law;
 use crate::document::tree::Method;
+use crate::ffi::sailings::{self, ComparedReply, SailedReply};
 use crate::ffi::{self, trees, ReadReply, RecentReply, Reply};
 use crate::generate;
 use crate::random::Random;
 use crate::report::{hex, Outcome};
 use crate::suites::rule::{arguments, Arguments};
-use crate::suites::{check, preview, read, recent, rule, tree, write};
+use crate::suites::{check, compare, preview, read, recent, rule, simulate, tree, write};
 
 pub const FILES: Kind = Kind {
     name: "files",
@@ -47,6 +48,10 @@ pub const VALUES: Kind = Kind {
         bends::ENTRIES_FROM_ZERO,
         bends::ENTRIES_BEFORE_WINDOW,
         bends::WINDOW_ALWAYS_32,
+        bends::SET_OF_LEGS,
+        bends::NUMBERS_BEFORE_ORDER,
+        bends::DELAY_BEFORE_STEP,
+        bends::ONE_BUDGET,
     ],
 };
 
@@ -57,6 +62,18 @@ impl Numbered for Reply {
 }
 
 impl Numbered for RecentReply {
+    fn number(&self) -> Option<u32> {
+        Some(self.said.number)
+    }
+}
+
+impl Numbered for SailedReply {
+    fn number(&self) -> Option<u32> {
+        Some(self.said.number)
+    }
+}
+
+impl Numbered for ComparedReply {
     fn number(&self) -> Option<u32> {
         Some(self.said.number)
     }
@@ -124,7 +141,8 @@ fn values(random: &mut Random, watch: &mut Watch) -> Outcome {
     watch.compare("rule", input, expected, || {
         trees::rule(graph, multipliers, *ceiling, *length)
     })?;
-    logs(random, watch, graph)
+    logs(random, watch, graph)?;
+    sailings(random, watch)
 }
 
 /// A log on a graph value, whatever it holds.
@@ -137,6 +155,25 @@ fn logs(random: &mut Random, watch: &mut Watch, graph: &Graph) -> Outcome {
     let input = || format!("{graph:?}, {log:?}");
     let expected = recent::expected(watch.law, graph, &log);
     watch.compare("recent", input, expected, || ffi::recent(graph, &log))
+}
+
+/// A simulated sailing, and now and then a comparison.
+fn sailings(random: &mut Random, watch: &mut Watch) -> Outcome {
+    let wrong = random.one_in(2);
+    let (graph, asked) = simulate::asked(random, wrong);
+    let input = || format!("{graph:?}, {asked:?}");
+    let expected = simulate::expected(watch.law, &graph, &asked);
+    watch.compare("simulate", input, expected, || {
+        sailings::simulate(&graph, &asked)
+    })?;
+    if !random.one_in(4) {
+        return Ok(());
+    }
+    let wrong = random.one_in(2);
+    let trial = compare::trial(random, wrong);
+    let input = || format!("{trial:?}");
+    let expected = compare::expected(watch.law, &trial);
+    watch.compare("compare", input, expected, || sailings::compare(&trial))
 }
 
 /// The ends of every type, any contents at all, and lists that are wrong by one, empty or far too long.

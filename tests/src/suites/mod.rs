@@ -13,6 +13,8 @@ pub mod searches;
 #[cfg(feature = "library")]
 pub mod check;
 #[cfg(feature = "library")]
+pub mod compare;
+#[cfg(feature = "library")]
 pub mod damage;
 #[cfg(feature = "library")]
 pub mod falling_ceilings;
@@ -36,6 +38,8 @@ pub mod records;
 pub mod round_trips;
 #[cfg(feature = "library")]
 pub mod rule;
+#[cfg(feature = "library")]
+pub mod simulate;
 #[cfg(feature = "library")]
 pub mod tree;
 #[cfg(feature = "library")]
@@ -72,6 +76,10 @@ pub fn all() -> Vec<Suite> {
         falling_ceilings::SUITE,
         #[cfg(feature = "library")]
         recent::SUITE,
+        #[cfg(feature = "library")]
+        simulate::SUITE,
+        #[cfg(feature = "library")]
+        compare::SUITE,
         #[cfg(feature = "library")]
         records::SUITE,
         #[cfg(feature = "library")]

@@ -2,6 +2,7 @@
 
 use super::recent::{break_log, log};
 use super::rule::{arguments, Arguments};
+use super::{compare, simulate};
 use crate::bends;
 use crate::chart_cases::every_file;
 use crate::document::graph::{self, Graph, FREE, PLACES, REQUIRED};
@@ -10,13 +11,15 @@ use crate::document::machine::{self, Answer, Call, Machine};
 use crate::document::recent;
 use crate::document::rulings::{self, BAR, FORCE, KEEP};
 use crate::document::tree::{self, Method};
-use crate::document::{chart, Refusal};
+use crate::document::{chart, sailing, Refusal};
 use crate::ffi::by_value;
 use crate::generate;
 use crate::random::Random;
 use crate::record::{Record, SIZE};
 use crate::report::{hex, Outcome, Suite, Tally};
-use planner::{Edge, Mark, Progress, Ruled, Ruling, Search, Settings, Told, Tree, Verdict};
+use planner::{
+    Edge, Mark, Progress, Ruled, Ruling, Sailing, Search, Settings, Terms, Told, Tree, Verdict,
+};
 
 pub const SUITE: Suite = Suite {
     name: "wrapper",
@@ -40,8 +43,9 @@ fn run(law: &Law, tally: &mut Tally) -> Outcome {
     for round in 0..4_000 {
         trees(law, tally, random, round % 3 == 2)?;
     }
-    for _ in 0..2_000 {
+    for round in 0..2_000 {
         searches(law, tally, random)?;
+        sailings(law, tally, random, round % 3 == 2)?;
     }
     let random = &mut Random::new(0x6c_6f67_73);
     for _ in 0..3_000 {
@@ -115,6 +119,44 @@ fn ruling(byte: u8) -> Ruling {
         rulings::ALREADY_REQUIRED => Ruling::Required,
         _ => Ruling::Excluded,
     }
+}
+
+/// A simulated sailing and a comparison; the lists that the wrapper lends have the right length.
+fn sailings(law: &Law, tally: &mut Tally, random: &mut Random, wrong: bool) -> Outcome {
+    let (graph, mut asked) = simulate::asked(random, wrong);
+    asked.length = graph.n;
+    let input = || format!("{graph:?}, {asked:?}");
+    let wanted = sailing::simulate(law, &graph, &asked).map_err(refusal);
+    let wanted = wanted.map(|sailed| Sailing {
+        times: sailed.times,
+        total: sailed.total,
+        state: sailed.state,
+    });
+    let got = planner::simulate(&by_value(&graph), &asked.legs, asked.student, asked.spread);
+    tally.compare("simulate", input, &wanted, &got)?;
+    let mut trial = compare::trial(random, wrong);
+    trial.steps.resize(trial.sweeps.len(), 0);
+    trial.length = trial.sweeps.len();
+    let pairs: Vec<(u32, u32)> = trial
+        .sweeps
+        .iter()
+        .copied()
+        .zip(trial.steps.iter().copied())
+        .collect();
+    let terms = Terms {
+        ceiling: trial.ceiling,
+        budget: trial.budget,
+    };
+    let input = || format!("{trial:?}");
+    let wanted = sailing::compare(law, Method::Kruskal, &trial).map_err(refusal);
+    let wanted = wanted.map(|counts| {
+        counts
+            .iter()
+            .map(|k| (*k != 0).then_some(*k))
+            .collect::<Vec<_>>()
+    });
+    let got = planner::compare(&by_value(&trial.graph), &trial.multipliers, terms, &pairs);
+    tally.compare("compare", input, &wanted, &got)
 }
 
 /// What the tree call must answer; its list has the right length.

@@ -11,7 +11,7 @@ use Rattle.graph.specs.Limits.{maxVertices, maxEdges, maxCost, maxMultiplier, m
 use Rattle.graph.specs.Network.{network}
 use Rattle.tree_theory.specs.OneTree.{charge}
 use Rattle.tree_theory.specs.Inputs.{multiplier}
-use Rattle.tree_theory.specs.Bound.{Shifted}
+use Rattle.tree_theory.specs.Optimal.Bound.{Shifted}
 use Rattle.tree_theory.specs.Arrays.{entry, edge-in}
 
 -- a charge is a cost and two multipliers, so this much makes it positive

@@ -23,8 +23,8 @@ use Rattle.graph.specs.Places.{network-a, network-b, network-cost}
 use Rattle.graph.specs.Valid as value
 use Rattle.tree_theory.specs.OneTree.{OneTree, charge, bound}
 use Rattle.tree_theory.specs.Inputs.{multiplier}
-use Rattle.tree_theory.specs.Link.{to-parts}
-use Rattle.tree_theory.specs.Bound.{bound-diff}
+use Rattle.tree_theory.specs.Optimal.Link.{to-parts}
+use Rattle.tree_theory.specs.Optimal.Bound.{bound-diff}
 use Rattle.tree_theory.specs.Arrays.{entry, bytes, network-valid}
 use Rattle.greedy.specs.Charged.{offset, maxCharge, Charged, offs}
 

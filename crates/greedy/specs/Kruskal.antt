@@ -24,9 +24,9 @@ use Rattle.spanning.specs.Kruskal.{rank-all}
 use Rattle.tree_theory.specs.OneTree.{Edges, OneTree, Least}
 use Rattle.tree_theory.specs.Inputs.{multiplier}
 use Rattle.tree_theory.specs.Valid.{isExcluded, isNear, near, far, near-in, far-in}
-use Rattle.tree_theory.specs.Link.{to-parts}
-use Rattle.tree_theory.specs.Weight.{oneWeight}
-use Rattle.tree_theory.specs.Minimum.{Chosen, chosen-least, chosen-weight, chosen-tree, chosen-must, chosen-none}
+use Rattle.tree_theory.specs.Optimal.Link.{to-parts}
+use Rattle.tree_theory.specs.Optimal.Weight.{oneWeight}
+use Rattle.tree_theory.specs.Optimal.Minimum.{Chosen, chosen-least, chosen-weight, chosen-tree, chosen-must, chosen-none}
 use Rattle.tree_theory.specs.Arrays.{entry, bytes, network-n, edge-in, network-valid}
 use Rattle.greedy.specs.Charged.{offset, Charged, offs}
 use Rattle.greedy.specs.Keys.{nearAt, farAt, queued, queued-length}

@@ -22,8 +22,8 @@ use Rattle.graph.specs.Valid as value
 use Rattle.spanning.specs.Choice.{Listing}
 use Rattle.tree_theory.specs.OneTree.{Edges}
 use Rattle.tree_theory.specs.Valid.{isExcluded, needed, isNear, near, far, distinct-near, distinct-far, near-in, far-in, in-near, in-far}
-use Rattle.tree_theory.specs.Weight.{oneWeight, oneWeight-le}
-use Rattle.tree_theory.specs.Minimum.{Order}
+use Rattle.tree_theory.specs.Optimal.Weight.{oneWeight, oneWeight-le}
+use Rattle.tree_theory.specs.Optimal.Minimum.{Order}
 use Rattle.tree_theory.specs.Arrays.{entry, network-m, edge-in, in-edge, needed-at, excluded-at}
 use Rattle.greedy.specs.Sorting.{Ascending}
 use Rattle.greedy.specs.Falling.{Falls, GoesWith, falls-select, falls-distinct, falls-split, falls-desc}

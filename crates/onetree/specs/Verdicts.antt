@@ -20,7 +20,7 @@ use Rattle.tree_theory.specs.OneTree as one
 use Rattle.tree_theory.specs.OneTree.{bound, Barred, Forced}
 use Rattle.tree_theory.specs.Enumeration.{ruling}
 use Rattle.tree_theory.specs.Rulings.{rules-out, rules-in, rules-nothing}
-use Rattle.tree_theory.specs.Criteria.{MaySwap}
+use Rattle.tree_theory.specs.Optimal.Criteria.{MaySwap}
 use Rattle.tree_theory.specs.Inputs.{multiplier}
 use Rattle.onetree.specs.Answers.{rulingByte}
 use Rattle.tree_theory.specs.Arrays.{entry, bytes, edge-of, of-edge, mark-free, network-valid}

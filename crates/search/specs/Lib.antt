@@ -22,9 +22,6 @@ pub mod CheckParts
 pub mod Trimming
 pub mod Begun
 -- a run
-pub mod Costs
-pub mod Frames
-pub mod Running
-pub mod RunCall
+pub mod Runs
 -- the calls, case by case
 pub mod ReplyCases

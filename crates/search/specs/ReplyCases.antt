@@ -25,7 +25,7 @@ use Rattle.search.specs.Record.{fresh, nodes, bits, bestOf, isOpen, hasT
 use Rattle.search.specs.Canonical.{Fits, Stands, Canonical}
 use Rattle.search.specs.Check.{check, check-is}
 use Rattle.search.specs.Incumbents.{byte-back, bits-size, bits-at}
-use Rattle.search.specs.Costs.{cost-bits}
+use Rattle.search.specs.Runs.Costs.{cost-bits}
 use Rattle.search.specs.Inverse.{Typed, encode-decode, decode-kept}
 use Rattle.search.specs.Replies.{said, refuses, reply, lent}
 use Rattle.search.specs.declared.Search.{Search}

@@ -7,7 +7,7 @@ ghost use Rattle.graph.specs.Network.{network};
 ghost use Rattle.graph.specs.Valid.{Valid};
 ghost use Rattle.tree_theory.specs.Arrays.{bytes};
 ghost use Rattle.tours.specs.Tours.{cost};
-ghost use Rattle.search.specs.Costs.{Ticked};
+ghost use Rattle.search.specs.Runs.Costs.{Ticked};
 use graph::Graph;
 use graph::MAX_EDGES;
 

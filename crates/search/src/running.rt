@@ -2,8 +2,8 @@
 // value beside the bytes of the stack and of the best tour, which are lent: nothing copies the record for a node.
 ghost use Rattle.machine.specs.Machine.{Progress, openTop, ran};
 ghost use Rattle.node.specs.Opened.{opened};
-ghost use Rattle.search.specs.Frames.{FrameHolds, Opens};
-ghost use Rattle.search.specs.Running.{Runs};
+ghost use Rattle.search.specs.Runs.Frames.{FrameHolds, Opens};
+ghost use Rattle.search.specs.Runs.Running.{Runs};
 use crate::STACK_SIZE;
 use crate::cost::tour_cost;
 use crate::stack::get;

@@ -20,7 +20,7 @@ use Rattle.spanning.specs.Walks.{Walk, walk-trans, walk-sym, walk-respects, lab
 use Rattle.spanning.specs.Trees.{minus-apart}
 use Rattle.tree_theory.specs.OneTree.{OneTree, away}
 use Rattle.tree_theory.specs.Valid.{isNear, isExcluded, needed, far, far-in, in-far, in-others, distinct-far, far-within, others-in}
-use Rattle.tree_theory.specs.Link.{Parts, to-parts, away-is}
+use Rattle.tree_theory.specs.Optimal.Link.{Parts, to-parts, away-is}
 use Rattle.tree_theory.specs.Arrays.{bytes, edge-of, of-edge, needed-at, excluded-at, network-valid}
 use Rattle.tree_theory.specs.Merges.{Merges}
 use Rattle.swaps.specs.Grid.{cell}

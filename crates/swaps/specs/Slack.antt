@@ -15,10 +15,10 @@ use Rattle.integers.specs.Parts.{IsDiff, up, dn, diff-self, lt-parts}
 use Rattle.graph.specs.Network.{Network}
 use Rattle.tree_theory.specs.OneTree.{Edges, Least, bound, Barred, Forced}
 use Rattle.tree_theory.specs.Valid.{Valid}
-use Rattle.tree_theory.specs.Link.{to-parts}
-use Rattle.tree_theory.specs.Bound.{Shifted, twiceAll, bound-diff}
-use Rattle.tree_theory.specs.Exchange.{barred-in, forced-out}
-use Rattle.tree_theory.specs.Criteria.{MaySwap, SwapAbove, barred-number, forced-number}
+use Rattle.tree_theory.specs.Optimal.Link.{to-parts}
+use Rattle.tree_theory.specs.Optimal.Bound.{Shifted, twiceAll, bound-diff}
+use Rattle.tree_theory.specs.Optimal.Exchange.{barred-in, forced-out}
+use Rattle.tree_theory.specs.Optimal.Criteria.{MaySwap, SwapAbove, barred-number, forced-number}
 
 -- the ceiling is the slack above the bound
 abbrev pub SlackIs : ℤ → ℤ → ℕ → Type 0

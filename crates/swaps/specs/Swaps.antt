@@ -17,8 +17,8 @@ use Rattle.graph.specs.Places.{network-a, network-b}
 use Rattle.graph.specs.Valid as value
 use Rattle.tree_theory.specs.OneTree.{OneTree}
 use Rattle.tree_theory.specs.Valid.{isNear, isExcluded, needed, far, far-in, in-far}
-use Rattle.tree_theory.specs.Link.{Parts, to-parts}
-use Rattle.tree_theory.specs.Criteria.{MaySwap, Apart, Place}
+use Rattle.tree_theory.specs.Optimal.Link.{Parts, to-parts}
+use Rattle.tree_theory.specs.Optimal.Criteria.{MaySwap, Apart, Place}
 use Rattle.tree_theory.specs.Arrays.{bytes, edge-of, of-edge, needed-at, excluded-at, network-valid}
 use Rattle.swaps.specs.Hanging.{Vertex, Child, Splits}
 use Rattle.swaps.specs.Visiting.{Rooting, edgeAt}

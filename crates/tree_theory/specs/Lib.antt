@@ -12,14 +12,9 @@ pub mod Subsets
 pub mod Decide
 pub mod LeastTree
 pub mod Rulings
--- a 1-tree is two edges at vertex 1 and a spanning tree of the others; its bound is a weight; which is least, and which edges change places
+-- a valid network; which 1-tree is least, and which edges change places
 pub mod Valid
-pub mod Link
-pub mod Bound
-pub mod Weight
-pub mod Minimum
-pub mod Exchange
-pub mod Criteria
+pub mod Optimal
 -- at how many edges the loop looks is one number, told by rank
 pub mod Looking
 -- a graph value's arrays and the lists beside it, as code has them

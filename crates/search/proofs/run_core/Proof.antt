@@ -15,9 +15,9 @@ use Rattle.search.specs.Record.{progressOf}
 use Rattle.search.specs.Check.{check}
 use Rattle.search.specs.Inverse.{Typed}
 use Rattle.search.specs.ReplyCases.{reply-24, run-20}
-use Rattle.search.specs.Frames.{holds-mag}
-use Rattle.search.specs.Running.{Runs}
-use Rattle.search.specs.RunCall.{run-starts, run-finished, run-going}
+use Rattle.search.specs.Runs.Frames.{holds-mag}
+use Rattle.search.specs.Runs.Running.{Runs}
+use Rattle.search.specs.Runs.RunCall.{run-starts, run-finished, run-going}
 use Rattle.search.proofs.run_core.Statement.{statement}
 use Rattle.search.proofs.run_core.Tie as tie
 

@@ -13,7 +13,7 @@ use Rattle.integers.specs.Range.{InRange, within-range}
 use Rattle.graph.specs.declared.Graph.{Graph}
 use Rattle.graph.specs.Limits.{maxCost}
 use Rattle.graph.specs.Valid.{Valid}
-use Rattle.search.specs.Costs.{CostTo, Ticked, cost-none, cost-all, ticked}
+use Rattle.search.specs.Runs.Costs.{CostTo, Ticked, cost-none, cost-all, ticked}
 use Rattle.search.proofs.cost.tour_cost.Statement.{statement}
 use Rattle.search.proofs.cost.tour_cost.Tie as tie
 

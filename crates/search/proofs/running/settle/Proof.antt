@@ -16,8 +16,8 @@ use Rattle.graph.specs.Fits.{total-fits}
 use Rattle.machine.specs.Machine.{openNode}
 use Rattle.node.specs.Opened.{Opened}
 use Rattle.node.specs.Refusing.{never-refused}
-use Rattle.search.specs.Frames.{holds-mag, holds-size, holds-valid, top-depth, top-high, top-room, split-room}
-use Rattle.search.specs.Frames.{next-closes, next-finds, next-splits}
+use Rattle.search.specs.Runs.Frames.{holds-mag, holds-size, holds-valid, top-depth, top-high, top-room, split-room}
+use Rattle.search.specs.Runs.Frames.{next-closes, next-finds, next-splits}
 use Rattle.search.proofs.running.settle.Statement.{statement}
 use Rattle.search.proofs.running.settle.Tie as tie
 

@@ -22,8 +22,8 @@ use Rattle.spanning.specs.Exchange.{Traded, trade}
 use Rattle.tree_theory.specs.OneTree.{Edges, OneTree, Least, bound, Barred, Forced}
 use Rattle.tree_theory.specs.Valid.{Valid, isExcluded, needed, isNear, near, far, distinct-near, distinct-far, near-in, far-in}
 use Rattle.tree_theory.specs.Valid.{in-near, in-far, near-not-far}
-use Rattle.tree_theory.specs.Link.{Parts, to-parts, of-parts, in-allowed, out-loose}
-use Rattle.tree_theory.specs.Bound.{Shifted, bound-le, le-bound}
+use Rattle.tree_theory.specs.Optimal.Link.{Parts, to-parts, of-parts, in-allowed, out-loose}
+use Rattle.tree_theory.specs.Optimal.Bound.{Shifted, bound-le, le-bound}
 
 -- ---- b for a in a 1-tree
 

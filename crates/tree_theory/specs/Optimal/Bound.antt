@@ -16,7 +16,7 @@ use Rattle.integers.specs.Parts.{IsDiff, diff-add, diff-neg, diff-self, diff-le
 use Rattle.integers.specs.Sums.{sumZ, sum-diff}
 use Rattle.graph.specs.Network.{Network}
 use Rattle.tree_theory.specs.OneTree.{Edges, charge, bound}
-use Rattle.tree_theory.specs.Link.{Parts, number}
+use Rattle.tree_theory.specs.Optimal.Link.{Parts, number}
 
 -- c k − K is the charge of each edge k
 abbrev pub Shifted : Network → (ℕ → ℤ) → ℕ → (ℕ → ℕ) → Type 0

@@ -23,9 +23,9 @@ use Rattle.spanning.specs.Trees.{Tree}
 use Rattle.spanning.specs.Kruskal.{rank-all, greedy-tree, kruskal}
 use Rattle.tree_theory.specs.OneTree.{Edges, OneTree, Least, lacksFirst}
 use Rattle.tree_theory.specs.Valid.{Valid, required-not, isExcluded, needed, isNear, near, far, near-in, far-in, in-near, in-far}
-use Rattle.tree_theory.specs.Link.{Parts, to-parts, of-parts, weigh}
-use Rattle.tree_theory.specs.Bound.{Shifted, bound-le, bound-eq}
-use Rattle.tree_theory.specs.Weight.{oneWeight, oneWeight-least}
+use Rattle.tree_theory.specs.Optimal.Link.{Parts, to-parts, of-parts, weigh}
+use Rattle.tree_theory.specs.Optimal.Bound.{Shifted, bound-le, bound-eq}
+use Rattle.tree_theory.specs.Optimal.Weight.{oneWeight, oneWeight-least}
 
 -- how a list of edges is looked at: the required ones rs first, then the others fs by weight; what is looked at first stands last
 pub record Order (g : Network) (w : ℕ → ℕ) (all fs rs : List ℕ) : Type 0 where

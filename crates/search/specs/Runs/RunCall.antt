@@ -22,8 +22,8 @@ use Rattle.search.specs.Check.{check, check-is}
 use Rattle.search.specs.Inverse.{Typed, encode-decode}
 use Rattle.search.specs.Replies.{said, reply}
 use Rattle.search.specs.ReplyCases.{opened, kept}
-use Rattle.search.specs.Frames.{frameOf, holds-depth, holds-count}
-use Rattle.search.specs.Running.{Runs}
+use Rattle.search.specs.Runs.Frames.{frameOf, holds-depth, holds-count}
+use Rattle.search.specs.Runs.Running.{Runs}
 
 -- the outcome of a call on a record that passes its check, by the state that the record holds
 abbrev outcome : Call → State → Outcome

@@ -33,7 +33,7 @@ use Rattle.search.specs.Record.{maxNodes, stackSize, cells, bits, bestOf
 use Rattle.search.specs.Cells.{cells-size}
 use Rattle.search.specs.Incumbents.{best-back}
 use Rattle.search.specs.Pushing.{Put, pushed, replaced, popped}
-use Rattle.search.specs.Costs.{cost-bits}
+use Rattle.search.specs.Runs.Costs.{cost-bits}
 
 -- what changes of a search, but for the bytes of the stack and of the best tour
 unfoldable pub frameOf : Progress → Frame

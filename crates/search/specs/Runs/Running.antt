@@ -24,7 +24,7 @@ use Rattle.search.specs.declared.running.Frame.{Frame}
 use Rattle.search.specs.Record.{cells}
 use Rattle.search.specs.Accepted.{range-fits}
 use Rattle.search.specs.Pushing.{rowAt, row-top}
-use Rattle.search.specs.Frames.{FrameHolds, Top, holds-upper, holds-depth, holds-count, holds-deep, holds-valid, top-of}
+use Rattle.search.specs.Runs.Frames.{FrameHolds, Top, holds-upper, holds-depth, holds-count, holds-deep, holds-valid, top-of}
 
 pub record Runs (g : Graph) (d : List ℤ) (o : Settings) (f : Frame) (l w : List ℕ) (s : Progress) : Type 0 where
   pub holds : FrameHolds g f l w s

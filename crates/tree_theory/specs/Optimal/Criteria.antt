@@ -22,9 +22,9 @@ use Rattle.spanning.specs.Forests.{forest-joins}
 use Rattle.spanning.specs.Trees.{swap-tree, forest-plus}
 use Rattle.tree_theory.specs.OneTree.{Edges, OneTree, Least, bound, Barred, Forced}
 use Rattle.tree_theory.specs.Valid.{Valid, isExcluded, needed, isNear, near, far, distinct-near, distinct-far, near-in, in-near, in-far}
-use Rattle.tree_theory.specs.Link.{Parts, to-parts, of-parts, in-allowed, out-loose}
-use Rattle.tree_theory.specs.Bound.{Shifted, twiceAll, bound-above}
-use Rattle.tree_theory.specs.Exchange.{swap-far, swap-near, barred-iff, forced-iff}
+use Rattle.tree_theory.specs.Optimal.Link.{Parts, to-parts, of-parts, in-allowed, out-loose}
+use Rattle.tree_theory.specs.Optimal.Bound.{Shifted, twiceAll, bound-above}
+use Rattle.tree_theory.specs.Optimal.Exchange.{swap-far, swap-near, barred-iff, forced-iff}
 
 -- ---- which swaps are 1-trees
 

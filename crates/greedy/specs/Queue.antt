@@ -11,12 +11,12 @@ use lib.ListN.{length, getD}
 use lib.Dec.{eqb}
 use borrow.Author.Tests.{eqb-true, eqb-false, ne-eqb, not-true}
 use Rattle.lists.specs.Members.{_∈_}
-use Rattle.lists.specs.Select.{select, select-in, select-full, select-length}
+use Rattle.lists.specs.Select.{select, select-in}
 use Rattle.lists.specs.Distinct.{Distinct}
-use Rattle.lists.specs.Numbers.{upTo, length-upTo}
+use Rattle.lists.specs.Numbers.{upTo}
 use Rattle.lists.specs.Same.{same-weight}
 use Rattle.graph.specs.declared.Graph.{Graph}
-use Rattle.graph.specs.Network.{Network, network}
+use Rattle.graph.specs.Network.{network}
 use Rattle.graph.specs.Places.{network-a}
 use Rattle.graph.specs.Valid as value
 use Rattle.spanning.specs.Choice.{Listing}

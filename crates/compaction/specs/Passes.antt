@@ -196,9 +196,9 @@ module _ (c : Edges) (g : Network) where
       → passes g step upper left d (spreadMarks c (g .m) y) ≡ spreadOpened c (g .m) (passes (thin c g) step upper left d y)
   unfolding passes withMarks
   passes-thin step upper zero d y long =
-      pass-thin c (withMarks g (spreadMarks c (g .m) y)) (rest-excluded y) (multiplier d) upper (λ t z. branch z) (λ t z. branch z)
-      (λ t r z s l. branch-spread c (g .m) z l)
-      ∙ ap (λ (h : Network). spreadOpened c (g .m) (concluded (rank c (g .m)) (pass h (multiplier d) upper) (λ t z. branch z)))
+      pass-thin c (withMarks g (spreadMarks c (g .m) y)) (rest-excluded y) (multiplier d) upper (λ t z. branch d z) (λ t z. branch d z)
+      (λ t r z s l. branch-spread c (g .m) z l d)
+      ∙ ap (λ (h : Network). spreadOpened c (g .m) (concluded (rank c (g .m)) (pass h (multiplier d) upper) (λ t z. branch d z)))
       (sym (marks-thin y long))
   passes-thin step upper (suc left) d y long =
       pass-thin c (withMarks g (spreadMarks c (g .m) y)) (rest-excluded y) (multiplier d) upper

@@ -8,6 +8,7 @@ use Prim.Native.Nat.{ℕ, suc, _≤_, _<_}
 use native.Mathlib.Omega.{arith}
 use native.Mathlib.Decide.{ℕ-discrete, decLe}
 use lib.ListN.{length, getD, set, length-set}
+use lib.IntN.{ℤ}
 use lib.Seq.{ext-getD, getD-set-same, getD-set-other}
 use borrow.Author.Tests.{lt-ltb, le-ltb}
 use Rattle.lists.specs.Members.{_∈_}
@@ -16,7 +17,7 @@ use Rattle.lists.specs.Rows.{row, row-size, row-at}
 use Rattle.graph.specs.Network.{Mark, free, required, excluded}
 use Rattle.tree_theory.specs.OneTree.{Edges}
 use Rattle.machine.specs.Outcomes.{closes, finds, splits}
-use Rattle.machine.specs.Machine.{Marks, Opened, isFree, firstFree, branch}
+use Rattle.machine.specs.Machine.{Marks, Node, nodeOf, Opened, isFree, firstFree, branch}
 use Rattle.machine.specs.Branching.{first-free, first-before, first-is}
 use Rattle.compaction.specs.Ranks.{rank, Kept, rank-yes, rank-less, rank-nth}
 
@@ -70,6 +71,10 @@ module _ {A : Type 0} (c : Edges) (m : ℕ) (other z : A) where
 abbrev pub spreadMarks : Edges → ℕ → Marks → Marks
 spreadMarks c m y = spreadOut c m excluded free y
 
+-- a node's multipliers are those of its vertices, which all stay
+abbrev pub spreadNode : Edges → ℕ → Node → Node
+spreadNode c m x = nodeOf (x .multipliers) (spreadMarks c m (x .marks))
+
 abbrev pub spreadTour : Edges → ℕ → List Bool → List Bool
 spreadTour c m r = spreadOut c m false false r
 
@@ -77,7 +82,7 @@ spreadTour c m r = spreadOut c m false false r
 abbrev pub spreadOpened : Edges → ℕ → Opened → Opened
 spreadOpened c m closes = closes
 spreadOpened c m (finds r) = finds (spreadTour c m r)
-spreadOpened c m (splits out into) = splits (spreadMarks c m out) (spreadMarks c m into)
+spreadOpened c m (splits out into) = splits (spreadNode c m out) (spreadNode c m into)
 
 -- ---- the lowest free edge
 
@@ -147,11 +152,11 @@ module _ (c : Edges) (m : ℕ) (y : Marks) (long : length y ≡ rank c m) where
       before i l false f = ap isFree (spread-rest c m excluded free y i l f)
 
   -- A NODE SPLITS AT A KEPT EDGE
-  pub branch-spread : branch (spreadMarks c m y) ≡ spreadOpened c m (branch y)
+  pub branch-spread : (d : List ℤ) → branch d (spreadMarks c m y) ≡ spreadOpened c m (branch d y)
   unfolding branch x
-  branch-spread = go (decLe (suc (firstFree y)) (rank c m))
+  branch-spread d = go (decLe (suc (firstFree y)) (rank c m))
     where
-      splitting : Kept c m (suc (firstFree y)) → firstFree y < rank c m → branch (spreadMarks c m y) ≡ spreadOpened c m (branch y)
+      splitting : Kept c m (suc (firstFree y)) → firstFree y < rank c m → branch d (spreadMarks c m y) ≡ spreadOpened c m (branch d y)
       splitting k h =
           let p : rank c (k .place) ≡ firstFree y = omega (arith, rank-yes c (k .place) (k .kept), k .new) in
           rw (
@@ -163,7 +168,7 @@ module _ (c : Edges) (m : ℕ) (y : Marks) (long : length y ≡ rank c m) where
             p,
           )
 
-      go : Dec (firstFree y < rank c m) → branch (spreadMarks c m y) ≡ spreadOpened c m (branch y)
+      go : Dec (firstFree y < rank c m) → branch d (spreadMarks c m y) ≡ spreadOpened c m (branch d y)
       go (yes h) = splitting (rank-nth c m (suc (firstFree y)) (omega arith) h) h
       go (no h) =
           rw (none-spread (omega arith), le-ltb m (length x) (omega (arith, x-size)), le-ltb (firstFree y) (length y) (omega arith))

@@ -25,7 +25,7 @@ use Rattle.tree_theory.specs.OneTree.{Edges}
 use Rattle.tree_theory.specs.Arrays.{edge-of}
 use Rattle.tours.specs.Tours.{Tour, Allowed, cost, Feasible}
 use Rattle.machine.specs.Outcomes.{Incumbent, noTour, aTour}
-use Rattle.machine.specs.Machine.{Marks, withMarks, marksOf, Opening, trimmed, held, Progress, State, noSearch, searching, edgesOf}
+use Rattle.machine.specs.Machine.{Node, withMarks, marksOf, Opening, trimmed, held, Progress, State, noSearch, searching, edgesOf}
 use Rattle.machine.specs.Machine.{costOf, lowered, isEmpty, finished}
 use Rattle.machine.specs.Calls.{Call, tell, show, Verdict, goingOn, none, best, accepted, tells, Reply, verdict, verdictOf, tourBytes}
 use Rattle.machine.specs.Calls.{shownBy, step, leaves, History, since, history, freeAtStart}
@@ -37,7 +37,7 @@ use Rattle.machine.specs.Trimmed.{network-trimmed, valid-trimmed}
 use Rattle.machine.specs.NodeTours.{Agrees, Inside, tours, allowed-agrees, agrees-allowed}
 use Rattle.machine.specs.Kept.{Sized}
 use Rattle.tours.specs.Renumbering.{Simple, one-sym, renumbered, renumbered-same}
-use Rattle.machine.specs.Invariant.{Good, FineSearch, Fine, fine, before-last}
+use Rattle.machine.specs.Invariant.{firstNode, Good, FineSearch, Fine, fine, before-last}
 
 -- what the machine says after a list of calls: its answers are said as they are
 abbrev pub Says : List Call → Opening → Verdict → Type 0
@@ -75,7 +75,7 @@ module _ (g : Network) where
 
 -- ---- one finished search
 
-is-empty : (st : List Marks) → isEmpty st ≡ true → st ≡ []
+is-empty : (st : List Node) → isEmpty st ≡ true → st ≡ []
 is-empty [] h = refl
 is-empty (x ∷ st) h = absurd (false≢true h)
 
@@ -86,11 +86,11 @@ module _ (cs : List Call) (s : Progress) (total : ℕ) (left : leaves cs ≡ sea
   g : Network
   g = network (s .opening .graph)
 
-  best-possible : Optimal (tours g) (marksOf g) (s .opening .settings .ceiling) (s .incumbent)
+  best-possible : Optimal (tours g) (firstNode (s .opening)) (s .opening .settings .ceiling) (s .incumbent)
   unfolding g
   best-possible =
-      optimum (tours g) (marksOf g) (s .opening .settings .ceiling)
-      (subst (λ (st : List Marks). Reached (tours g) (marksOf g) (s .opening .settings .ceiling) (s .upper) st (s .incumbent) (s .count))
+      optimum (tours g) (firstNode (s .opening)) (s .opening .settings .ceiling)
+      (subst (λ (st : List Node). Reached (tours g) (firstNode (s .opening)) (s .opening .settings .ceiling) (s .upper) st (s .incumbent) (s .count))
       (is-empty (s .stack) done) (h .reached))
 
   told-is : step (leaves cs) tell .answer ≡ tells (verdictOf g (s .incumbent)) (s .count)
@@ -118,7 +118,7 @@ module _ (cs : List Call) (s : Progress) (total : ℕ) (left : leaves cs ≡ sea
     where
       go : (i : Incumbent (List Bool)) → s .incumbent ≡ i
           → step (leaves cs) tell .answer ≡ tells (verdictOf g i) (s .count)
-          → Optimal (tours g) (marksOf g) (s .opening .settings .ceiling) i → Sized (s .opening .graph .m) i
+          → Optimal (tours g) (firstNode (s .opening)) (s .opening .settings .ceiling) i → Sized (s .opening .graph .m) i
           → Says cs (s .opening) (verdictOf g i)
       go noTour e told p z = record {
         count = s .count;
@@ -286,7 +286,7 @@ module _ (cs : List Call) (o : Opening) (total : ℕ) (l : Leaves cs o total) wh
       same : freeAtStart (s .opening) ≡ freeAtStart o
       same = unfold freeAtStart held in (rw (l .holds .opening, network-trimmed (o .graph) (given-valid .few)))
 
-      go : (st : List Marks) → s .stack ≡ st → isEmpty (s .stack) ≡ true
+      go : (st : List Node) → s .stack ≡ st → isEmpty (s .stack) ≡ true
       go [] e = ap isEmpty e
       go (x ∷ rest) e = absurd (last (l .holds .good .spent (omega (arith, same))))
         where

@@ -94,7 +94,7 @@ pub record AsTheMachine (i : Interface) (cs : List Call) : Type 0 where
   -- "and every byte of show's list"
   pub listed : (c : Call) → i .list (after i (i .fresh) cs) c ≡ step (leaves cs) c .lent
   -- "after the list whether a hunt is open, and if so U, the pile from bottom to top with each node's marks 1 to m, the best round and the
-  -- count"
+  -- count"; document 02, C-16: "its nodes' dues are compared too"
   pub holds : i .holds (after i (i .fresh) cs) ≡ leaves cs
   -- no other byte is left open
   pub bytes : after i (i .fresh) cs ≡ i .made (leaves cs)

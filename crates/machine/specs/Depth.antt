@@ -23,7 +23,7 @@ use Rattle.tree_theory.specs.LeastTree.{Right, tree-right}
 use Rattle.tree_theory.specs.Valid.{Valid}
 use Rattle.tours.specs.Tours.{Allowed, isTour}
 use Rattle.machine.specs.Outcomes.{closes, finds, splits}
-use Rattle.machine.specs.Machine.{Marks, withMarks, applied, Pass, shut, found, unclosed, passBy, pass, gained, Opened, firstFree}
+use Rattle.machine.specs.Machine.{Marks, nodeOf, withMarks, applied, Pass, shut, found, unclosed, passBy, pass, gained, Opened, firstFree}
 use Rattle.machine.specs.Machine.{branch, concluded, passes}
 use Rattle.machine.specs.Branching.{first-free}
 use Rattle.machine.specs.NodeTours.{applied-length, tree-agrees, ruled-requireds}
@@ -50,7 +50,7 @@ pub record Halves (n : ℕ) (x out into : Marks) : Type 0 where
 abbrev pub Shallow : ℕ → Marks → Opened → Type 0
 Shallow n x closes = Unit {0}
 Shallow n x (finds r) = Unit {0}
-Shallow n x (splits out into) = Halves n x out into
+Shallow n x (splits out into) = Halves n x (out .marks) (into .marks)
 
 -- a node with no more required edges
 fewer : (n : ℕ) (x y : Marks) → requireds x ≤ requireds y → (out : Opened) → Shallow n y out → Shallow n x out
@@ -59,11 +59,11 @@ fewer n x y l (finds r) h = tt
 fewer n x y l (splits out into) h =
     record { most = omega (arith, h .most); of-out = omega (arith, h .of-out); of-into = omega (arith, h .of-into) }
 
-branch-shallow : (n : ℕ) (y : Marks) → requireds y ≤ n → Shallow n y (branch y)
+branch-shallow : (n : ℕ) (d : List ℤ) (y : Marks) → requireds y ≤ n → Shallow n y (branch d y)
 unfolding branch
-branch-shallow n y l = by-cases (ltb (firstFree y) (length y)) some (λ e. rw e tt)
+branch-shallow n d y l = by-cases (ltb (firstFree y) (length y)) some (λ e. rw e tt)
   where
-    some : ltb (firstFree y) (length y) ≡ true → Shallow n y (branch y)
+    some : ltb (firstFree y) (length y) ≡ true → Shallow n y (branch d y)
     some e =
         let k : firstFree y < length y = ltb-true (firstFree y) (length y) e in
         rw e (record {
@@ -114,8 +114,8 @@ module _ (g : Network) (vg : Valid g) (upper : ℤ) where
   pub passes-shallow : (step left : ℕ) (d : List ℤ) (x : Marks) → length x ≡ g .m → Shallow (g .n) x (passes g step upper left d x)
   unfolding passes
   passes-shallow step zero d x full =
-      concluded-shallow x (pass (withMarks g x) (multiplier d) upper) (pass-shallow (multiplier d) x full) (λ t y. branch y)
-      (λ t y h. branch-shallow (g .n) y (omega (arith, requireds-most g y (h .long) t (h .allowed), h .size)))
+      concluded-shallow x (pass (withMarks g x) (multiplier d) upper) (pass-shallow (multiplier d) x full) (λ t y. branch d y)
+      (λ t y h. branch-shallow (g .n) d y (omega (arith, requireds-most g y (h .long) t (h .allowed), h .size)))
   passes-shallow step (suc left) d x full =
       concluded-shallow x (pass (withMarks g x) (multiplier d) upper) (pass-shallow (multiplier d) x full)
       (λ t y. passes g step upper left (gained g step t d) y)

@@ -10,7 +10,7 @@ use lib.Pow.{pow-mono}
 use lib.ListN.{length}
 use Rattle.graph.specs.Limits.{maxCount}
 use Rattle.graph.specs.Network.{Network, network}
-use Rattle.machine.specs.Machine.{Marks, marksOf, Opening, held, Progress, State, noSearch, searching, begin}
+use Rattle.machine.specs.Machine.{Node, nodeOf, marksOf, Opening, held, Progress, State, noSearch, searching, begin}
 use Rattle.machine.specs.Machine.{openNode, settled, openTop, finished, ran}
 use Rattle.machine.specs.Calls.{Call, opens, run, tell, show, close, Reply, fault, openedBy, runBy, shownBy, step, leaves}
 use Rattle.machine.specs.Calls.{stateAfter, isAccepted, History, noOpening, since, granted, noted, historyAfter, history}
@@ -23,9 +23,13 @@ use Rattle.machine.specs.Preserved.{top-law, top-kept, accepts-held, beg
 
 -- ---- one search, whose run calls have allowed `total` openings so far
 
+-- the node that an opening stores
+abbrev pub firstNode : Opening → Node
+firstNode o = nodeOf (o .multipliers) (marksOf (network (o .graph)))
+
 abbrev pub ReachedBy : Progress → Type 0
 ReachedBy s =
-    Reached (tours (network (s .opening .graph))) (marksOf (network (s .opening .graph))) (s .opening .settings .ceiling)
+    Reached (tours (network (s .opening .graph))) (firstNode (s .opening)) (s .opening .settings .ceiling)
     (s .upper) (s .stack) (s .incumbent) (s .count)
 
 pub record Good (s : Progress) (total : ℕ) : Type 0 where
@@ -39,27 +43,27 @@ unfolding begin
 good-begin o k = record { kept = k; reached = start; spent = λ h. inr refl }
 
 -- while a node waits, fewer than 2^(k+1) − 1 are opened
-pub before-last : (s : Progress) (x : Marks) (rest : List Marks) → s .stack ≡ x ∷ rest → ReachedBy s
+pub before-last : (s : Progress) (x : Node) (rest : List Node) → s .stack ≡ x ∷ rest → ReachedBy s
     → suc (s .count) ≤ 2 ^ suc (freeAtStart (s .opening)) - 1
 unfolding freeAtStart
 before-last s x rest e r =
     omega (
       arith,
-      budget (tours g) (marksOf g) (s .opening .settings .ceiling) r,
-      subst (λ (st : List Marks). 1 ≤ room (tours g) st) (sym e) (room-some (tours g) x rest),
+      budget (tours g) (firstNode (s .opening)) (s .opening .settings .ceiling) r,
+      subst (λ (st : List Node). 1 ≤ room (tours g) st) (sym e) (room-some (tours g) x rest),
     )
   where
     g : Network
     g = network (s .opening .graph)
 
-good-top : (s : Progress) (total : ℕ) (x : Marks) (rest : List Marks) → s .stack ≡ x ∷ rest → s .count < maxCount → Good s total
+good-top : (s : Progress) (total : ℕ) (x : Node) (rest : List Node) → s .stack ≡ x ∷ rest → s .count < maxCount → Good s total
     → Good (openTop s (x ∷ rest)) (suc total)
 unfolding openTop settled
 good-top s total x rest e l h = record {
   kept = top-kept s (h .kept) x rest e l;
   reached =
-      next (openNode (s .opening) (s .upper) x) (top-law s (h .kept) x rest e l)
-      (subst (λ (st : List Marks). Reached (tours g) (marksOf g) (s .opening .settings .ceiling) (s .upper) st (s .incumbent) (s .count)) e
+      next (openNode (s .opening) (s .upper) x) (top-law s (h .kept) x rest e l (x .multipliers))
+      (subst (λ (st : List Node). Reached (tours g) (firstNode (s .opening)) (s .opening .settings .ceiling) (s .upper) st (s .incumbent) (s .count)) e
       (h .reached));
   spent = λ k. inr (ap suc (go (h .spent k)));
 }
@@ -79,7 +83,7 @@ good-same : (s : Progress) (total other : ℕ) → total ≡ other → Good s to
 good-same s total other e h = rw (← e) h
 
 -- the guard stops no search of 62 free edges or less while a node waits
-not-full : (s : Progress) (x : Marks) (rest : List Marks) → s .stack ≡ x ∷ rest → ReachedBy s → maxCount ≤ s .count
+not-full : (s : Progress) (x : Node) (rest : List Node) → s .stack ≡ x ∷ rest → ReachedBy s → maxCount ≤ s .count
     → freeAtStart (s .opening) ≤ 62 → ⊥
 not-full s x rest e r l k =
     omega (arith, before-last s x rest e r, pow-mono {i = suc (freeAtStart (s .opening))} {j = 63} (omega arith))
@@ -98,7 +102,7 @@ good-ran (suc allowed) s total h = go (turn s) (λ r n. good-ran allowed r n)
     go (empty e) below = rw (ran-empty (suc allowed) s e) (good-idle s total (suc allowed) (λ k. e) h)
     go (full l) below = rw (ran-full (suc allowed) s l) (good-idle s total (suc allowed) (λ k. none (s .stack) refl k) h)
       where
-        none : (st : List Marks) → s .stack ≡ st → freeAtStart (s .opening) ≤ 62 → s .stack ≡ []
+        none : (st : List Node) → s .stack ≡ st → freeAtStart (s .opening) ≤ 62 → s .stack ≡ []
         none [] e k = e
         none (x ∷ rest) e k = absurd (not-full s x rest e (h .reached) l k)
 

@@ -17,8 +17,11 @@ pub mod Depth
 pub mod Trimmed
 pub mod Runs
 pub mod Kept
+pub mod Gained
 pub mod Preserved
 pub mod Refusals
+-- document 02, C-16: what a node's halves inherit, and what waits below
+pub mod Inherited
 -- the proof of the statement
 pub mod Invariant
 pub mod Claim

@@ -30,6 +30,14 @@ use Rattle.machine.specs.Outcomes.{Outcome, closes, finds, splits, Incum
 abbrev pub Marks : Type 0
 Marks = List Mark
 
+-- document 02, C-16: "A piled node now carries the dues that its parent had after its last pass, and opens with them"
+pub record Node : Type 0 where
+  pub marks : Marks
+  pub multipliers : List ℤ
+
+abbrev pub nodeOf : List ℤ → Marks → Node
+nodeOf d x = record { marks = x; multipliers = d }
+
 -- the network with a node's marks in place of its own
 unfoldable pub withMarks : Network → Marks → Network
 withMarks g x = record { n = g .n; m = g .m; a = g .a; b = g .b; cost = g .cost; mark = λ k. getD (free ∷ x) k free }
@@ -97,7 +105,7 @@ gained g step t d =
 
 -- a tour is kept as a Boolean for each edge
 abbrev pub Opened : Type 0
-Opened = Outcome Marks (List Bool)
+Opened = Outcome Node (List Bool)
 
 -- the place of the lowest-numbered free edge, from 0; the number of edges where none is free
 unfoldable pub firstFree : Marks → ℕ
@@ -107,12 +115,13 @@ firstFree (required ∷ xs) = suc (firstFree xs)
 firstFree (excluded ∷ xs) = suc (firstFree xs)
 
 -- "an unclosed node takes its lowest-numbered free leg and piles two nodes with the marks it now has: first that leg struck, then, on
--- top, that leg required. With no free leg it closes."
-unfoldable pub branch : Marks → Opened
+-- top, that leg required. With no free leg it closes." Document 02, C-16: "Both branches see the same parent dues": d are those of the last
+-- pass
+unfoldable pub branch : List ℤ → Marks → Opened
 unfolding firstFree
-branch x =
+branch d x =
     let k : ℕ = firstFree x in
-    cond (ltb k (length x)) (splits (set x k excluded) (set x k required)) closes
+    cond (ltb k (length x)) (splits (nodeOf d (set x k excluded)) (nodeOf d (set x k required))) closes
 
 -- what a pass comes to, where `otherwise` says how an unclosed node goes on
 abbrev pub concluded : ℕ → Pass → (Edges → Marks → Opened) → Opened
@@ -120,11 +129,12 @@ concluded m shut otherwise = closes
 concluded m (found t) otherwise = finds (row m t)
 concluded m (unclosed t x) otherwise = otherwise t x
 
--- the passes of a node with the marks x, from the multipliers d on; `left` passes follow the first of them
+-- the passes of a node with the marks x, from the multipliers d on; `left` passes follow the first of them. After the last no multiplier
+-- gains: its halves get those that it used
 unfoldable pub passes : Network → ℕ → ℤ → ℕ → List ℤ → Marks → Opened
 unfolding withMarks pass multiplier row branch gained
 passes g step upper zero d x =
-    concluded (g .m) (pass (withMarks g x) (multiplier d) upper) (λ t y. branch y)
+    concluded (g .m) (pass (withMarks g x) (multiplier d) upper) (λ t y. branch d y)
 passes g step upper (suc left) d x =
     concluded (g .m) (pass (withMarks g x) (multiplier d) upper)
     (λ t y. passes g step upper left (gained g step t d) y)
@@ -160,7 +170,7 @@ held o = record { graph = trimmed (o .graph); multipliers = o .multipliers; sett
 pub record Progress : Type 0 where
   pub opening : Opening
   pub upper : ℤ
-  pub stack : List Marks
+  pub stack : List Node
   pub incumbent : Incumbent (List Bool)
   pub count : ℕ
 
@@ -169,14 +179,15 @@ pub data State : Type 0 where
   noSearch : State
   searching : Progress → State
 
--- "Opening piles one node, the chart's marks; count 0, no best, U the ceiling."
+-- "Opening piles one node, the chart's marks; count 0, no best, U the ceiling." Document 02, C-16: "the first node still has the opening
+-- dues"
 unfoldable pub begin : Opening → Progress
 unfolding marksOf network
 begin o =
     record {
       opening = o;
       upper = o .settings .ceiling;
-      stack = marksOf (network (o .graph)) ∷ [];
+      stack = nodeOf (o .multipliers) (marksOf (network (o .graph))) ∷ [];
       incumbent = noTour;
       count = 0;
     }
@@ -197,13 +208,13 @@ unfoldable pub lowered : Network → List Bool → ℤ
 unfolding costOf
 lowered g r = costOf g r -ℤ pos 1
 
--- "dues set to the opening ones, then passes 0 to 'sweeps'"
-unfoldable pub openNode : Opening → ℤ → Marks → Opened
+-- "then passes 0 to 'sweeps'", from the node's own multipliers on (document 02, C-16; they were the opening ones)
+unfoldable pub openNode : Opening → ℤ → Node → Opened
 unfolding network passes
-openNode o upper x = passes (network (o .graph)) (o .settings .step) upper (o .settings .sweeps) (o .multipliers) x
+openNode o upper x = passes (network (o .graph)) (o .settings .step) upper (o .settings .sweeps) (x .multipliers) (x .marks)
 
 -- what the opening of the top node makes of a search; rest are the nodes below it
-unfoldable pub settled : Progress → List Marks → Opened → Progress
+unfoldable pub settled : Progress → List Node → Opened → Progress
 unfolding lowered network
 settled s rest out =
     record {
@@ -215,12 +226,12 @@ settled s rest out =
     }
 
 -- "it opens the top node: count + 1, .."
-unfoldable pub openTop : Progress → List Marks → Progress
+unfoldable pub openTop : Progress → List Node → Progress
 unfolding settled openNode
 openTop s [] = s
 openTop s (x ∷ rest) = settled s rest (openNode (s .opening) (s .upper) x)
 
-abbrev pub isEmpty : List Marks → Bool
+abbrev pub isEmpty : List Node → Bool
 isEmpty [] = true
 isEmpty (x ∷ xs) = false
 

@@ -22,7 +22,7 @@ use Rattle.tree_theory.specs.Decide.{barred-test, forced-test}
 use Rattle.tree_theory.specs.Valid.{Valid}
 use Rattle.tree_theory.specs.Arrays.{edge-of, of-edge}
 use Rattle.tours.specs.Tours.{Joined, Trip, Tour, Allowed, cost}
-use Rattle.machine.specs.Machine.{Marks, withMarks, frees, markBy, applied, edgesOf, costOf, lowered}
+use Rattle.machine.specs.Machine.{Marks, Node, withMarks, frees, markBy, applied, edgesOf, costOf, lowered}
 use Rattle.machine.specs.BranchAndBound.{Problem}
 use Rattle.tours.specs.TourTree.{tour-tree, bound-is-cost}
 use Rattle.machine.specs.Branching.{row-marks, frees-fewer}
@@ -120,12 +120,12 @@ lowered-tighter g r u t h k =
 
 abbrev pub tours : Network → Problem
 tours g = record {
-  Node = Marks;
+  Node = Node;
   Tour = Edges;
   Form = List Bool;
   tour = edgesOf;
-  In = λ t x. Inside g t x;
-  size = frees;
+  In = λ t x. Inside g t (x .marks);
+  size = λ x. frees (x .marks);
   Bound = ℤ;
   Within = λ t u. cost g t ≤ℤ u;
   lowered = lowered g;

@@ -25,7 +25,7 @@ use Rattle.tree_theory.specs.Valid.{Valid}
 use Rattle.tree_theory.specs.Arrays.{edge-of}
 use Rattle.tours.specs.Tours.{Tour, Allowed, cost, isTour}
 use Rattle.machine.specs.Outcomes.{closes, finds, splits}
-use Rattle.machine.specs.Machine.{Marks, withMarks, isFree, applied, Pass, shut, found, unclosed, passBy, pass, Opened, firstFree}
+use Rattle.machine.specs.Machine.{Marks, Node, nodeOf, withMarks, isFree, applied, Pass, shut, found, unclosed, passBy, pass, Opened, firstFree}
 use Rattle.machine.specs.Machine.{branch}
 use Rattle.machine.specs.Machine.{concluded, passes, gained, edgesOf, costOf, lowered}
 use Rattle.machine.specs.BranchAndBound.{Lawful, narrowed}
@@ -44,15 +44,16 @@ row-edges m t k h = go k (edge-of m k h)
     go k r = subst (λ (i : ℕ). getD (false ∷ row m t) i false ≡ t i) (sym (r .2)) (row-at m t (r .0) false (r .1))
 
 module _ (g : Network) (vg : Valid g) (upper : ℤ) where
+  -- whatever the node's multipliers are
   abbrev pub Law : Marks → Opened → Type 0
-  Law x out = Lawful (tours g) upper x out
+  Law x out = (d : List ℤ) → Lawful (tours g) upper (nodeOf d x) out
 
   -- ---- a found tour
 
   found-law : (x : Marks) (t : Edges) → Inside g t x → cost g t ≤ℤ upper → ((s : Edges) → Inside g s x → cost g t ≤ℤ cost g s)
       → Law x (finds (row (g .m) t))
   unfolding lowered costOf
-  found-law x t i l least = record {
+  found-law x t i l least d = record {
     inside = record {
       tour = tour-agree g kept t same (i .tour);
       allowed = at-allowed g kept x (λ j h. rw (at j h) (allowed-at g t x (i .allowed) j h));
@@ -92,8 +93,8 @@ module _ (g : Network) (vg : Valid g) (upper : ℤ) where
         go j h (yes e) = rw (e, is-free) tt
         go j h (no e) = rw (getD-set-other y k j x free e) at (allowed-at g t (set y k x) (i .allowed) j h)
 
-    split-law : Law y (splits (set y k excluded) (set y k required))
-    split-law = record {
+    split-law : (d : List ℤ) → Law y (splits (nodeOf d (set y k excluded)) (nodeOf d (set y k required)))
+    split-law d e = record {
       loses = λ t i l. by-cases (t (suc k)) (λ e. inr (set-at required t i e)) (λ e. inl (set-at excluded t i e));
       of-out = set-of excluded;
       of-into = set-of required;
@@ -117,17 +118,17 @@ module _ (g : Network) (vg : Valid g) (upper : ℤ) where
           (allowed-at g s y as-s (r .0) (r .1)) (allowed-at g t y as-t (r .0) (r .1)))
 
   -- t is a set that the marks allow and no tour, the last pass's tree: so a node without free edges has no tour
-  branch-law : (y : Marks) → length y ≡ g .m → (t : Edges) → Allowed (withMarks g y) t → ¬ Tour g t → Law y (branch y)
+  branch-law : (d : List ℤ) (y : Marks) → length y ≡ g .m → (t : Edges) → Allowed (withMarks g y) t → ¬ Tour g t → Law y (branch d y)
   unfolding branch
-  branch-law y full t al not-tour = by-cases (ltb (firstFree y) (length y)) some none
+  branch-law d y full t al not-tour = by-cases (ltb (firstFree y) (length y)) some none
     where
-      some : ltb (firstFree y) (length y) ≡ true → Law y (branch y)
+      some : ltb (firstFree y) (length y) ≡ true → Law y (branch d y)
       some e =
           let l : firstFree y < length y = ltb-true (firstFree y) (length y) e in
-          rw e (split-law y full (firstFree y) l (first-free y l))
+          rw e (split-law y full (firstFree y) l (first-free y l) d)
 
-      none : ltb (firstFree y) (length y) ≡ false → Law y (branch y)
-      none e = rw e (λ s i l. not-tour (tour-agree g t s (no-free y before t s al (i .allowed)) (i .tour)))
+      none : ltb (firstFree y) (length y) ≡ false → Law y (branch d y)
+      none e = rw e (λ c s i l. not-tour (tour-agree g t s (no-free y before t s al (i .allowed)) (i .tour)))
         where
           before : (j : ℕ) → j < g .m → isFree (getD y j free) ≡ false
           before j h = first-before y j (omega (arith, ltb-false (firstFree y) (length y) e, full))
@@ -151,7 +152,7 @@ module _ (g : Network) (vg : Valid g) (upper : ℤ) where
 
     pass-right : (r : Tree) → Right (withMarks g x) d r → Passed (passBy (withMarks g x) d upper r)
     unfolding passBy after
-    pass-right noTree h = λ t i l. h t (inside-tree g vg x t i)
+    pass-right noTree h = λ c t i l. h t (inside-tree g vg x t i)
     pass-right (aTree b t) h = first (ltZ upper b) refl
       where
         second : (v : Bool) → isTour (withMarks g x) t ≡ v → b ≤ℤ upper
@@ -173,7 +174,7 @@ module _ (g : Network) (vg : Valid g) (upper : ℤ) where
 
         first : (v : Bool) → ltZ upper b ≡ v → Passed (cond v shut (cond (isTour (withMarks g x) t) (found t) (unclosed t after)))
         first true e =
-            λ s i l. le-lt-clash (cost g s) upper l
+            λ c s i l. le-lt-clash (cost g s) upper l
             (<ℤ-≤ℤ-trans (test-lt upper b e) (subst (λ (z : ℤ). z ≤ℤ cost g s) (sym (h .0)) (least-cost t (h .1) s i)))
         first false e = second (isTour (withMarks g x) t) refl (test-not-lt upper b e)
 
@@ -190,15 +191,15 @@ module _ (g : Network) (vg : Valid g) (upper : ℤ) where
         go (found t) h = h
         go (unclosed t y) h =
             subst (λ (z : Marks). Law x (otherwise t z)) (sym (h .0))
-            (narrowed (tours g) upper x after (ruled-keeps g vg x d upper) (ruled-of g vg x d upper) (ruled-frees g vg x d upper full)
-            (otherwise t after) (later t after (unfold withMarks in applied-length (withMarks g x) d upper) (h .1) (h .2)))
+            (λ c. narrowed (tours g) upper (nodeOf c x) (nodeOf c after) (ruled-keeps g vg x d upper) (ruled-of g vg x d upper) (ruled-frees g vg x d upper full)
+            (otherwise t after) (later t after (unfold withMarks in applied-length (withMarks g x) d upper) (h .1) (h .2) c))
 
   -- ---- all passes
 
   pub passes-law : (step left : ℕ) (d : List ℤ) (x : Marks) → length x ≡ g .m → Law x (passes g step upper left d x)
   unfolding passes
   passes-law step zero d x full =
-      concluded-law (multiplier d) x full (λ t y. branch y) (λ t y l al n. branch-law y l t al n)
+      concluded-law (multiplier d) x full (λ t y. branch d y) (λ t y l al n. branch-law d y l t al n)
   passes-law step (suc left) d x full =
       concluded-law (multiplier d) x full (λ t y. passes g step upper left (gained g step t d) y)
       (λ t y l al n. passes-law step left (gained g step t d) y l)

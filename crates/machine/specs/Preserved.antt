@@ -31,7 +31,7 @@ use Rattle.tree_theory.specs.Enumeration.{Tree, noTree, aTree, leastTree}
 use Rattle.tree_theory.specs.Arrays.{edge-of, network-valid}
 use Rattle.tours.specs.Tours.{Tour, cost, isTour}
 use Rattle.machine.specs.Outcomes.{closes, finds, splits, Incumbent, noTour, aTour}
-use Rattle.machine.specs.Machine.{Marks, withMarks, marksOf, applied, Pass, shut, found, unclosed, passBy, pass, gained, Opened}
+use Rattle.machine.specs.Machine.{Marks, Node, withMarks, marksOf, applied, Pass, shut, found, unclosed, passBy, pass, gained, Opened}
 use Rattle.machine.specs.Machine.{firstFree}
 use Rattle.machine.specs.Machine.{branch, concluded, passes, Opening, trimmed, held, Progress, State, noSearch, searching, begin}
 use Rattle.machine.specs.Machine.{edgesOf, costOf, lowered, openNode, settled, openTop, finished, ran}
@@ -42,7 +42,8 @@ use Rattle.machine.specs.Trimmed.{trimmed-trim, trimmed-valid}
 use Rattle.machine.specs.NodeTours.{applied-length}
 use Rattle.machine.specs.OpeningLaws.{Law, passes-law}
 use Rattle.machine.specs.Depth.{Shallow, passes-shallow}
-use Rattle.machine.specs.Kept.{Accepted, Nodes, Kept, KeptState}
+use Rattle.machine.specs.Gained.{gained-fits}
+use Rattle.machine.specs.Kept.{Accepted, FitFor, Waits, Nodes, Kept, KeptState}
 
 -- ---- the range of a tour's cost, less 1
 
@@ -100,84 +101,95 @@ pass-long g d upper = go (leastTree g d)
     go noTree = tt
     go (aTree b t) = cases t (ltZ upper b) (isTour g t)
 
-abbrev Long : ℕ → Opened → Type 0
-Long m closes = Unit {0}
-Long m (finds r) = (length r ≡ m)
-Long m (splits out into) = (length out ≡ m) × (length into ≡ m)
+-- a node with its marks and multipliers
+record Whole (g : Network) (x : Node) : Type 0 where
+  long : length (x .marks) ≡ g .m
+  multipliers : FitFor (g .n) (x .multipliers)
 
-branch-long : (m : ℕ) (y : Marks) → length y ≡ m → Long m (branch y)
+abbrev Long : Network → Opened → Type 0
+Long g closes = Unit {0}
+Long g (finds r) = (length r ≡ g .m)
+Long g (splits out into) = Whole g out × Whole g into
+
+branch-long : (g : Network) (d : List ℤ) → FitFor (g .n) d → (y : Marks) → length y ≡ g .m → Long g (branch d y)
 unfolding branch
-branch-long m y e =
+branch-long g d f y e =
     by-cases (ltb (firstFree y) (length y))
-    (λ t. rw t (length-set y (firstFree y) excluded ∙ e, length-set y (firstFree y) required ∙ e))
+    (λ t. rw t (
+      record { long = length-set y (firstFree y) excluded ∙ e; multipliers = f },
+      record { long = length-set y (firstFree y) required ∙ e; multipliers = f },
+    ))
     (λ t. rw t tt)
 
-concluded-long : (m : ℕ) (p : Pass) → LongPass m p → (otherwise : Edges → Marks → Opened)
-    → ((t : Edges) (y : Marks) → length y ≡ m → Long m (otherwise t y)) → Long m (concluded m p otherwise)
-concluded-long m shut h otherwise later = tt
-concluded-long m (found t) h otherwise later = row-size m t
-concluded-long m (unclosed t y) h otherwise later = later t y h
+concluded-long : (g : Network) (p : Pass) → LongPass (g .m) p → (otherwise : Edges → Marks → Opened)
+    → ((t : Edges) (y : Marks) → length y ≡ g .m → Long g (otherwise t y)) → Long g (concluded (g .m) p otherwise)
+concluded-long g shut h otherwise later = tt
+concluded-long g (found t) h otherwise later = row-size (g .m) t
+concluded-long g (unclosed t y) h otherwise later = later t y h
 
-passes-long : (g : Network) (stride : ℕ) (upper : ℤ) (left : ℕ) (d : List ℤ) (x : Marks) → Long (g .m) (passes g stride upper left d x)
+passes-long : (g : Network) → 1 ≤ g .n → (stride : ℕ) (upper : ℤ) (left : ℕ) (d : List ℤ) → FitFor (g .n) d → (x : Marks)
+    → Long g (passes g stride upper left d x)
 unfolding passes
-passes-long g stride upper zero d x =
-    concluded-long (g .m) (pass (withMarks g x) (multiplier d) upper) (unfold withMarks in pass-long (withMarks g x) (multiplier d) upper)
-    (λ t y. branch y) (λ t y e. branch-long (g .m) y e)
-passes-long g stride upper (suc left) d x =
-    concluded-long (g .m) (pass (withMarks g x) (multiplier d) upper) (unfold withMarks in pass-long (withMarks g x) (multiplier d) upper)
-    (λ t y. passes g stride upper left (gained g stride t d) y) (λ t y e. passes-long g stride upper left (gained g stride t d) y)
+passes-long g low stride upper zero d f x =
+    concluded-long g (pass (withMarks g x) (multiplier d) upper) (unfold withMarks in pass-long (withMarks g x) (multiplier d) upper)
+    (λ t y. branch d y) (λ t y e. branch-long g d f y e)
+passes-long g low stride upper (suc left) d f x =
+    concluded-long g (pass (withMarks g x) (multiplier d) upper) (unfold withMarks in pass-long (withMarks g x) (multiplier d) upper)
+    (λ t y. passes g stride upper left (gained g stride t d) y)
+    (λ t y e. passes-long g low stride upper left (gained g stride t d) (gained-fits g low stride t d f) y)
 
 -- ---- one node more
 
-module _ (s : Progress) (h : Kept s) (x : Marks) (rest : List Marks) (e : s .stack ≡ x ∷ rest) (l : s .count < maxCount) where
+module _ (s : Progress) (h : Kept s) (x : Node) (rest : List Node) (e : s .stack ≡ x ∷ rest) (l : s .count < maxCount) where
   g : Network
   g = network (s .opening .graph)
 
-  waiting : Nodes (s .opening .graph .m) (x ∷ rest)
-  waiting = subst (λ (st : List Marks). Nodes (s .opening .graph .m) st) e (h .nodes)
+  waiting : Nodes (s .opening .graph .n) (s .opening .graph .m) (x ∷ rest)
+  waiting = subst (λ (st : List Node). Nodes (s .opening .graph .n) (s .opening .graph .m) st) e (h .nodes)
 
-  -- the node's opening is lawful and its parts have m places
-  pub top-law : Law (network (s .opening .graph)) (network-valid (s .opening .graph) (h .opening .valid)) (s .upper) x
+  -- the node's opening is lawful and its parts are whole
+  pub top-law : Law (network (s .opening .graph)) (network-valid (s .opening .graph) (h .opening .valid)) (s .upper) (x .marks)
       (openNode (s .opening) (s .upper) x)
   unfolding openNode
   top-law =
       passes-law (network (s .opening .graph)) (network-valid (s .opening .graph) (h .opening .valid)) (s .upper) (s .opening .settings .step)
-      (s .opening .settings .sweeps) (s .opening .multipliers) x (unfold network in waiting .0)
+      (s .opening .settings .sweeps) (x .multipliers) (x .marks) (unfold network in waiting .0 .long)
 
-  top-long : Long (s .opening .graph .m) (openNode (s .opening) (s .upper) x)
+  top-long : Long (network (s .opening .graph)) (openNode (s .opening) (s .upper) x)
   unfolding openNode network
   top-long =
-      passes-long (network (s .opening .graph)) (s .opening .settings .step) (s .upper) (s .opening .settings .sweeps) (s .opening .multipliers) x
+      passes-long (network (s .opening .graph)) (omega (arith, h .opening .valid .low)) (s .opening .settings .step) (s .upper)
+      (s .opening .settings .sweeps) (x .multipliers) (waiting .0 .multipliers) (x .marks)
 
   -- and it splits only where there is room for both halves
-  top-shallow : Shallow (s .opening .graph .n) x (openNode (s .opening) (s .upper) x)
+  top-shallow : Shallow (s .opening .graph .n) (x .marks) (openNode (s .opening) (s .upper) x)
   unfolding openNode network
   top-shallow =
       passes-shallow (network (s .opening .graph)) (network-valid (s .opening .graph) (h .opening .valid)) (s .upper) (s .opening .settings .step)
-      (s .opening .settings .sweeps) (s .opening .multipliers) x (waiting .0)
+      (s .opening .settings .sweeps) (x .multipliers) (x .marks) (waiting .0 .long)
 
   below : suc (length rest) ≤ s .opening .graph .n + 2
-  below = subst (λ (st : List Marks). length st ≤ s .opening .graph .n + 2) e (h .depth)
+  below = subst (λ (st : List Node). length st ≤ s .opening .graph .n + 2) e (h .depth)
 
-  settled-kept : (out : Opened) → Long (s .opening .graph .m) out → Shallow (s .opening .graph .n) x out
-      → Law (network (s .opening .graph)) (network-valid (s .opening .graph) (h .opening .valid)) (s .upper) x out
+  settled-kept : (out : Opened) → Long (network (s .opening .graph)) out → Shallow (s .opening .graph .n) (x .marks) out
+      → Law (network (s .opening .graph)) (network-valid (s .opening .graph) (h .opening .valid)) (s .upper) (x .marks) out
       → Kept (settled s rest out)
-  unfolding settled
+  unfolding settled network
   settled-kept closes z v w =
       record {
         opening = h .opening;
         upper = h .upper;
         depth = omega (arith, below);
-        nodes = waiting .2;
+        nodes = waiting .1;
         sized = h .sized;
         count = l;
       }
   settled-kept (finds r) z v w =
       record {
         opening = h .opening;
-        upper = lowered-range (s .opening .graph) (h .opening .valid) r (w .inside .tour);
+        upper = lowered-range (s .opening .graph) (h .opening .valid) r (w (x .multipliers) .inside .tour);
         depth = omega (arith, below);
-        nodes = waiting .2;
+        nodes = waiting .1;
         sized = z;
         count = l;
       }
@@ -185,11 +197,18 @@ module _ (s : Progress) (h : Kept s) (x : Marks) (rest : List Marks) (e : s .sta
       record {
         opening = h .opening;
         upper = h .upper;
-        depth = omega (arith, v .most, waiting .1);
+        depth = omega (arith, v .most, waiting .0 .required);
         nodes = (
-          z .1,
-          omega (arith, v .of-into, waiting .1),
-          (z .0, omega (arith, v .of-out, waiting .1), waiting .2),
+          record {
+            long = z .1 .long;
+            multipliers = z .1 .multipliers;
+            required = omega (arith, v .of-into, waiting .0 .required);
+          },
+          (record {
+            long = z .0 .long;
+            multipliers = z .0 .multipliers;
+            required = omega (arith, v .of-out, waiting .0 .required);
+          }, waiting .1),
         );
         sized = h .sized;
         count = l;
@@ -230,7 +249,14 @@ begin-kept o a = record {
   opening = a;
   upper = a .ceiling;
   depth = omega arith;
-  nodes = (row-size (o .graph .m) (network (o .graph) .mark), omega arith, tt);
+  nodes = (
+    record {
+      long = row-size (o .graph .m) (network (o .graph) .mark);
+      multipliers = record { long = a .long; fits = a .multipliers };
+      required = omega arith;
+    },
+    tt,
+  );
   sized = tt;
   count = omega arith;
 }

@@ -10,17 +10,17 @@ use lib.Dec.{ltb}
 use borrow.Author.Tests.{lt-ltb, ltb-true}
 use Rattle.lists.specs.Bools.{by-cases}
 use Rattle.graph.specs.Limits.{maxCount}
-use Rattle.machine.specs.Machine.{Marks, Progress, openTop, isEmpty, finished, ran}
+use Rattle.machine.specs.Machine.{Node, Progress, openTop, isEmpty, finished, ran}
 
 pub data RunTurn (s : Progress) : Type 0 where
-  opens-top : (x : Marks) (rest : List Marks) → s .stack ≡ x ∷ rest → s .count < maxCount → RunTurn s
+  opens-top : (x : Node) (rest : List Node) → s .stack ≡ x ∷ rest → s .count < maxCount → RunTurn s
   empty : s .stack ≡ [] → RunTurn s
   full : maxCount ≤ s .count → RunTurn s
 
 pub turn : (s : Progress) → RunTurn s
 turn s = go (s .stack) refl (decLe (suc (s .count)) maxCount)
   where
-    go : (st : List Marks) → s .stack ≡ st → Dec (s .count < maxCount) → RunTurn s
+    go : (st : List Node) → s .stack ≡ st → Dec (s .count < maxCount) → RunTurn s
     go [] e l = empty e
     go (x ∷ rest) e (yes l) = opens-top x rest e l
     go (x ∷ rest) e (no l) = full (omega arith)
@@ -29,10 +29,10 @@ not-below : (n k : ℕ) → k ≤ n → ltb n k ≡ false
 not-below n k h = by-cases (ltb n k) (λ e. absurd (omega (arith, ltb-true n k e))) (λ e. e)
 
 module _ (budget : ℕ) (s : Progress) where
-  pub ran-opens : (x : Marks) (rest : List Marks) → s .stack ≡ x ∷ rest → s .count < maxCount
+  pub ran-opens : (x : Node) (rest : List Node) → s .stack ≡ x ∷ rest → s .count < maxCount
       → ran (suc budget) s ≡ ran budget (openTop s (x ∷ rest))
   unfolding ran
-  ran-opens x rest e l = rw (e, lt-ltb (s .count) maxCount l, ran) (ap (λ (st : List Marks). ran budget (openTop s st)) e)
+  ran-opens x rest e l = rw (e, lt-ltb (s .count) maxCount l, ran) (ap (λ (st : List Node). ran budget (openTop s st)) e)
 
 pub ran-empty : (budget : ℕ) (s : Progress) → s .stack ≡ [] → ran budget s ≡ s
 unfolding ran
@@ -57,7 +57,7 @@ ran-finished (suc budget) s h = rw (h, ran)
 
 -- what every opening keeps, a run keeps
 pub ran-keeps : (P : Progress → Type 0)
-    → ((s : Progress) (x : Marks) (rest : List Marks) → s .stack ≡ x ∷ rest → s .count < maxCount → P s → P (openTop s (x ∷ rest)))
+    → ((s : Progress) (x : Node) (rest : List Node) → s .stack ≡ x ∷ rest → s .count < maxCount → P s → P (openTop s (x ∷ rest)))
     → (budget : ℕ) (s : Progress) → P s → P (ran budget s)
 unfolding ran
 ran-keeps P opened zero s h = h

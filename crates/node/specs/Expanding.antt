@@ -122,32 +122,39 @@ module _ (marks : List ℕ) (m : ℕ) (few : m ≤ maxEdges) where
   -- ---- by the fate of the node
 
   pub closes-same : (out : M.Opened) (o : Opened) → o ≡ openedAs out → o .fate ≡ fate.Closes
-      → opened (o .fate) (replicate maxEdges 0) (replicate maxEdges 0) ≡ openedAs (spreadOpened (kept marks) m out)
+      → opened (o .fate) (replicate maxEdges 0) (replicate maxEdges 0) (o .last) ≡ openedAs (spreadOpened (kept marks) m out)
   unfolding openedAs
-  closes-same closes o e f = ap (λ (a : Fate). opened a (replicate maxEdges 0) (replicate maxEdges 0)) f
+  closes-same closes o e f = λ i. record {
+    fate = f i;
+    row = replicate maxEdges 0;
+    top = replicate maxEdges 0;
+    last = ap (λ (p : Opened). p .last) e i;
+  }
   closes-same (finds r) o e f = let z : fate.Finds ≡ fate.Closes = sym (ap (λ (p : Opened). p .fate) e) ∙ f in cc
   closes-same (splits x y) o e f = let z : fate.Splits ≡ fate.Closes = sym (ap (λ (p : Opened). p .fate) e) ∙ f in cc
 
   pub finds-same : (out : M.Opened) (o : Opened) → o ≡ openedAs out → o .fate ≡ fate.Finds
       → (w : List ℕ) → Filling 0 maxEdges m (expandedAt marks (o .row) 0) w
-      → opened (o .fate) w (replicate maxEdges 0) ≡ openedAs (spreadOpened (kept marks) m out)
+      → opened (o .fate) w (replicate maxEdges 0) (o .last) ≡ openedAs (spreadOpened (kept marks) m out)
   unfolding openedAs
   finds-same closes o e f w h = let z : fate.Closes ≡ fate.Finds = sym (ap (λ (p : Opened). p .fate) e) ∙ f in cc
   finds-same (finds r) o e f w h = λ i. record {
     fate = f i;
     row = expanded-tour r w (subst (λ (p : Opened). Filling 0 maxEdges m (expandedAt marks (p .row) 0) w) e h) i;
     top = replicate maxEdges 0;
+    last = ap (λ (p : Opened). p .last) e i;
   }
   finds-same (splits x y) o e f w h = let z : fate.Splits ≡ fate.Finds = sym (ap (λ (p : Opened). p .fate) e) ∙ f in cc
 
   pub splits-same : (out : M.Opened) (o : Opened) → o ≡ openedAs out → o .fate ≡ fate.Splits
       → (w u : List ℕ) → Filling 0 maxEdges m (expandedAt marks (o .row) 2) w → Filling 0 maxEdges m (expandedAt marks (o .top) 2) u
-      → opened (o .fate) w u ≡ openedAs (spreadOpened (kept marks) m out)
+      → opened (o .fate) w u (o .last) ≡ openedAs (spreadOpened (kept marks) m out)
   unfolding openedAs
   splits-same closes o e f w u h k = let z : fate.Closes ≡ fate.Splits = sym (ap (λ (p : Opened). p .fate) e) ∙ f in cc
   splits-same (finds r) o e f w u h k = let z : fate.Finds ≡ fate.Splits = sym (ap (λ (p : Opened). p .fate) e) ∙ f in cc
   splits-same (splits x y) o e f w u h k = λ i. record {
     fate = f i;
-    row = expanded-marks x w (subst (λ (p : Opened). Filling 0 maxEdges m (expandedAt marks (p .row) 2) w) e h) i;
-    top = expanded-marks y u (subst (λ (p : Opened). Filling 0 maxEdges m (expandedAt marks (p .top) 2) u) e k) i;
+    row = expanded-marks (x .marks) w (subst (λ (p : Opened). Filling 0 maxEdges m (expandedAt marks (p .row) 2) w) e h) i;
+    top = expanded-marks (y .marks) u (subst (λ (p : Opened). Filling 0 maxEdges m (expandedAt marks (p .top) 2) u) e k) i;
+    last = ap (λ (p : Opened). p .last) e i;
   }

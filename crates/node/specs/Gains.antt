@@ -16,17 +16,14 @@ use lib.Signed.{ltZ}
 use borrow.Author.Tests.{lt-leb}
 use mir.Val.{SFits}
 use mir.Syntax.{w32}
-use Rattle.lists.specs.Bools.{and-right}
-use Rattle.lists.specs.All.{everyOf}
 use Rattle.lists.specs.Rows.{row, row-size, row-at}
-use Rattle.lists.specs.Fill.{fill-is, fit, fit-size, fit-at}
-use Rattle.integers.specs.Parts.{up, dn, mag-of-parts, add-up, add-dn, neg-up, neg-dn, eq-of-parts}
-use Rattle.integers.specs.Range.{within, within-range, InRange, clamp, clamp-range}
+use Rattle.lists.specs.Fill.{fill-is, fit, fit-at}
+use Rattle.integers.specs.Parts.{up, dn, mag-of-parts, add-up, add-dn, neg-up, neg-dn}
+use Rattle.integers.specs.Range.{InRange, clamp}
 use Rattle.graph.specs.Limits.{maxVertices, maxMultiplier, maxStep}
 use Rattle.graph.specs.Network.{Network}
 use Rattle.tree_theory.specs.OneTree.{Edges}
-use Rattle.tree_theory.specs.Inputs.{multiplier, multipliersFit}
-use Rattle.tree_theory.specs.Multipliers.{fit-ranged, ranged-fit}
+use Rattle.tree_theory.specs.Inputs.{multiplier}
 use Rattle.tours.specs.Tours.{degree}
 use Rattle.machine.specs.Machine.{gained}
 
@@ -145,26 +142,3 @@ module _ (g : Network) (step : ℕ) (t : Edges) (degrees : List ℕ) (d r : List
   unfolding gained fit after
   gains-is = fill-is (g .n) (λ i. getD r i (pos 0)) (row (g .n) after) (pos 0) (row-size (g .n) after)
       (λ i b. at i b ∙ sym (row-at (g .n) after i (pos 0) b))
-
--- they fit again
-fit-first : (d : List ℤ) → multipliersFit d ≡ true → multiplier d 1 ≡ pos 0
-unfolding multipliersFit
-fit-first d h =
-    let r = within-range 0 (multiplier d 1) (and-right (everyOf (within maxMultiplier) d) (within 0 (multiplier d 1)) h) in
-    eq-of-parts (multiplier d 1) (pos 0) (omega (arith, r .high, r .low))
-
-module _ (n step : ℕ) (degrees : List ℕ) (d r : List ℤ) (low : 1 ≤ n) (h : GainsTo n step degrees d r)
-    (fits : multipliersFit (fit n (pos 0) d) ≡ true) where
-  same-first : getD (fit n (pos 0) r) 0 (pos 0) ≡ getD (fit n (pos 0) d) 0 (pos 0)
-  same-first = fit-at n (pos 0) r 0 low ∙ h .first ∙ sym (fit-at n (pos 0) d 0 low)
-
-  ranged : (k : ℕ) → k < n → InRange maxMultiplier (getD (fit n (pos 0) r) k (pos 0))
-  ranged zero b = rw same-first (fit-ranged (fit n (pos 0) d) fits 0 (omega (arith, fit-size n (pos 0) d)))
-  ranged (suc k) b =
-      rw (fit-at n (pos 0) r (suc k) b, h .new (suc k) (omega arith) b)
-      (clamp-range maxMultiplier (getD d (suc k) (pos 0) +ℤ gainOf step (getD degrees (suc k + 1) 0)))
-
-  pub gains-fit : multipliersFit (fit n (pos 0) r) ≡ true
-  gains-fit =
-      ranged-fit (fit n (pos 0) r) (λ k b. ranged k (omega (arith, fit-size n (pos 0) r)))
-      (unfold multiplier in same-first ∙ fit-first (fit n (pos 0) d) fits)

@@ -8,6 +8,7 @@ use native.Mathlib.Omega.{arith}
 use native.Mathlib.Decide.{ℕ-discrete}
 use lib.Dec.{ltb}
 use lib.ListN.{length, getD, set, length-set}
+use lib.IntN.{ℤ}
 use lib.Seq.{getD-set-same, getD-set-other}
 use borrow.Author.Tests.{lt-ltb, le-ltb}
 use Rattle.lists.specs.Bools.{by-cases}
@@ -21,7 +22,7 @@ use Rattle.machine.specs.Machine.{Marks, isFree, markBy, firstFree, branch}
 use Rattle.machine.specs.Branching.{free-is, first-is}
 use Rattle.node.specs.declared.Fate.the-variants as fate
 use Rattle.node.specs.Marks.{byteOf, bytesOf, bytes-at}
-use Rattle.node.specs.Opened.{opened, openedAs}
+use Rattle.node.specs.Opened.{opened, places, openedAs}
 
 -- "0 keep, 1 force, 2 bar, 3 already required, 4 already struck": free, required, struck, required, struck
 abbrev pub markByte : ℕ → ℕ
@@ -88,12 +89,13 @@ module _ (x : Marks) (m k : ℕ) (few : m ≤ maxEdges) (long : length x ≡ m) 
           free-is (getD x k free)
           (free-byte (getD x k free) (sym (bytes-at x k (omega (arith, long))) ∙ f .here (omega (arith, long))))
 
-  pub branch-closes : k ≡ m → openedAs (branch x) ≡ openedAs closes
+  pub branch-closes : (d : List ℤ) → k ≡ m → openedAs (branch d x) ≡ openedAs closes
   unfolding branch
-  branch-closes e = rw (first, le-ltb k (length x) (omega (arith, long)))
+  branch-closes d e = rw (first, le-ltb k (length x) (omega (arith, long)))
 
-  pub branch-splits : k < m → openedAs (branch x) ≡ opened fate.Splits (set (bytesOf x) k 2) (set (bytesOf x) k 1)
+  pub branch-splits : (d : List ℤ) → k < m
+      → openedAs (branch d x) ≡ opened fate.Splits (set (bytesOf x) k 2) (set (bytesOf x) k 1) (places d)
   unfolding branch openedAs
-  branch-splits h =
+  branch-splits d h =
       let b : k < length x = omega (arith, long) in
       rw (first, lt-ltb k (length x) b, bytes-set x k excluded b (omega arith), bytes-set x k required b (omega arith))

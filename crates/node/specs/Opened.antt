@@ -1,5 +1,7 @@
--- What the opening of a node comes to, for every input: its fate, and the two lists of bytes that go with it. Definitions only.
+-- What the opening of a node comes to, for every input: its fate, and the two lists of bytes and the multipliers that go with it. Definitions
+-- only.
 --   Opened, openedAs   what the machine's opening of a node comes to, in bytes
+--   places             a list of multipliers in an array's places
 --   kept, left         the edges that a graph's marks do not exclude, and the graph of those alone
 --   taken              what a node is opened with, as the arguments of an opening
 --   nodeFault, opens   what is refused; what is answered and left
@@ -7,17 +9,17 @@ use mathlib.Core.Bool.{not, cond}
 use mathlib.Core.List.{List}
 use Prim.Native.Nat.{ℕ, zero, suc}
 use lib.Dec.{eqb, leb}
-use lib.IntN.{pos}
+use lib.IntN.{ℤ, pos}
 use lib.ListN.{replicate}
 use Rattle.lists.specs.Fill.{fill, fit}
 use Rattle.graph.specs.declared.Graph.{Graph}
-use Rattle.graph.specs.Limits.{maxEdges}
+use Rattle.graph.specs.Limits.{maxVertices, maxEdges}
 use Rattle.graph.specs.Network.{place}
 use Rattle.tree_theory.specs.OneTree.{Edges}
 use Rattle.tree_theory.specs.Arrays.{entry}
 use Rattle.machine.specs.Outcomes.{closes, finds, splits}
 use Rattle.machine.specs.Machine as M
-use Rattle.machine.specs.Machine.{Opening, openNode}
+use Rattle.machine.specs.Machine.{nodeOf, Opening, openNode}
 use Rattle.machine.specs.Calls.{fault}
 use Rattle.compaction.specs.Ranks.{rank, nth}
 use Rattle.node.specs.declared.Fate.{Fate}
@@ -25,25 +27,34 @@ use Rattle.node.specs.declared.Fate.the-variants as fate
 use Rattle.node.specs.declared.Subproblem.{Subproblem}
 use Rattle.node.specs.Marks.{marksIn, bytesOf, bytesOfTour}
 
--- a node's fate, and the two lists of bytes that go with it
+-- a node's fate, and the two lists of bytes and the multipliers that go with it
 pub record Opened : Type 0 where
   pub fate : Fate
   pub row : List ℕ
   pub top : List ℕ
+  pub last : List ℤ
 
-abbrev pub opened : Fate → List ℕ → List ℕ → Opened
-opened a w u = record { fate = a; row = w; top = u }
+abbrev pub opened : Fate → List ℕ → List ℕ → List ℤ → Opened
+opened a w u e = record { fate = a; row = w; top = u; last = e }
+
+-- multipliers in an array's places, zero past them
+abbrev pub places : List ℤ → List ℤ
+places d = fit maxVertices (pos 0) d
+
+abbrev pub noMultipliers : List ℤ
+noMultipliers = replicate maxVertices (pos 0)
 
 -- a tour is found, and w has its bytes
 abbrev pub foundAs : List ℕ → Opened
-foundAs w = opened fate.Finds w (replicate maxEdges 0)
+foundAs w = opened fate.Finds w (replicate maxEdges 0) noMultipliers
 
--- what the machine's opening of a node comes to, in bytes
+-- what the machine's opening of a node comes to, in bytes. Both halves have the multipliers of one list (document 02, C-16: "Both branches
+-- see the same parent dues"; `siblings` in machine's Inherited)
 unfoldable pub openedAs : M.Opened → Opened
-unfolding bytesOfTour bytesOf
-openedAs closes = opened fate.Closes (replicate maxEdges 0) (replicate maxEdges 0)
+unfolding bytesOfTour bytesOf fit
+openedAs closes = opened fate.Closes (replicate maxEdges 0) (replicate maxEdges 0) noMultipliers
 openedAs (finds r) = foundAs (bytesOfTour r)
-openedAs (splits out into) = opened fate.Splits (bytesOf out) (bytesOf into)
+openedAs (splits out into) = opened fate.Splits (bytesOf (out .marks)) (bytesOf (into .marks)) (places (into .multipliers))
 
 -- ---- the edges that are left
 
@@ -88,18 +99,18 @@ unfoldable pub nodeFault : Opening → ℕ
 unfolding fault
 nodeFault o = cond (leb (o .graph .m) maxEdges) (fault (leftIn o)) 15
 
--- a fault is refused, and leaves both lists as they were
-abbrev pub unlessRefused : ℕ → List ℕ → List ℕ → Opened → Opened
-unlessRefused zero row top out = out
-unlessRefused (suc k) row top out = opened (fate.Refused (suc k)) row top
+-- a fault is refused, and leaves the lists as they were
+abbrev pub unlessRefused : ℕ → List ℕ → List ℕ → List ℤ → Opened → Opened
+unlessRefused zero row top last out = out
+unlessRefused (suc k) row top last out = opened (fate.Refused (suc k)) row top last
 
 -- by the number of a fault
-unfoldable pub opensBy : ℕ → Opening → List ℕ → Opened
+unfoldable pub opensBy : ℕ → Opening → List ℕ → List ℤ → Opened
 unfolding openedAs openNode marksIn
-opensBy number o top =
-    unlessRefused number (o .graph .mark) top
-    (openedAs (openNode o (o .settings .ceiling) (marksIn (o .graph .m) (o .graph .mark))))
+opensBy number o top last =
+    unlessRefused number (o .graph .mark) top last
+    (openedAs (openNode o (o .settings .ceiling) (nodeOf (o .multipliers) (marksIn (o .graph .m) (o .graph .mark)))))
 
-unfoldable pub opens : Opening → List ℕ → Opened
+unfoldable pub opens : Opening → List ℕ → List ℤ → Opened
 unfolding opensBy nodeFault
-opens o top = opensBy (nodeFault o) o top
+opens o top last = opensBy (nodeFault o) o top last

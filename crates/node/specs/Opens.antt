@@ -7,6 +7,7 @@ use Prim.Native.Nat.{ℕ, zero, suc, _≤_}
 use native.Mathlib.Omega.{arith}
 use native.Mathlib.Decide.{decLe}
 use lib.Dec.{leb}
+use lib.IntN.{ℤ}
 use borrow.Author.Tests.{le-leb, lt-leb}
 use Rattle.graph.specs.Limits.{maxEdges}
 use Rattle.graph.specs.Network.{network}
@@ -25,11 +26,11 @@ use Rattle.node.specs.CompactGraph.{left-few, left-valid, left-passes}
 
 -- ---- by what it comes to on the edges that are left
 
-module _ (o : Opening) (top : List ℕ) where
+module _ (o : Opening) (top : List ℕ) (last : List ℤ) where
   -- there are too many edges, or those that are left make no valid graph
-  pub opens-15 : (o .graph .m ≤ maxEdges → Valid (left (o .graph)) → ⊥) → opened (fate.Refused 15) (o .graph .mark) top ≡ opens o top
+  pub opens-15 : (o .graph .m ≤ maxEdges → Valid (left (o .graph)) → ⊥) → opened (fate.Refused 15) (o .graph .mark) top last ≡ opens o top last
   unfolding opens nodeFault
-  opens-15 h = opens-refused 15 o top (omega arith) ∙ ap (λ (k : ℕ). opensBy k o top) (sym (go (decLe (o .graph .m) maxEdges)))
+  opens-15 h = opens-refused 15 o top last (omega arith) ∙ ap (λ (k : ℕ). opensBy k o top last) (sym (go (decLe (o .graph .m) maxEdges)))
     where
       go : Dec (o .graph .m ≤ maxEdges) → cond (leb (o .graph .m) maxEdges) (fault (leftIn o)) 15 ≡ 15
       go (yes b) = rw (le-leb (o .graph .m) maxEdges b) (fault-15 (leftIn o) (not-valid (left (o .graph)) (h b)))
@@ -41,21 +42,21 @@ module _ (o : Opening) (top : List ℕ) where
     number = rw (le-leb (o .graph .m) maxEdges few)
 
     -- a node of a valid graph is not refused
-    pub opens-valid : fault (leftIn o) ≡ 0 → opens o top ≡ openedAs (outcome o)
+    pub opens-valid : fault (leftIn o) ≡ 0 → opens o top last ≡ openedAs (outcome o)
     unfolding opens
-    opens-valid e = sym (opens-accepted (nodeFault o) o top (number ∙ e))
+    opens-valid e = sym (opens-accepted (nodeFault o) o top last (number ∙ e))
 
-    module _ (spare : List ℕ) (r : Opened) (inner : r ≡ opensBy (fault (leftIn o)) (leftIn o) spare) where
-      pub left-refused : (k : ℕ) → r .fate ≡ fate.Refused k → opened (r .fate) (o .graph .mark) top ≡ opens o top
+    module _ (spare : List ℕ) (r : Opened) (inner : r ≡ opensBy (fault (leftIn o)) (leftIn o) spare last) where
+      pub left-refused : (k : ℕ) → r .fate ≡ fate.Refused k → opened (r .fate) (o .graph .mark) top (r .last) ≡ opens o top last
       unfolding opens opensBy
-      left-refused k e = go (fault (leftIn o)) inner ∙ ap (λ (n : ℕ). opensBy n o top) (sym number)
+      left-refused k e = go (fault (leftIn o)) inner ∙ ap (λ (n : ℕ). opensBy n o top last) (sym number)
         where
-          go : (n : ℕ) → r ≡ opensBy n (leftIn o) spare → opened (r .fate) (o .graph .mark) top ≡ opensBy n o top
+          go : (n : ℕ) → r ≡ opensBy n (leftIn o) spare last → opened (r .fate) (o .graph .mark) top (r .last) ≡ opensBy n o top last
           go zero i = absurd (never-refused (outcome (leftIn o)) k (sym (ap (λ (x : Opened). x .fate) i) ∙ e))
-          go (suc n) i = ap (λ (x : Opened). opened (x .fate) (o .graph .mark) top) i
+          go (suc n) i = ap (λ (x : Opened). opened (x .fate) (o .graph .mark) top (x .last)) i
 
       module _ (e : isRefused (r .fate) ≡ false) where
-        none : (n : ℕ) → r ≡ opensBy n (leftIn o) spare → n ≡ 0
+        none : (n : ℕ) → r ≡ opensBy n (leftIn o) spare last → n ≡ 0
         unfolding opensBy
         none zero i = refl
         none (suc n) i = absurd (true≢false (sym (ap (λ (x : Opened). isRefused (x .fate)) i) ∙ e))
@@ -65,11 +66,11 @@ module _ (o : Opening) (top : List ℕ) where
         left-fault = none (fault (leftIn o)) inner
 
         pub left-comes : r ≡ openedAs (outcome (leftIn o))
-        left-comes = inner ∙ sym (opens-accepted (fault (leftIn o)) (leftIn o) spare left-fault)
+        left-comes = inner ∙ sym (opens-accepted (fault (leftIn o)) (leftIn o) spare last left-fault)
 
         -- what its bytes expand to is what is promised
         pub left-opens : (w : Opened) → w ≡ openedAs (spreadOpened (kept (o .graph .mark)) (o .graph .m) (outcome (leftIn o)))
-            → w ≡ opens o top
+            → w ≡ opens o top last
         left-opens w i =
             i
             ∙ ap openedAs (left-passes (o .graph) (left-few (o .graph) few) (o .multipliers) (o .settings .step) (o .settings .ceiling)
@@ -77,12 +78,12 @@ module _ (o : Opening) (top : List ℕ) where
             ∙ sym (opens-valid left-fault)
 
 -- A NODE OF A SEARCH, on the graph of its opening: nothing is refused, whatever marks that graph had
-pub opens-node : (o : Opening) → Fit o → (x : List ℕ) → x ≡ bytesOf (marksIn (o .graph .m) x) → (top : List ℕ)
-    → opens (record { graph = withBytes (o .graph) x; multipliers = o .multipliers; settings = o .settings }) top
+pub opens-node : (o : Opening) → Fit o → (x : List ℕ) → x ≡ bytesOf (marksIn (o .graph .m) x) → (top : List ℕ) (last : List ℤ)
+    → opens (record { graph = withBytes (o .graph) x; multipliers = o .multipliers; settings = o .settings }) top last
     ≡ openedAs (passes (network (o .graph)) (o .settings .step) (o .settings .ceiling) (o .settings .sweeps) (o .multipliers)
     (marksIn (o .graph .m) x))
-opens-node o f x canonical top =
-    opens-valid node top (f .valid .few) (fit-fault (leftIn node) (record {
+opens-node o f x canonical top last =
+    opens-valid node top last (f .valid .few) (fit-fault (leftIn node) (record {
       valid = left-valid (withBytes (o .graph) x) valid;
       long = f .long;
       multipliers = f .multipliers;

@@ -8,7 +8,7 @@ use native.Mathlib.Omega.{arith}
 use native.Mathlib.Decide.{decLe}
 use lib.ListN.{length, getD, List·getD-eq-default}
 use lib.IntN.{ℤ, pos}
-use Rattle.lists.specs.Fill.{fit}
+use Rattle.lists.specs.Fill.{fit, fit-size}
 use Rattle.graph.specs.declared.Graph.{Graph}
 use Rattle.graph.specs.Limits.{maxEdges}
 use Rattle.graph.specs.Network.{Network, free, markOf, place, network}
@@ -20,8 +20,10 @@ use Rattle.machine.specs.Outcomes.{closes}
 use Rattle.tours.specs.Tours as T
 use Rattle.machine.specs.Machine as M
 use Rattle.machine.specs.Machine.{Marks, withMarks, Pass, shut, found, unclosed, pass, gained, branch, concluded, passes}
+use Rattle.machine.specs.Kept.{FitFor}
+use Rattle.machine.specs.Gained.{gained-fits}
 use Rattle.node.specs.Marks.{marksIn, mark-byte, bytesOf, bytes-at, bytes-small, bytes-back, marks-size}
-use Rattle.node.specs.Gains.{GainsTo, gains-is, gains-fit}
+use Rattle.node.specs.Gains.{GainsTo, gains-is}
 use Rattle.node.specs.OnePass.{FoundAs, RuledAs, treeBytes}
 use Rattle.node.specs.Opened.{openedAs, foundAs}
 
@@ -73,7 +75,7 @@ valid-bytes g x v = record {
 
 -- how an unclosed node goes on
 abbrev later : Network → ℕ → ℤ → ℕ → List ℤ → Edges → Marks → M.Opened
-later g step upper zero d t y = branch y
+later g step upper zero d t y = branch d y
 later g step upper (suc left) d t y = passes g step upper left (gained g step t d) y
 
 turn : (g : Network) (step : ℕ) (upper : ℤ) (left : ℕ) (d : List ℤ) (x : Marks)
@@ -169,9 +171,9 @@ module _ (g : Graph) (valid : Valid g) (step : ℕ) (upper : ℤ) (out : M.Opene
     pub turn-marks : w ≡ bytesOf (marksIn (g .m) w)
     turn-marks = r .bytes ∙ ap bytesOf (sym marks-now)
 
-    pub turn-last : left ≡ 0 → openedAs (branch (marksIn (g .m) w)) ≡ openedAs out
+    pub turn-last : left ≡ 0 → openedAs (branch (fit (g .n) (pos 0) d) (marksIn (g .m) w)) ≡ openedAs out
     turn-last z =
-        ap (λ (y : Marks). openedAs (branch y)) marks-now
+        ap (λ (y : Marks). openedAs (branch (fit (g .n) (pos 0) d) y)) marks-now
         ∙ ap openedAs (sym (goes-on ∙ ap (λ (i : ℕ). later (network g) step upper i (fit (g .n) (pos 0) d) (r .tree) (r .marks)) z))
 
     module _ (next : List ℤ) (gains : GainsTo (g .n) step degrees d next) (less : ℕ) (e : left ≡ suc less) where
@@ -184,7 +186,7 @@ module _ (g : Graph) (valid : Valid g) (step : ℕ) (upper : ℤ) (out : M.Opene
         marks = r .marks;
         long = r .long;
         bytes = r .bytes;
-        fits = gains-fit (g .n) step degrees d next (omega (arith, valid .low)) gains (s .fits);
+        fits = ap multipliersFit gained-now ∙ again .fits;
         comes =
             ap (λ (l : List ℤ). passes (network g) step upper less l (r .marks)) gained-now
             ∙ sym (goes-on ∙ ap (λ (i : ℕ). later (network g) step upper i (fit (g .n) (pos 0) d) (r .tree) (r .marks)) e);
@@ -192,3 +194,8 @@ module _ (g : Graph) (valid : Valid g) (step : ℕ) (upper : ℤ) (out : M.Opene
         where
           gained-now : fit (g .n) (pos 0) next ≡ gained (network g) step (r .tree) (fit (g .n) (pos 0) d)
           gained-now = unfold network in gains-is (network g) step (r .tree) degrees d next gains degree-now
+
+          again : FitFor (g .n) (gained (network g) step (r .tree) (fit (g .n) (pos 0) d))
+          again =
+              unfold network in gained-fits (network g) (omega (arith, valid .low)) step (r .tree) (fit (g .n) (pos 0) d)
+              (record { long = fit-size (g .n) (pos 0) d; fits = s .fits })

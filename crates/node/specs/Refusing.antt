@@ -41,15 +41,16 @@ never-refused closes k e = true≢false (sym (ap isRefused e))
 never-refused (finds r) k e = true≢false (sym (ap isRefused e))
 never-refused (splits x y) k e = true≢false (sym (ap isRefused e))
 
-pub opens-refused : (k : ℕ) (o : Opening) (top : List ℕ) → k ≢ 0 → opened (fate.Refused k) (o .graph .mark) top ≡ opensBy k o top
+pub opens-refused : (k : ℕ) (o : Opening) (top : List ℕ) (last : List ℤ) → k ≢ 0
+    → opened (fate.Refused k) (o .graph .mark) top last ≡ opensBy k o top last
 unfolding opensBy
-opens-refused zero o top n = absurd (n refl)
-opens-refused (suc k) o top n = refl
+opens-refused zero o top last n = absurd (n refl)
+opens-refused (suc k) o top last n = refl
 
-pub opens-accepted : (k : ℕ) (o : Opening) (top : List ℕ) → k ≡ 0 → openedAs (outcome o) ≡ opensBy k o top
+pub opens-accepted : (k : ℕ) (o : Opening) (top : List ℕ) (last : List ℤ) → k ≡ 0 → openedAs (outcome o) ≡ opensBy k o top last
 unfolding opensBy openNode
-opens-accepted zero o top e = refl
-opens-accepted (suc k) o top e = absurd (omega arith)
+opens-accepted zero o top last e = refl
+opens-accepted (suc k) o top last e = absurd (omega arith)
 
 -- ---- a turn of the loop
 
@@ -89,13 +90,13 @@ module _ (p : Subproblem) (g : Graph) (padded : Padded (g .m) (g .mark)) (left :
         step = f .step;
       })
 
-  pub turn-refused : (k : ℕ) (w top : List ℕ) → fault (takenAt p g x d) ≡ k → k ≢ 0 → w ≡ x
-      → opened (fate.Refused k) w top ≡ opensBy (fault (taken p g)) (taken p g) top
-  turn-refused k w top e n same = ⊎-elim
+  pub turn-refused : (k : ℕ) (w top : List ℕ) (last : List ℤ) → fault (takenAt p g x d) ≡ k → k ≢ 0 → w ≡ x
+      → opened (fate.Refused k) w top last ≡ opensBy (fault (taken p g)) (taken p g) top last
+  turn-refused k w top last e n same = ⊎-elim
       (λ r.
-      ap (λ (y : List ℕ). opened (fate.Refused k) y top) (same ∙ r .1)
-      ∙ opens-refused k (taken p g) top n
-      ∙ ap (λ (i : ℕ). opensBy i (taken p g) top) (sym e ∙ ap fault (first-taken (r .1) (r .2))))
+      ap (λ (y : List ℕ). opened (fate.Refused k) y top last) (same ∙ r .1)
+      ∙ opens-refused k (taken p g) top last n
+      ∙ ap (λ (i : ℕ). opensBy i (taken p g) top last) (sym e ∙ ap fault (first-taken (r .1) (r .2))))
       (λ r. absurd (n (sym e ∙ later-fit (r .0) (r .1)))) s
 
   pub turn-accepted : fault (takenAt p g x d) ≡ 0

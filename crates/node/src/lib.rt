@@ -31,8 +31,8 @@ pub struct Subproblem {
 }
 
 // What the opening of a node comes to. With it go two lists of bytes for each edge: a found tour in `row`; or of the two nodes of a split
-// the lower one in `row`, with the edge excluded, and the upper one in `top`, with the edge required. Zero where there is nothing to tell.
-// Refused, with the number of what does not fit, both are left as they were.
+// the lower one in `row`, with the edge excluded, and the upper one in `top`, with the edge required; and in `last` the multipliers of both, which
+// are those of the last pass. Zero where there is nothing to tell. Refused, with the number of what does not fit, all are left as they were.
 pub enum Fate {
     Refused(u32),
     Closes,
@@ -42,7 +42,8 @@ pub enum Fate {
 
 // The node with the marks in row is opened, on the graph of its edges that are not excluded: the loops of a pass go over those alone,
 // and what they come to is made bytes for all edges again.
-// Ruled out: an edge that the node excludes, and that a node below it does not; a byte written where the node is refused.
+// Ruled out: an edge that the node excludes, and that a node below it does not; multipliers that gain after the last pass; a byte written
+// where the node is refused.
 pub fn open<'a>(
     p: Subproblem,
     a: &'a [u8; MAX_EDGES],
@@ -50,10 +51,11 @@ pub fn open<'a>(
     cost: &'a [i32; MAX_EDGES],
     row: &mut [u8; MAX_EDGES],
     top: &mut [u8; MAX_EDGES],
+    last: &mut [i32; MAX_VERTICES],
 ) -> Fate
-    ensures { λ r. ⌜ opened r (now (row .exit)) (now (top .exit))
+    ensures { λ r. ⌜ opened r (now (row .exit)) (now (top .exit)) (now (last .exit))
         ≡ opens (taken p (graphOf (p .n) (p .m) (now (a .entry)) (now (b .entry)) (now (cost .entry)) (now (row .entry))))
-        (now (top .entry)) ⌝ }
+        (now (top .entry)) (now (last .entry)) ⌝ }
 {
     let m = p.m;
     if p.n > MAX_VERTICES {
@@ -75,7 +77,7 @@ pub fn open<'a>(
     let mut higher = [0u8; MAX_EDGES];
     let mut q = p;
     q.m = f;
-    let fate = open_left(q, &left_a, &left_b, &left_cost, &mut lower, &mut higher);
+    let fate = open_left(q, &left_a, &left_b, &left_cost, &mut lower, &mut higher, last);
     match fate {
         Fate::Refused(_) => {}
         Fate::Closes => {

@@ -3,6 +3,7 @@ ghost use mathlib.Core.Path.{_≡_};
 ghost use Prim.Native.Nat.{ℕ, _<_, _≤_};
 ghost use lib.ListN.{length, getD, replicate};
 ghost use lib.IntN.{pos, _+ℤ_};
+ghost use Rattle.lists.specs.Fill.{fit};
 ghost use Rattle.lists.specs.Filling.{Filling};
 ghost use Rattle.integers.specs.Range.{InRange, clamp};
 ghost use Rattle.graph.specs.Limits.{maxVertices, maxEdges, maxMultiplier, maxStep};
@@ -11,7 +12,7 @@ ghost use Rattle.machine.specs.Outcomes.{closes};
 ghost use Rattle.machine.specs.Machine.{branch};
 ghost use Rattle.machine.specs.Calls.{fault};
 ghost use Rattle.node.specs.Marks.{marksIn, bytesOf, Padded};
-ghost use Rattle.node.specs.Opened.{opened, openedAs, taken, opensBy};
+ghost use Rattle.node.specs.Opened.{opened, places, openedAs, taken, opensBy};
 ghost use Rattle.node.specs.Faults.{settingsFault};
 ghost use Rattle.node.specs.Counting.{Ends, edged, DegreesTo, allTwo};
 ghost use Rattle.node.specs.Gains.{gainOf, maxGain, GainsTo};
@@ -152,26 +153,54 @@ fn first_free(x: &[u8; MAX_EDGES], m: usize) -> usize
 }
 
 // A node that closes.
-fn close(row: &mut [u8; MAX_EDGES], top: &mut [u8; MAX_EDGES]) -> Fate
-    ensures { λ r. ⌜ opened r (now (row .exit)) (now (top .exit)) ≡ openedAs closes ⌝ }
+fn close(
+    row: &mut [u8; MAX_EDGES],
+    top: &mut [u8; MAX_EDGES],
+    last: &mut [i32; MAX_VERTICES],
+) -> Fate
+    ensures { λ r. ⌜ opened r (now (row .exit)) (now (top .exit)) (now (last .exit)) ≡ openedAs closes ⌝ }
 {
     *row = [0; MAX_EDGES];
     *top = [0; MAX_EDGES];
+    *last = [0; MAX_VERTICES];
     Fate::Closes
 }
 
-// After the last pass: the node whose marks are in row splits at its lowest free edge, or closes.
-fn split(m: usize, row: &mut [u8; MAX_EDGES], top: &mut [u8; MAX_EDGES]) -> Fate
-    requires { ⌜ (m ≤ maxEdges) × (now row ≡ bytesOf (marksIn m (now row))) ⌝ }
-    ensures { λ r. ⌜ opened r (now (row .exit)) (now (top .exit)) ≡ openedAs (branch (marksIn m (now (row .entry)))) ⌝ }
+// The multipliers of n vertices, then zeros.
+fn padded(d: [i32; MAX_VERTICES], n: usize) -> [i32; MAX_VERTICES]
+    requires { ⌜ n ≤ maxVertices ⌝ }
+    ensures { λ r. ⌜ r ≡ places (fit n (pos 0) d) ⌝ }
+{
+    let mut r = [0i32; MAX_VERTICES];
+    let mut v = 0;
+    while v < n {
+        r[v] = d[v];
+        v = v + 1;
+    }
+    r
+}
+
+// After the last pass, of which the multipliers are d: the node whose marks are in row splits at its lowest free edge, or closes.
+fn split(
+    n: usize,
+    m: usize,
+    d: [i32; MAX_VERTICES],
+    row: &mut [u8; MAX_EDGES],
+    top: &mut [u8; MAX_EDGES],
+    last: &mut [i32; MAX_VERTICES],
+) -> Fate
+    requires { ⌜ (n ≤ maxVertices) × (m ≤ maxEdges) × (now row ≡ bytesOf (marksIn m (now row))) ⌝ }
+    ensures { λ r. ⌜ opened r (now (row .exit)) (now (top .exit)) (now (last .exit))
+        ≡ openedAs (branch (fit n (pos 0) d) (marksIn m (now (row .entry)))) ⌝ }
 {
     let k = first_free(row, m);
     if k == m {
-        return close(row, top);
+        return close(row, top, last);
     }
     *top = *row;
     row[k] = EXCLUDED;
     top[k] = REQUIRED;
+    *last = padded(d, n);
     Fate::Splits
 }
 
@@ -274,7 +303,7 @@ fn judge<'a>(
     Verdict::Ruled(passed.live)
 }
 
-// The node with the marks in row is opened, on all edges given: multipliers set to the opening ones, then passes 0 to `sweeps`.
+// The node with the marks in row is opened, on all edges given: passes 0 to `sweeps`, from the node's multipliers on.
 pub(crate) fn open_left<'a>(
     p: Subproblem,
     a: &'a [u8; MAX_EDGES],
@@ -282,11 +311,13 @@ pub(crate) fn open_left<'a>(
     cost: &'a [i32; MAX_EDGES],
     row: &mut [u8; MAX_EDGES],
     top: &mut [u8; MAX_EDGES],
+    last: &mut [i32; MAX_VERTICES],
 ) -> Fate
     requires { ⌜ (p .n ≤ maxVertices) × (p .m ≤ maxEdges) × Padded (p .m) (now row) ⌝ }
-    ensures { λ r. ⌜ opened r (now (row .exit)) (now (top .exit))
+    ensures { λ r. ⌜ opened r (now (row .exit)) (now (top .exit)) (now (last .exit))
         ≡ opensBy (fault (taken p (graphOf (p .n) (p .m) (now (a .entry)) (now (b .entry)) (now (cost .entry)) (now (row .entry)))))
-        (taken p (graphOf (p .n) (p .m) (now (a .entry)) (now (b .entry)) (now (cost .entry)) (now (row .entry)))) (now (top .entry)) ⌝ }
+        (taken p (graphOf (p .n) (p .m) (now (a .entry)) (now (b .entry)) (now (cost .entry)) (now (row .entry)))) (now (top .entry))
+        (now (last .entry)) ⌝ }
 {
     let settings = p.settings;
     let mut d = p.multipliers;
@@ -304,10 +335,11 @@ pub(crate) fn open_left<'a>(
                 return Fate::Refused(number);
             }
             Verdict::Shut => {
-                return close(row, top);
+                return close(row, top, last);
             }
             Verdict::Found => {
                 *top = [0; MAX_EDGES];
+                *last = [0; MAX_VERTICES];
                 return Fate::Finds;
             }
             Verdict::Ruled(next) => {
@@ -315,7 +347,7 @@ pub(crate) fn open_left<'a>(
             }
         }
         if left == 0 {
-            return split(p.m, row, top);
+            return split(p.n, p.m, d, row, top, last);
         }
         let next = gains(&degrees, d, p.n, settings.step);
         d = next;

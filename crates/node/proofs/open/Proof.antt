@@ -30,10 +30,10 @@ abbrev opening : tie.Start → Opening
 opening s = taken (s .args .p) (given s)
 
 returns : tie.Need-returns
-returns c = let s = c .before .before in opens-15 (opening s) _ (λ b v. omega (arith, v .high, c .if1 .taken))
+returns c = let s = c .before .before in opens-15 (opening s) _ _ (λ b v. omega (arith, v .high, c .if1 .taken))
 
 returns-2 : tie.Need-returns-2
-returns-2 c = let s = c .before .before .before in opens-15 (opening s) _ (λ b v. omega (arith, c .if2 .taken))
+returns-2 c = let s = c .before .before .before in opens-15 (opening s) _ _ (λ b v. omega (arith, c .if2 .taken))
 
 -- where the places of the edges that are left are listed, and where the function starts
 abbrev small : tie.After-list-left → tie.Else2
@@ -98,7 +98,7 @@ gather-requires-3 c κs = let l = places-in (listed (ends (costs (c .before .bef
 open-left-requires : tie.Need-open-left-requires
 open-left-requires c κs =
     let lent = c .before .before .before in
-    let k = lent .before .before in
+    let k = lent .before .before .before in
     let l = before-all k in (
       omega (arith, small l .before .if1 .left),
       l .list-left .ensures .1,
@@ -107,20 +107,20 @@ open-left-requires c κs =
 
 -- where all parts are gathered, from where the node is opened
 abbrev all : tie.After-open-left → tie.After-gather3
-all o = let lent = o .before .before .before in lent .before .before .before
+all o = let lent = o .before .before .before .before in lent .before .before .before
 
 abbrev begun : tie.After-open-left → tie.Start
 begun o = start (before-all (all o))
 
 -- what the node comes to there
 abbrev came : tie.After-open-left → Opened
-came o = let r = o .open-left in opened (r .result) (r .last .1 .1 .1 .1 .0) (r .last .1 .1 .1 .1 .1 .0)
+came o = let r = o .open-left in opened (r .result) (r .last .1 .1 .1 .1 .0) (r .last .1 .1 .1 .1 .1 .0) (r .last .1 .1 .1 .1 .1 .1 .0)
 
 inner : (o : tie.After-open-left)
-    → let h = leftIn (opening (begun o)) in came o ≡ opensBy (fault h) h (replicate 190 0)
+    → let h = leftIn (opening (begun o)) in came o ≡ opensBy (fault h) h (replicate 190 0) (begun o .args .last .now)
 inner o =
     let p = begun o .args .p in
-    subst (λ (h : Graph). came o ≡ opensBy (fault (taken p h)) (taken p h) (replicate 190 0)) (made-is (all o)) (o .open-left .ensures)
+    subst (λ (h : Graph). came o ≡ opensBy (fault (taken p h)) (taken p h) (replicate 190 0) (begun o .args .last .now)) (made-is (all o)) (o .open-left .ensures)
 
 -- the places of the edges that are left
 places : (o : tie.After-open-left)
@@ -167,7 +167,7 @@ returns-3 : tie.Need-returns-3
 returns-3 c =
     let o = c .before .before in
     let l = before-all (all o) in
-    left-refused (opening (begun o)) _ (few l) _ _ (inner o) _ (c .enum-told .given .1)
+    left-refused (opening (begun o)) _ _ (few l) _ _ (inner o) _ (c .enum-told .given .1)
 
 -- it is not refused
 abbrev fine : (o : tie.After-open-left) (f : Fate) → isRefused f ≡ false → o .open-left .result ≡ f
@@ -181,8 +181,8 @@ returns-4 c =
     let b = few (before-all (all o)) in
     let s = begun o in
     let n = fine o fate.Closes refl (told .enum-told2 .given .1) in
-    left-opens (opening s) _ b _ _ (inner o) n _
-    (closes-same (s .args .row .now) _ b _ _ (left-comes (opening s) (s .args .top .now) b _ _ (inner o) n) (told .enum-told2 .given .1))
+    left-opens (opening s) _ _ b _ _ (inner o) n _
+    (closes-same (s .args .row .now) _ b _ _ (left-comes (opening s) (s .args .top .now) (s .args .last .now) b _ _ (inner o) n) (told .enum-told2 .given .1))
 
 returns-5 : tie.Need-returns-5
 returns-5 c =
@@ -194,8 +194,8 @@ returns-5 c =
     let b = few l in
     let s = begun o in
     let n = fine o fate.Finds refl (told .enum-told3 .given .1) in
-    left-opens (opening s) _ b _ _ (inner o) n _
-    (finds-same (s .args .row .now) _ b _ _ (left-comes (opening s) (s .args .top .now) b _ _ (inner o) n) (told .enum-told3 .given .1) _
+    left-opens (opening s) _ _ b _ _ (inner o) n _
+    (finds-same (s .args .row .now) _ b _ _ (left-comes (opening s) (s .args .top .now) (s .args .last .now) b _ _ (inner o) n) (told .enum-told3 .given .1) _
     (expanded l _ 0 _ (made .expand .ensures)))
 
 returns-6 : tie.Need-returns-6
@@ -209,8 +209,8 @@ returns-6 c =
     let b = few l in
     let s = begun o in
     let n = fine o fate.Splits refl (told .enum-told4 .given .1) in
-    left-opens (opening s) _ b _ _ (inner o) n _
-    (splits-same (s .args .row .now) _ b _ _ (left-comes (opening s) (s .args .top .now) b _ _ (inner o) n) (told .enum-told4 .given .1) _ _
+    left-opens (opening s) _ _ b _ _ (inner o) n _
+    (splits-same (s .args .row .now) _ b _ _ (left-comes (opening s) (s .args .top .now) (s .args .last .now) b _ _ (inner o) n) (told .enum-told4 .given .1) _ _
     (expanded l _ 2 _ (lower .expand2 .ensures)) (expanded l _ 2 _ (c .expand3 .ensures)))
 
 pub open-spec : {M : Type 1} → statement M

@@ -19,7 +19,8 @@ use Rattle.machine.specs.Calls.{fault}
 use Rattle.node.specs.declared.passes.Verdict.{Verdict}
 use Rattle.node.specs.declared.passes.Verdict.the-variants as verdict
 use Rattle.node.specs.Marks.{Padded}
-use Rattle.node.specs.Opened.{Opened, openedAs, taken, opensBy}
+use Rattle.node.specs.declared.Fate.the-variants as fate
+use Rattle.node.specs.Opened.{Opened, opened, openedAs, taken, opensBy}
 use Rattle.node.specs.Faults.{fault-fit}
 use Rattle.node.specs.OnePass.{VerdictIs, verdict-as}
 use Rattle.node.specs.Passes.{turn-shut, turn-found, turn-marks, turn-last, turn-next}
@@ -32,12 +33,12 @@ ranged : (n : ℕ) (d : List ℤ) → multipliersFit (fit n (pos 0) d) ≡ true 
 ranged n d h i b = rw (← fit-at n (pos 0) d i b) (fit-ranged (fit n (pos 0) d) h i (omega (arith, fit-size n (pos 0) d)))
 
 abbrev Inv-loop : tie.InvT-loop
-Inv-loop p a b cost row₀ top₀ settings d₀ order₀ live₀ left₀ row top d order live left =
+Inv-loop p a b cost row₀ top₀ last₀ settings d₀ order₀ live₀ left₀ row top last d order live left =
     (p .n ≤ 20) × (p .m ≤ 190) × Padded (p .m) row₀ × AtTurn p (graphOf (p .n) (p .m) a b cost row₀) left row d
-    × (live ≤ 190) × (length order ≡ 190) × (top ≡ top₀)
+    × (live ≤ 190) × (length order ≡ 190) × (top ≡ top₀) × (last ≡ last₀)
 
 abbrev μ-loop : tie.MeasureT-loop
-μ-loop p a b cost row₀ top₀ settings d₀ order₀ live₀ left₀ row top d order live left = left
+μ-loop p a b cost row₀ top₀ last₀ settings d₀ order₀ live₀ left₀ row top last d order live left = left
 
 -- the graph with the node's marks at first
 abbrev given : tie.Start Inv-loop μ-loop → Graph
@@ -48,7 +49,7 @@ given s =
 loop-holds : tie.Need-loop-holds Inv-loop μ-loop
 loop-holds c =
     let s = c .before .before in
-    (s .pre .0, s .pre .1, s .pre .2, inl (refl, refl, refl), omega arith, refl, refl)
+    (s .pre .0, s .pre .1, s .pre .2, inl (refl, refl, refl), omega arith, refl, refl, refl)
 
 array-share-prefix-hint : tie.Need-array-share-prefix-hint Inv-loop μ-loop
 array-share-prefix-hint c = search needs
@@ -95,7 +96,8 @@ accepted j e =
 comes : (j : tie.After-judge Inv-loop μ-loop) → fault (taken (start j .args .p) (given (start j))) ≡ 0
     → (o : Opened) → o ≡ openedAs (outcome (taken (start j .args .p) (given (start j))))
     → o ≡ opensBy (fault (taken (start j .args .p) (given (start j)))) (taken (start j .args .p) (given (start j))) (start j .args .top .now)
-comes j z o e = e ∙ opens-accepted _ (taken (start j .args .p) (given (start j))) (start j .args .top .now) z
+    (start j .args .last .now)
+comes j z o e = e ∙ opens-accepted _ (taken (start j .args .p) (given (start j))) (start j .args .top .now) (start j .args .last .now) z
 
 enum-known-verdict : tie.Need-enum-known-verdict Inv-loop μ-loop
 enum-known-verdict c = search needs
@@ -105,8 +107,8 @@ returns c =
     let j = c .before .before .before in
     let l = turn j .loop in
     let v = judged j _ (c .before .verdict .given .1) in
-    rw (l .inv .6)
-    (turn-refused (start j .args .p) (given (start j)) (l .inv .2) (l .left) (l .row) (l .d) (l .inv .3) _ _ _ (v .0) (v .1) (v .2))
+    (λ i. opened (fate.Refused (c .before .verdict .given .0 .0)) (j .judge .last .1 .1 .1 .1 .1 .0) (l .inv .6 i) (l .inv .7 i))
+    ∙ turn-refused (start j .args .p) (given (start j)) (l .inv .2) (l .left) (l .row) (l .d) (l .inv .3) _ _ _ _ (v .0) (v .1) (v .2)
 
 enum-told : tie.Need-enum-told Inv-loop μ-loop
 enum-told c = search needs
@@ -116,7 +118,7 @@ close-requires c κs = search needs
 
 returns-2 : tie.Need-returns-2 Inv-loop μ-loop
 returns-2 c =
-    let told = c .before .before .before in
+    let told = c .before .before .before .before in
     let j = told .before .before in
     let v = judged j verdict.Shut (told .enum-told .given .1) in
     let t = accepted j (v .0) in
@@ -127,8 +129,8 @@ enum-told-2 c = search needs
 
 returns-3 : tie.Need-returns-3 Inv-loop μ-loop
 returns-3 c =
-    let j = c .before .before .before in
-    let v = judged j verdict.Found (c .before .enum-told2 .given .1) in
+    let j = c .before .before .before .before in
+    let v = judged j verdict.Found (c .before .before .enum-told2 .given .1) in
     let t = accepted j (v .0) in
     comes j (t .0) _ (turn-found _ (fault-fit _ (t .0) .valid) _ _ _ _ _ _ (t .1) _ (v .1))
 
@@ -141,14 +143,14 @@ ruled c = c .before .before .before
 
 split-requires : tie.Need-split-requires Inv-loop μ-loop
 split-requires c κs =
-    let k = c .before .before .before in
+    let k = c .before .before .before .before in
     let v = judged (ruled k) _ (k .before .verdict2 .given .1) in
     let t = accepted (ruled k) (v .0) in
-    (turn (ruled k) .loop .inv .1, turn-marks _ (fault-fit _ (t .0) .valid) _ _ _ _ _ _ (t .1) _ _ (v .1))
+    (turn (ruled k) .loop .inv .0, turn (ruled k) .loop .inv .1, turn-marks _ (fault-fit _ (t .0) .valid) _ _ _ _ _ _ (t .1) _ _ (v .1))
 
 returns-4 : tie.Need-returns-4 Inv-loop μ-loop
 returns-4 c =
-    let last = c .before .before .before in
+    let last = c .before .before .before .before in
     let k = last .before in
     let v = judged (ruled k) _ (k .before .verdict2 .given .1) in
     let t = accepted (ruled k) (v .0) in
@@ -180,7 +182,7 @@ loop-again c =
     turn-next _ (fault-fit _ (t .0) .valid) _ _ _ _ _ _ (t .1) _ _ (v .1) (c .gains .result) (c .gains .ensures) (l .left - 1)
     (omega (arith, c .before .before .if1 .left))
     in
-    (l .inv .0, l .inv .1, l .inv .2, inr (t .0, next), v .2, j .judge .ensures .1, l .inv .6)
+    (l .inv .0, l .inv .1, l .inv .2, inr (t .0, next), v .2, j .judge .ensures .1, l .inv .6, l .inv .7)
 
 pub open-left-spec : {M : Type 1} → statement M
 open-left-spec =

@@ -20,14 +20,14 @@ close-requires c κs = search needs
 
 returns : tie.Need-returns
 returns c =
-    let none = c .before .before .before in
+    let none = c .before .before .before .before in
     let free = none .before in
     let s = free .before .before in
     let m = s .args .m in
     let x = s .args .row .now in
     let k = free .first-free .result in
-    let f = subst (λ (y : List ℕ). FirstFree y m k) (s .pre .1) (free .first-free .ensures) in
-    c .close .ensures ∙ sym (branch-closes (marksIn m x) m k (s .pre .0) (marks-size m x) f (none .if1 .taken))
+    let f = subst (λ (y : List ℕ). FirstFree y m k) (s .pre .2) (free .first-free .ensures) in
+    c .close .ensures ∙ sym (branch-closes (marksIn m x) m k (s .pre .1) (marks-size m x) f _ (none .if1 .taken))
 
 element-write-row : tie.Need-element-write-row
 element-write-row c = search needs
@@ -35,16 +35,19 @@ element-write-row c = search needs
 element-write-top : tie.Need-element-write-top
 element-write-top c = search needs
 
+padded-requires : tie.Need-padded-requires
+padded-requires c κs = let s = c .before .before .before .before in s .pre .0
+
 returns-2 : tie.Need-returns-2
 returns-2 c =
-    let free = c .before .before in
+    let free = c .before .before .before in
     let s = free .before .before in
     let m = s .args .m in
     let x = s .args .row .now in
     let k = free .first-free .result in
-    let f = subst (λ (y : List ℕ). FirstFree y m k) (s .pre .1) (free .first-free .ensures) in
-    ap (λ (y : List ℕ). opened fate.Splits (set y k 2) (set y k 1)) (s .pre .1)
-    ∙ sym (branch-splits (marksIn m x) m k (s .pre .0) (marks-size m x) f (omega (arith, f .most, c .before .if1 .left)))
+    let f = subst (λ (y : List ℕ). FirstFree y m k) (s .pre .2) (free .first-free .ensures) in
+    (λ i. opened fate.Splits (set (s .pre .2 i) k 2) (set (s .pre .2 i) k 1) (c .padded .ensures i))
+    ∙ sym (branch-splits (marksIn m x) m k (s .pre .1) (marks-size m x) f _ (omega (arith, f .most, c .before .before .if1 .left)))
 
 pub split-spec : {M : Type 1} → statement M
 split-spec =
@@ -55,4 +58,5 @@ split-spec =
     returns
     element-write-row
     element-write-top
+    padded-requires
     returns-2)

@@ -204,11 +204,14 @@ module _ (s : Progress) (h : Kept s) (x : Node) (rest : List Node) (e : s .stack
             multipliers = z .1 .multipliers;
             required = omega (arith, v .of-into, waiting .0 .required);
           },
-          (record {
-            long = z .0 .long;
-            multipliers = z .0 .multipliers;
-            required = omega (arith, v .of-out, waiting .0 .required);
-          }, waiting .1),
+          (
+            record {
+              long = z .0 .long;
+              multipliers = z .0 .multipliers;
+              required = omega (arith, v .of-out, waiting .0 .required);
+            },
+            waiting .1,
+          ),
         );
         sized = h .sized;
         count = l;

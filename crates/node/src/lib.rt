@@ -77,7 +77,15 @@ pub fn open<'a>(
     let mut higher = [0u8; MAX_EDGES];
     let mut q = p;
     q.m = f;
-    let fate = open_left(q, &left_a, &left_b, &left_cost, &mut lower, &mut higher, last);
+    let fate = open_left(
+        q,
+        &left_a,
+        &left_b,
+        &left_cost,
+        &mut lower,
+        &mut higher,
+        last,
+    );
     match fate {
         Fate::Refused(_) => {}
         Fate::Closes => {

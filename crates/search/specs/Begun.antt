@@ -15,15 +15,15 @@ use Rattle.graph.specs.Limits.{maxVertices, maxEdges}
 use Rattle.graph.specs.Network.{free, network}
 use Rattle.graph.specs.Places.{network-mark}
 use Rattle.graph.specs.Valid.{Valid}
-use Rattle.machine.specs.Machine.{Marks, marksOf, Opening, Progress, trimmed, held, begin}
+use Rattle.machine.specs.Machine.{Marks, Node, nodeOf, marksOf, Opening, Progress, trimmed, held, begin}
 use Rattle.machine.specs.Outcomes.{noTour}
 use Rattle.machine.specs.Calls.{fault}
 use Rattle.machine.specs.Trimmed.{Trim, trimmed-trim, trimmed-valid, valid-trimmed}
 use Rattle.machine.specs.Preserved.{accepts-held}
 use Rattle.node.specs.Marks.{byteOf, byte-mark, bytesOf, bytes-size, bytes-at}
-use Rattle.search.specs.Record.{stackSize, cells, hasBest, bestBytes, openingOf, recordOf}
-use Rattle.search.specs.Cells.{cells-empty}
-use Rattle.search.specs.Pushing.{Put, pushed}
+use Rattle.search.specs.Record.{stackSize, carriedSize, byteAt, multiplierAt, stackBytes, carriedOf, hasBest, bestBytes, openingOf, recordOf}
+use Rattle.search.specs.Cells.{bytes-places, carried-places, cells-empty}
+use Rattle.search.specs.Pushing.{PutBytes, PutCarried, pushed, carried-pushed}
 use Rattle.search.specs.declared.Search.{Search}
 
 -- ---- sizes
@@ -63,7 +63,7 @@ node-bytes g v t =
 -- the search that an opening begins, written out
 begins : Opening → Progress
 begins o =
-    record { opening = o; upper = o .settings .ceiling; stack = marksOf (network (o .graph)) ∷ []; incumbent = noTour; count = 0 }
+    record { opening = o; upper = o .settings .ceiling; stack = nodeOf (o .multipliers) (marksOf (network (o .graph))) ∷ []; incumbent = noTour; count = 0 }
 
 begins-is : (o : Opening) → begins o ≡ begin o
 unfolding begins begin
@@ -78,7 +78,7 @@ holds-is o = refl
 
 module _ (o : Opening) (h : fault o ≡ 0) (g : Graph) (eg : g ≡ trimmed (o .graph)) (d : List ℤ)
     (ed : d ≡ fit maxVertices (pos 0) (o .multipliers)) (ceiling : ℤ) (ec : ceiling ≡ o .settings .ceiling) (l : List ℕ)
-    (put : Put 0 maxEdges (g .mark) (replicate stackSize 0) l) where
+    (put : PutBytes 0 (g .mark) (replicate stackSize 0) l) (e : List ℤ) (carry : PutCarried 0 d (replicate carriedSize (pos 0)) e) where
   -- what the code makes
   abbrev pub made : Search
   made =
@@ -89,6 +89,7 @@ module _ (o : Opening) (h : fault o ≡ 0) (g : Graph) (eg : g ≡ trimmed (o .g
         depth = 1;
         graph = g;
         multipliers = d;
+        carried = e;
         stack = l;
         best = replicate maxEdges 0;
         «open» = 1;
@@ -100,10 +101,22 @@ module _ (o : Opening) (h : fault o ≡ 0) (g : Graph) (eg : g ≡ trimmed (o .g
       ap (λ (t : Graph). t .mark) eg
       ∙ node-bytes (trimmed (o .graph)) (trimmed-valid (o .graph) (begun-valid o h)) (trimmed-trim (o .graph))
 
-  stack : l ≡ cells (marksOf (network (trimmed (o .graph))) ∷ [])
+  -- the node that it stores
+  first : Node
+  first = nodeOf (o .multipliers) (marksOf (network (trimmed (o .graph))))
+
+  stack : l ≡ stackBytes (nodeOf (o .multipliers) (marksOf (network (trimmed (o .graph)))) ∷ [])
+  unfolding first
   stack =
-      pushed 0 (replicate stackSize 0) l [] refl (marksOf (network (trimmed (o .graph)))) cells-empty
-      (subst (λ (y : List ℕ). Put 0 maxEdges y (replicate stackSize 0) l) marks put)
+      pushed 0 (replicate stackSize 0) l [] refl first (cells-empty maxEdges stackSize bytes-places byteAt 0 (λ j. refl))
+      (subst (λ (y : List ℕ). PutBytes 0 y (replicate stackSize 0) l) marks put)
+
+  carries : e ≡ carriedOf (nodeOf (o .multipliers) (marksOf (network (trimmed (o .graph)))) ∷ [])
+  unfolding first
+  carries =
+      carried-pushed 0 (replicate carriedSize (pos 0)) e [] refl first
+      (cells-empty maxVertices carriedSize carried-places multiplierAt (pos 0) (λ j. refl))
+      (subst (λ (y : List ℤ). PutCarried 0 y (replicate carriedSize (pos 0)) e) ed carry)
 
   made-is : made ≡ recordOf (begins (holds o))
   unfolding recordOf begins holds hasBest bestBytes
@@ -114,6 +127,7 @@ module _ (o : Opening) (h : fault o ≡ 0) (g : Graph) (eg : g ≡ trimmed (o .g
     depth = 1;
     graph = eg i;
     multipliers = ed i;
+    carried = carries i;
     stack = stack i;
     best = replicate maxEdges 0;
     «open» = 1;

@@ -7,13 +7,13 @@ use mathlib.Core.List.{List}
 use Prim.Native.Nat.{ℕ, _+_, _*_, _≤_, _<_}
 use lib.Dec.{ltb}
 use lib.ListN.{getD}
-use lib.IntN.{pos}
+use lib.IntN.{ℤ, pos}
 use Rattle.graph.specs.Limits.{maxVertices, maxEdges, maxMark, maxCount}
 use Rattle.graph.specs.declared.Graph.{Graph}
-use Rattle.tree_theory.specs.Inputs.{ceilingFits}
+use Rattle.tree_theory.specs.Inputs.{multipliersFit, ceilingFits}
 use Rattle.machine.specs.Requireds.{requireds}
 use Rattle.machine.specs.Calls.{fault}
-use Rattle.search.specs.Record.{maxNodes, noSettings, node, isOpen, hasTour, openingIn}
+use Rattle.search.specs.Record.{maxNodes, noSettings, marksAt, multipliersAt, isOpen, hasTour, openingIn}
 use Rattle.search.specs.declared.Search.{Search}
 
 -- ---- places that are not used are zero
@@ -40,10 +40,15 @@ usedIn m depth p = cond (ltb p depth) m 0
 abbrev pub StackTidy : ℕ → ℕ → List ℕ → Type 0
 StackTidy m depth l = (p : ℕ) → p < maxNodes → NodeZeros l p (usedIn m depth p)
 
+-- past n in what the nodes below the depth carry, and everywhere in what is carried by none
+abbrev pub CarriedTidy : ℕ → ℕ → List ℤ → Type 0
+CarriedTidy n depth e = (p : ℕ) → p < maxNodes → Zeros (pos 0) maxVertices (usedIn n depth p) (multipliersAt maxVertices e p)
+
 pub record Tidy (s : Search) : Type 0 where
   pub graph : GraphTidy (s .graph)
   pub multipliers : Zeros (pos 0) maxVertices (s .graph .n) (s .multipliers)
   pub stack : StackTidy (s .graph .m) (s .depth) (s .stack)
+  pub carried : CarriedTidy (s .graph .n) (s .depth) (s .carried)
   -- past m where there is an incumbent, and everywhere where there is none
   pub best : Zeros 0 maxEdges (cond (hasTour s) (s .graph .m) 0) (s .best)
 
@@ -61,10 +66,14 @@ pub record Idle (s : Search) : Type 0 where
 
 -- node p has marks only, and at least p required edges
 abbrev pub NodeFits : ℕ → List ℕ → ℕ → Type 0
-NodeFits m l p = ((j : ℕ) → j < m → getD l (maxEdges * p + j) 0 ≤ maxMark) × (p ≤ requireds (node m l p))
+NodeFits m l p = ((j : ℕ) → j < m → getD l (maxEdges * p + j) 0 ≤ maxMark) × (p ≤ requireds (marksAt m l p))
 
 abbrev pub StackFits : ℕ → ℕ → List ℕ → Type 0
 StackFits m depth l = (p : ℕ) → p < depth → NodeFits m l p
+
+-- its multipliers are such as an opening accepts: 12 does not apply
+abbrev pub CarriedFits : ℕ → ℕ → List ℤ → Type 0
+CarriedFits n depth e = (p : ℕ) → p < depth → multipliersFit (multipliersAt n e p) ≡ true
 
 abbrev pub Bits : List ℕ → Type 0
 Bits l = (i : ℕ) → i < maxEdges → getD l i 0 ≤ 1
@@ -75,6 +84,7 @@ pub record Fits (s : Search) : Type 0 where
   pub upper : ceilingFits (s .upper) ≡ true
   pub depth : s .depth ≤ s .graph .n + 2
   pub stack : StackFits (s .graph .m) (s .depth) (s .stack)
+  pub carried : CarriedFits (s .graph .n) (s .depth) (s .carried)
   pub best : Bits (s .best)
   pub count : s .count ≤ maxCount
 

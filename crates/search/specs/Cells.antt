@@ -1,184 +1,269 @@
--- Laws of the stack's bytes: a stack is read back from its bytes, and bytes from their stack. The machine's
--- `Nodes` says which stacks have room there. Assumes nothing.
+-- Laws of the stack's cells, the bytes of its nodes' marks and the multipliers that they carry: a stack is read back from its cells, and cells
+-- from their stack. The machine's `Nodes` says which stacks have room there. Assumes nothing.
 use mathlib.Core.Path.{_≡_, refl, sym, ap, _∙_, subst}
+use mathlib.Core.Logic.{_≢_, _⊎_, inl, inr}
+use mathlib.Core.Bool.{true}
 use mathlib.Core.List.{List, [], _∷_}
 use Prim.Native.Nat.{ℕ, zero, suc, _+_, _*_, _/_, _%_, _≤_, _<_}
 use native.Mathlib.Omega.{arith}
 use native.Mathlib.Nat.{div-add-mod, mod-lt}
 use native.Mathlib.Decide.{decLe}
 use lib.ListN.{length, getD, replicate, length-replicate, List·getD-eq-default}
+use lib.IntN.{ℤ, pos}
 use borrow.Author.Tests.{eq-eqb, ne-eqb}
-use Rattle.lists.specs.Fill.{fill-size, fill-at, fill-past, fill-is, replicate-at}
-use Rattle.graph.specs.Limits.{maxEdges}
+use Rattle.lists.specs.Fill.{fill, fit, fill-size, fill-at, fill-past, fill-is, replicate-at}
+use Rattle.graph.specs.Limits.{maxVertices, maxEdges}
 use Rattle.graph.specs.Network.{free, markOf}
-use Rattle.machine.specs.Machine.{Marks}
+use Rattle.tree_theory.specs.Inputs.{multipliersFit}
+use Rattle.machine.specs.Machine.{Marks, Node, nodeOf}
 use Rattle.machine.specs.Requireds.{requireds}
-use Rattle.machine.specs.Kept.{Nodes}
+use Rattle.machine.specs.Kept.{Waits, Nodes}
 use Rattle.node.specs.Marks.{byteOf, mark-byte, byte-small}
-use Rattle.search.specs.Record.{maxNodes, stackSize, nodeAt, cell, cells, node, nodes}
+use Rattle.search.specs.Record.{maxNodes, stackSize, carriedSize, marksAt, multipliersAt, nodes, noNode, nodeAt, cell, cells, byteAt, multiplierAt}
 
 -- ---- node p of a stack
 
-pub top-node : (x : Marks) (rest : List Marks) → nodeAt (x ∷ rest) (length rest) ≡ x
+pub top-node : (x : Node) (rest : List Node) → nodeAt (x ∷ rest) (length rest) ≡ x
 unfolding nodeAt
 top-node x rest = rw (eq-eqb (length rest) (length rest) refl)
 
-pub lower-node : (x : Marks) (rest : List Marks) (p : ℕ) → (p ≡ length rest → ⊥) → nodeAt (x ∷ rest) p ≡ nodeAt rest p
+pub lower-node : (x : Node) (rest : List Node) (p : ℕ) → (p ≡ length rest → ⊥) → nodeAt (x ∷ rest) p ≡ nodeAt rest p
 unfolding nodeAt
 lower-node x rest p h = rw (ne-eqb p (length rest) h)
 
-pub no-node : (st : List Marks) (p : ℕ) → length st ≤ p → nodeAt st p ≡ []
+pub no-node : (st : List Node) (p : ℕ) → length st ≤ p → nodeAt st p ≡ noNode
 unfolding nodeAt
 no-node [] p h = refl
 no-node (x ∷ rest) p h = rw (ne-eqb p (length rest) (omega arith)) (no-node rest p (omega arith))
 
--- ---- the bytes of a stack
+-- ---- what a node has
 
-pub cell-small : (st : List Marks) (p j : ℕ) → cell st p j ≤ 2
+module _ {A : Type 0} (v : Node → ℕ → A) where
+  pub cell-top : (x : Node) (rest : List Node) (p j : ℕ) → length rest ≡ p → cell v (x ∷ rest) p j ≡ v x j
+  unfolding cell
+  cell-top x rest p j e = ap (λ (y : Node). v y j) (subst (λ (q : ℕ). nodeAt (x ∷ rest) q ≡ x) e (top-node x rest))
+
+  pub cell-lower : (x : Node) (rest : List Node) (q j : ℕ) → (q ≡ length rest → ⊥) → cell v (x ∷ rest) q j ≡ cell v rest q j
+  unfolding cell
+  cell-lower x rest q j h = ap (λ (y : Node). v y j) (lower-node x rest q h)
+
+  pub cell-none : (st : List Node) (p j : ℕ) → length st ≤ p → cell v st p j ≡ v noNode j
+  unfolding cell
+  cell-none st p j h = ap (λ (y : Node). v y j) (no-node st p h)
+
+pub cell-small : (st : List Node) (p j : ℕ) → cell byteAt st p j ≤ 2
 unfolding cell
-cell-small st p j = byte-small (getD (nodeAt st p) j free)
+cell-small st p j = byte-small (getD (nodeAt st p .marks) j free)
 
-pub cell-top : (x : Marks) (rest : List Marks) (p j : ℕ) → length rest ≡ p → cell (x ∷ rest) p j ≡ byteOf (getD x j free)
+-- past a node's marks, and past its multipliers
+pub cell-past : (st : List Node) (p j : ℕ) → length (nodeAt st p .marks) ≤ j → cell byteAt st p j ≡ 0
 unfolding cell
-cell-top x rest p j e =
-    ap (λ (y : Marks). byteOf (getD y j free)) (subst (λ (q : ℕ). nodeAt (x ∷ rest) q ≡ x) e (top-node x rest))
+cell-past st p j h = ap byteOf (List·getD-eq-default (nodeAt st p .marks) free h)
 
-pub cell-lower : (x : Marks) (rest : List Marks) (q j : ℕ) → (q ≡ length rest → ⊥) → cell (x ∷ rest) q j ≡ cell rest q j
+pub carried-past : (st : List Node) (p j : ℕ) → length (nodeAt st p .multipliers) ≤ j → cell multiplierAt st p j ≡ pos 0
 unfolding cell
-cell-lower x rest q j h = ap (λ (y : Marks). byteOf (getD y j free)) (lower-node x rest q h)
+carried-past st p j h = List·getD-eq-default (nodeAt st p .multipliers) (pos 0) h
 
-pub cell-none : (st : List Marks) (p j : ℕ) → length st ≤ p → cell st p j ≡ 0
-unfolding cell
-cell-none st p j h = ap (λ (y : Marks). byteOf (getD y j free)) (no-node st p h)
+-- ---- places: w for each node, `size` in all
 
--- past a node's marks
-pub cell-past : (st : List Marks) (p j : ℕ) → length (nodeAt st p) ≤ j → cell st p j ≡ 0
-unfolding cell
-cell-past st p j h = ap byteOf (List·getD-eq-default (nodeAt st p) free h)
+pub record Layout (w size : ℕ) : Type 0 where
+  pub low : (p j : ℕ) → p < maxNodes → j < w → w * p + j < size
+  -- place w · p + j, in parts, and each place in parts
+  pub parts : (p j : ℕ) → j < w → ((w * p + j) / w ≡ p) × ((w * p + j) % w ≡ j)
+  pub split : (i : ℕ) → i < size → (p : ℕ) × (j : ℕ) × (p < maxNodes) × (j < w) × (w * p + j ≡ i)
+  -- the places of two nodes are apart
+  pub apart : (p q j : ℕ) → q ≢ p → j < w → (w * q + j < w * p) ⊎ (w * p + w ≤ w * q + j)
 
--- place 190 · p + j, in parts
-in-node : (p j : ℕ) → j < maxEdges → ((maxEdges * p + j) / maxEdges ≡ p) × ((maxEdges * p + j) % maxEdges ≡ j)
-in-node p j h =
-    let e : maxEdges * ((maxEdges * p + j) / maxEdges) + (maxEdges * p + j) % maxEdges ≡ maxEdges * p + j
-    = div-add-mod (maxEdges * p + j) maxEdges in
-    let l : (maxEdges * p + j) % maxEdges < maxEdges = mod-lt (maxEdges * p + j) {m = maxEdges} (omega arith) in
-    (omega arith, omega arith)
-
--- what holds of every place 190 · p + j holds of every place
-pub each-place : (P : ℕ → Type 0) → ((p : ℕ) → p < maxNodes → (j : ℕ) → j < maxEdges → P (maxEdges * p + j)) → (i : ℕ) → i < stackSize → P i
-each-place P h i b =
-    let e : maxEdges * (i / maxEdges) + i % maxEdges ≡ i = div-add-mod i maxEdges in
-    let l : i % maxEdges < maxEdges = mod-lt i {m = maxEdges} (omega arith) in
-    subst P e (h (i / maxEdges) (omega arith) (i % maxEdges) l)
-
-pub cells-size : (st : List Marks) → length (cells st) ≡ stackSize
-unfolding cells
-cells-size st = fill-size stackSize (λ i. cell st (i / maxEdges) (i % maxEdges))
-
-pub cells-at : (st : List Marks) (p j : ℕ) → p < maxNodes → j < maxEdges → getD (cells st) (maxEdges * p + j) 0 ≡ cell st p j
-unfolding cells
-cells-at st p j h l =
-    fill-at stackSize (λ i. cell st (i / maxEdges) (i % maxEdges)) (maxEdges * p + j) 0 (omega arith)
-    ∙ rw (in-node p j l .0, in-node p j l .1)
-
--- a list of bytes is the stack's, where each place is
-pub cells-is : (st : List Marks) (l : List ℕ) → length l ≡ stackSize
-    → ((p : ℕ) → p < maxNodes → (j : ℕ) → j < maxEdges → cell st p j ≡ getD l (maxEdges * p + j) 0)
-    → cells st ≡ l
-unfolding cells
-cells-is st l e h =
-    fill-is stackSize (λ i. cell st (i / maxEdges) (i % maxEdges)) l 0 e
-    (each-place (λ i. cell st (i / maxEdges) (i % maxEdges) ≡ getD l i 0)
-    (λ p b j c. rw (in-node p j c .0, in-node p j c .1) (h p b j c)))
-
-pub cells-empty : replicate stackSize 0 ≡ cells []
-cells-empty =
-    sym (cells-is [] (replicate stackSize 0) (length-replicate {A = ℕ} stackSize 0)
-    (λ p b j d. cell-none [] p j (omega arith) ∙ sym (replicate-at {A = ℕ} stackSize 0 (maxEdges * p + j))))
-
--- ---- the nodes of a list of bytes
-
-pub node-size : (m : ℕ) (l : List ℕ) (p : ℕ) → length (node m l p) ≡ m
-unfolding node
-node-size m l p = fill-size m (λ j. markOf (getD l (maxEdges * p + j) 0))
-
-pub node-at : (m : ℕ) (l : List ℕ) (p j : ℕ) → j < m → getD (node m l p) j free ≡ markOf (getD l (maxEdges * p + j) 0)
-unfolding node
-node-at m l p j h = fill-at m (λ i. markOf (getD l (maxEdges * p + i) 0)) j free h
-
-pub node-past : (m : ℕ) (l : List ℕ) (p j : ℕ) → m ≤ j → getD (node m l p) j free ≡ free
-unfolding node
-node-past m l p j h = fill-past m (λ i. markOf (getD l (maxEdges * p + i) 0)) j free h
-
-pub nodes-size : (m : ℕ) (l : List ℕ) (d : ℕ) → length (nodes m l d) ≡ d
-unfolding nodes
-nodes-size m l zero = refl
-nodes-size m l (suc p) = ap suc (nodes-size m l p)
-
-pub nodes-at : (m : ℕ) (l : List ℕ) (d p : ℕ) → p < d → nodeAt (nodes m l d) p ≡ node m l p
-unfolding nodes
-nodes-at m l zero p h = absurd (omega arith)
-nodes-at m l (suc d) p h = go (decLe (suc p) d) (nodes-at m l d p)
+pub bytes-places : Layout maxEdges stackSize
+bytes-places = record {
+  low = λ p j b c. omega arith;
+  parts = λ p j h.
+      let e : maxEdges * ((maxEdges * p + j) / maxEdges) + (maxEdges * p + j) % maxEdges ≡ maxEdges * p + j
+      = div-add-mod (maxEdges * p + j) maxEdges in
+      let l : (maxEdges * p + j) % maxEdges < maxEdges = mod-lt (maxEdges * p + j) {m = maxEdges} (omega arith) in
+      (omega arith, omega arith);
+  split = λ i b.
+      let e : maxEdges * (i / maxEdges) + i % maxEdges ≡ i = div-add-mod i maxEdges in
+      let l : i % maxEdges < maxEdges = mod-lt i {m = maxEdges} (omega arith) in
+      (i / maxEdges, i % maxEdges, omega arith, l, e);
+  apart = λ p q j d h. go p q j d h (decLe (suc q) p);
+}
   where
-    go : Dec (p < d) → (p < d → nodeAt (nodes m l d) p ≡ node m l p) → nodeAt (node m l d ∷ nodes m l d) p ≡ node m l p
-    go (yes b) below = lower-node (node m l d) (nodes m l d) p (omega (arith, nodes-size m l d)) ∙ below b
-    go (no b) below =
-        let e : p ≡ length (nodes m l d) = omega (arith, nodes-size m l d) in
-        subst (λ (q : ℕ). nodeAt (node m l d ∷ nodes m l d) q ≡ node m l p) (sym e)
-        (top-node (node m l d) (nodes m l d) ∙ ap (node m l) (sym (e ∙ nodes-size m l d)))
+    go : (p q j : ℕ) → q ≢ p → j < maxEdges → Dec (q < p) → (maxEdges * q + j < maxEdges * p) ⊎ (maxEdges * p + maxEdges ≤ maxEdges * q + j)
+    go p q j d h (yes i) = inl (omega arith)
+    go p q j d h (no i) = inr (omega arith)
 
--- ---- stacks whose node p has at least p required edges
+pub carried-places : Layout maxVertices carriedSize
+carried-places = record {
+  low = λ p j b c. omega arith;
+  parts = λ p j h.
+      let e : maxVertices * ((maxVertices * p + j) / maxVertices) + (maxVertices * p + j) % maxVertices ≡ maxVertices * p + j
+      = div-add-mod (maxVertices * p + j) maxVertices in
+      let l : (maxVertices * p + j) % maxVertices < maxVertices = mod-lt (maxVertices * p + j) {m = maxVertices} (omega arith) in
+      (omega arith, omega arith);
+  split = λ i b.
+      let e : maxVertices * (i / maxVertices) + i % maxVertices ≡ i = div-add-mod i maxVertices in
+      let l : i % maxVertices < maxVertices = mod-lt i {m = maxVertices} (omega arith) in
+      (i / maxVertices, i % maxVertices, omega arith, l, e);
+  apart = λ p q j d h. go p q j d h (decLe (suc q) p);
+}
+  where
+    go : (p q j : ℕ) → q ≢ p → j < maxVertices → Dec (q < p)
+        → (maxVertices * q + j < maxVertices * p) ⊎ (maxVertices * p + maxVertices ≤ maxVertices * q + j)
+    go p q j d h (yes i) = inl (omega arith)
+    go p q j d h (no i) = inr (omega arith)
 
-pub nodes-of : (m : ℕ) (l : List ℕ) (d : ℕ) → ((p : ℕ) → p < d → p ≤ requireds (node m l p)) → Nodes m (nodes m l d)
-unfolding nodes
-nodes-of m l zero h = tt
-nodes-of m l (suc d) h = (
-  node-size m l d,
-  omega (arith, h d (omega arith), nodes-size m l d),
-  nodes-of m l d (λ p b. h p (omega arith)),
-)
+module _ (w size : ℕ) (lay : Layout w size) where
+  -- what holds of every place w · p + j holds of every place
+  pub each-place : (P : ℕ → Type 0) → ((p : ℕ) → p < maxNodes → (j : ℕ) → j < w → P (w * p + j)) → (i : ℕ) → i < size → P i
+  each-place P h i b = let s = lay .split i b in subst P (s .4) (h (s .0) (s .2) (s .1) (s .3))
+
+  module _ {A : Type 0} (v : Node → ℕ → A) where
+    pub cells-size : (st : List Node) → length (cells w size v st) ≡ size
+    unfolding cells
+    cells-size st = fill-size size (λ i. cell v st (i / w) (i % w))
+
+    pub cells-at : (z : A) (st : List Node) (p j : ℕ) → p < maxNodes → j < w → getD (cells w size v st) (w * p + j) z ≡ cell v st p j
+    unfolding cells
+    cells-at z st p j h l =
+        fill-at size (λ i. cell v st (i / w) (i % w)) (w * p + j) z (lay .low p j h l)
+        ∙ (λ k. cell v st (lay .parts p j l .0 k) (lay .parts p j l .1 k))
+
+    -- a list is the stack's, where each place is
+    pub cells-is : (z : A) (st : List Node) (l : List A) → length l ≡ size
+        → ((p : ℕ) → p < maxNodes → (j : ℕ) → j < w → cell v st p j ≡ getD l (w * p + j) z)
+        → cells w size v st ≡ l
+    unfolding cells
+    cells-is z st l e h =
+        fill-is size (λ i. cell v st (i / w) (i % w)) l z e
+        (each-place (λ i. cell v st (i / w) (i % w) ≡ getD l i z)
+        (λ p b j c. (λ k. cell v st (lay .parts p j c .0 k) (lay .parts p j c .1 k)) ∙ h p b j c))
+
+    pub cells-empty : (z : A) → ((j : ℕ) → v noNode j ≡ z) → replicate size z ≡ cells w size v []
+    cells-empty z blank =
+        sym (cells-is z [] (replicate size z) (length-replicate {A = A} size z)
+        (λ p b j d. cell-none v [] p j (omega arith) ∙ blank j ∙ sym (replicate-at {A = A} size z (w * p + j))))
+
+-- ---- the nodes of two lists of cells
+
+pub marks-size : (m : ℕ) (l : List ℕ) (p : ℕ) → length (marksAt m l p) ≡ m
+unfolding marksAt
+marks-size m l p = fill-size m (λ j. markOf (getD l (maxEdges * p + j) 0))
+
+pub marks-at : (m : ℕ) (l : List ℕ) (p j : ℕ) → j < m → getD (marksAt m l p) j free ≡ markOf (getD l (maxEdges * p + j) 0)
+unfolding marksAt
+marks-at m l p j h = fill-at m (λ i. markOf (getD l (maxEdges * p + i) 0)) j free h
+
+pub marks-past : (m : ℕ) (l : List ℕ) (p j : ℕ) → m ≤ j → getD (marksAt m l p) j free ≡ free
+unfolding marksAt
+marks-past m l p j h = fill-past m (λ i. markOf (getD l (maxEdges * p + i) 0)) j free h
+
+pub multipliers-size : (n : ℕ) (e : List ℤ) (p : ℕ) → length (multipliersAt n e p) ≡ n
+unfolding multipliersAt
+multipliers-size n e p = fill-size n (λ j. getD e (maxVertices * p + j) (pos 0))
+
+pub multipliers-at : (n : ℕ) (e : List ℤ) (p j : ℕ) → j < n → getD (multipliersAt n e p) j (pos 0) ≡ getD e (maxVertices * p + j) (pos 0)
+unfolding multipliersAt
+multipliers-at n e p j h = fill-at n (λ i. getD e (maxVertices * p + i) (pos 0)) j (pos 0) h
+
+-- the first n of all places
+pub multipliers-cut : (n : ℕ) (e : List ℤ) (p : ℕ) → n ≤ maxVertices → fit n (pos 0) (multipliersAt maxVertices e p) ≡ multipliersAt n e p
+unfolding fit
+multipliers-cut n e p h =
+    fill-is n (λ i. getD (multipliersAt maxVertices e p) i (pos 0)) (multipliersAt n e p) (pos 0) (multipliers-size n e p)
+    (λ i b. multipliers-at maxVertices e p i (omega arith) ∙ sym (multipliers-at n e p i b))
+
+module _ (n m : ℕ) (l : List ℕ) (e : List ℤ) where
+  pub nodes-size : (d : ℕ) → length (nodes n m l e d) ≡ d
+  unfolding nodes
+  nodes-size zero = refl
+  nodes-size (suc p) = ap suc (nodes-size p)
+
+  pub nodes-at : (d p : ℕ) → p < d → nodeAt (nodes n m l e d) p ≡ nodeOf (multipliersAt n e p) (marksAt m l p)
+  unfolding nodes
+  nodes-at zero p h = absurd (omega arith)
+  nodes-at (suc d) p h = go (decLe (suc p) d) (nodes-at d p)
+    where
+      here : ℕ → Node
+      here q = nodeOf (multipliersAt n e q) (marksAt m l q)
+
+      go : Dec (p < d) → (p < d → nodeAt (nodes n m l e d) p ≡ nodeOf (multipliersAt n e p) (marksAt m l p))
+          → nodeAt (nodeOf (multipliersAt n e d) (marksAt m l d) ∷ nodes n m l e d) p ≡ nodeOf (multipliersAt n e p) (marksAt m l p)
+      go (yes b) below = lower-node (here d) (nodes n m l e d) p (omega (arith, nodes-size d)) ∙ below b
+      go (no b) below =
+          let q : p ≡ length (nodes n m l e d) = omega (arith, nodes-size d) in
+          subst (λ (k : ℕ). nodeAt (here d ∷ nodes n m l e d) k ≡ here p) (sym q)
+          (top-node (here d) (nodes n m l e d) ∙ ap here (sym (q ∙ nodes-size d)))
+
+  -- ---- stacks whose nodes wait as the machine's do
+
+  pub nodes-of : (d : ℕ) → ((p : ℕ) → p < d → p ≤ requireds (marksAt m l p)) → ((p : ℕ) → p < d → multipliersFit (multipliersAt n e p) ≡ true)
+      → Nodes n m (nodes n m l e d)
+  unfolding nodes
+  nodes-of zero h k = tt
+  nodes-of (suc d) h k = (
+    record {
+      long = marks-size m l d;
+      multipliers = record { long = multipliers-size n e d; fits = k d (omega arith) };
+      required = omega (arith, h d (omega arith), nodes-size d);
+    },
+    nodes-of d (λ p b. h p (omega arith)) (λ p b. k p (omega arith)),
+  )
 
 -- node p of a stack
-pub node-fits : (m : ℕ) (st : List Marks) → Nodes m st → (p : ℕ) → p < length st
-    → (length (nodeAt st p) ≡ m) × (p ≤ requireds (nodeAt st p))
-node-fits m [] n p h = absurd (omega arith)
-node-fits m (x ∷ rest) n p h = go (decLe (suc p) (length rest)) (node-fits m rest (n .2) p)
+pub node-waits : (n m : ℕ) (st : List Node) → Nodes n m st → (p : ℕ) → p < length st → Waits n m p (nodeAt st p)
+node-waits n m [] w p h = absurd (omega arith)
+node-waits n m (x ∷ rest) w p h = go (decLe (suc p) (length rest)) (node-waits n m rest (w .1) p)
   where
-    Fits : Marks → Type 0
-    Fits y = (length y ≡ m) × (p ≤ requireds y)
-
-    go : Dec (p < length rest) → (p < length rest → Fits (nodeAt rest p)) → Fits (nodeAt (x ∷ rest) p)
+    go : Dec (p < length rest) → (p < length rest → Waits n m p (nodeAt rest p)) → Waits n m p (nodeAt (x ∷ rest) p)
     go (yes b) below = rw (lower-node x rest p (omega arith)) (below b)
-    go (no b) below = let e : p ≡ length rest = omega arith in rw (e, top-node x rest) (n .0, n .1)
+    go (no b) below = let e : p ≡ length rest = omega arith in rw (e, top-node x rest) (w .0)
 
--- at most m marks in each
-pub node-narrow : (m : ℕ) (st : List Marks) → Nodes m st → (p : ℕ) → length (nodeAt st p) ≤ m
-node-narrow m st n p = go (decLe (suc p) (length st))
+-- at most m marks and n multipliers in each
+pub node-narrow : (n m : ℕ) (st : List Node) → Nodes n m st → (p : ℕ)
+    → (length (nodeAt st p .marks) ≤ m) × (length (nodeAt st p .multipliers) ≤ n)
+node-narrow n m st w p = go (decLe (suc p) (length st))
   where
-    go : Dec (p < length st) → length (nodeAt st p) ≤ m
-    go (yes h) = omega (arith, node-fits m st n p h .0)
-    go (no h) = omega (arith, ap {A = Marks} length (no-node st p (omega arith)))
+    go : Dec (p < length st) → (length (nodeAt st p .marks) ≤ m) × (length (nodeAt st p .multipliers) ≤ n)
+    go (yes h) = let k = node-waits n m st w p h in (omega (arith, k .long), omega (arith, k .multipliers .long))
+    go (no h) =
+        let e = no-node st p (omega arith) in
+        (omega (arith, ap (λ (x : Node). length (x .marks)) e), omega (arith, ap (λ (x : Node). length (x .multipliers)) e))
 
--- bytes that hold the marks of a stack's node p give that node
-pub node-back : (m : ℕ) (l : List ℕ) (st : List Marks) (p : ℕ) → length (nodeAt st p) ≡ m
-    → ((j : ℕ) → j < m → getD l (maxEdges * p + j) 0 ≡ cell st p j) → node m l p ≡ nodeAt st p
-unfolding node cell
-node-back m l st p e h =
-    fill-is m (λ j. markOf (getD l (maxEdges * p + j) 0)) (nodeAt st p) free e
-    (λ j b. ap markOf (h j b) ∙ mark-byte (getD (nodeAt st p) j free))
+-- cells that hold a stack's node p give that node
+pub marks-back : (m : ℕ) (l : List ℕ) (st : List Node) (p : ℕ) → length (nodeAt st p .marks) ≡ m
+    → ((j : ℕ) → j < m → getD l (maxEdges * p + j) 0 ≡ cell byteAt st p j) → marksAt m l p ≡ nodeAt st p .marks
+unfolding marksAt cell
+marks-back m l st p e h =
+    fill-is m (λ j. markOf (getD l (maxEdges * p + j) 0)) (nodeAt st p .marks) free e
+    (λ j b. ap markOf (h j b) ∙ mark-byte (getD (nodeAt st p .marks) j free))
+
+pub multipliers-back : (n : ℕ) (e : List ℤ) (st : List Node) (p : ℕ) → length (nodeAt st p .multipliers) ≡ n
+    → ((j : ℕ) → j < n → getD e (maxVertices * p + j) (pos 0) ≡ cell multiplierAt st p j) → multipliersAt n e p ≡ nodeAt st p .multipliers
+unfolding multipliersAt cell
+multipliers-back n e st p q h =
+    fill-is n (λ j. getD e (maxVertices * p + j) (pos 0)) (nodeAt st p .multipliers) (pos 0) q (λ j b. h j b)
 
 -- and those of the whole stack give the stack
-pub nodes-back : (m : ℕ) (l : List ℕ) (st : List Marks) → Nodes m st
-    → ((p : ℕ) → p < length st → (j : ℕ) → j < m → getD l (maxEdges * p + j) 0 ≡ cell st p j)
-    → nodes m l (length st) ≡ st
+pub nodes-back : (n m : ℕ) (l : List ℕ) (e : List ℤ) (st : List Node) → Nodes n m st
+    → ((p : ℕ) → p < length st → (j : ℕ) → j < m → getD l (maxEdges * p + j) 0 ≡ cell byteAt st p j)
+    → ((p : ℕ) → p < length st → (j : ℕ) → j < n → getD e (maxVertices * p + j) (pos 0) ≡ cell multiplierAt st p j)
+    → nodes n m l e (length st) ≡ st
 unfolding nodes
-nodes-back m l [] n h = refl
-nodes-back m l (x ∷ rest) n h = rw (top, nodes-back m l rest (n .2) below)
+nodes-back n m l e [] w h k = refl
+nodes-back n m l e (x ∷ rest) w h k = λ i. top i ∷ nodes-back n m l e rest (w .1) below carried i
   where
-    below : (p : ℕ) → p < length rest → (j : ℕ) → j < m → getD l (maxEdges * p + j) 0 ≡ cell rest p j
-    below p b j c = h p (omega arith) j c ∙ cell-lower x rest p j (omega arith)
+    below : (p : ℕ) → p < length rest → (j : ℕ) → j < m → getD l (maxEdges * p + j) 0 ≡ cell byteAt rest p j
+    below p b j c = h p (omega arith) j c ∙ cell-lower byteAt x rest p j (omega arith)
 
-    top : node m l (length rest) ≡ x
+    carried : (p : ℕ) → p < length rest → (j : ℕ) → j < n → getD e (maxVertices * p + j) (pos 0) ≡ cell multiplierAt rest p j
+    carried p b j c = k p (omega arith) j c ∙ cell-lower multiplierAt x rest p j (omega arith)
+
+    top : nodeOf (multipliersAt n e (length rest)) (marksAt m l (length rest)) ≡ x
     top =
-        node-back m l (x ∷ rest) (length rest) (ap length (top-node x rest) ∙ n .0) (h (length rest) (omega arith))
+        (λ i. nodeOf
+        (multipliers-back n e (x ∷ rest) (length rest) (ap (λ (y : Node). length (y .multipliers)) (top-node x rest) ∙ w .0 .multipliers .long)
+        (k (length rest) (omega arith)) i)
+        (marks-back m l (x ∷ rest) (length rest) (ap (λ (y : Node). length (y .marks)) (top-node x rest) ∙ w .0 .long)
+        (h (length rest) (omega arith)) i))
         ∙ top-node x rest

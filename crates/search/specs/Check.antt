@@ -10,12 +10,12 @@ use lib.ListN.{getD}
 use lib.IntN.{ℤ, pos, ℤ-discrete}
 use Rattle.graph.specs.Limits.{maxVertices, maxEdges, maxMark, maxCount}
 use Rattle.graph.specs.declared.Graph.{Graph}
-use Rattle.tree_theory.specs.Inputs.{ceilingFits}
+use Rattle.tree_theory.specs.Inputs.{multipliersFit, ceilingFits}
 use Rattle.machine.specs.declared.Settings.{Settings}
 use Rattle.machine.specs.Requireds.{requireds}
 use Rattle.machine.specs.Calls.{fault}
-use Rattle.search.specs.Record.{maxNodes, noSettings, node, isOpen, hasTour, openingIn}
-use Rattle.search.specs.Canonical.{Zeros, GraphTidy, NodeZeros, usedIn, StackTidy, Tidy, Idle, NodeFits, StackFits, Bits, Fits, Flags, Stands, Canonical}
+use Rattle.search.specs.Record.{maxNodes, noSettings, marksAt, multipliersAt, isOpen, hasTour, openingIn}
+use Rattle.search.specs.Canonical.{Zeros, GraphTidy, NodeZeros, usedIn, StackTidy, CarriedTidy, Tidy, Idle, NodeFits, StackFits, CarriedFits, Bits, Fits, Flags, Stands, Canonical}
 use Rattle.search.specs.declared.Search.{Search}
 
 -- ---- what decides
@@ -74,6 +74,11 @@ stack-tidy m depth l =
     (λ p. below maxEdges (λ j. usedIn m depth p ≤ j → getD l (maxEdges * p + j) 0 ≡ 0)
     (λ j. implies (decLe (usedIn m depth p) j) (ℕ-discrete (getD l (maxEdges * p + j) 0) 0)))
 
+carried-tidy : (n depth : ℕ) (e : List ℤ) → Dec (CarriedTidy n depth e)
+carried-tidy n depth e =
+    below maxNodes (λ p. Zeros (pos 0) maxVertices (usedIn n depth p) (multipliersAt maxVertices e p))
+    (λ p. zerosZ maxVertices (usedIn n depth p) (multipliersAt maxVertices e p))
+
 no-settings : (t : Settings) → Dec (t ≡ noSettings)
 no-settings t =
     map-dec
@@ -87,11 +92,13 @@ module _ (s : Search) where
   tidy =
       map-dec
       {A = GraphTidy (s .graph) × (Zeros (pos 0) maxVertices (s .graph .n) (s .multipliers)
-      × (StackTidy (s .graph .m) (s .depth) (s .stack) × Zeros 0 maxEdges (cond (hasTour s) (s .graph .m) 0) (s .best)))}
-      (λ t. record { graph = t .0; multipliers = t .1 .0; stack = t .1 .1 .0; best = t .1 .1 .1 })
-      (λ t. (t .graph, (t .multipliers, (t .stack, t .best))))
+      × (StackTidy (s .graph .m) (s .depth) (s .stack) × (CarriedTidy (s .graph .n) (s .depth) (s .carried)
+      × Zeros 0 maxEdges (cond (hasTour s) (s .graph .m) 0) (s .best))))}
+      (λ t. record { graph = t .0; multipliers = t .1 .0; stack = t .1 .1 .0; carried = t .1 .1 .1 .0; best = t .1 .1 .1 .1 })
+      (λ t. (t .graph, (t .multipliers, (t .stack, (t .carried, t .best)))))
       (both (graph-tidy (s .graph)) (both (zerosZ maxVertices (s .graph .n) (s .multipliers))
-      (both (stack-tidy (s .graph .m) (s .depth) (s .stack)) (zeros maxEdges (cond (hasTour s) (s .graph .m) 0) (s .best)))))
+      (both (stack-tidy (s .graph .m) (s .depth) (s .stack)) (both (carried-tidy (s .graph .n) (s .depth) (s .carried))
+      (zeros maxEdges (cond (hasTour s) (s .graph .m) 0) (s .best))))))
 
   idle : Dec (Idle s)
   idle =
@@ -116,25 +123,28 @@ module _ (s : Search) where
       both
       (below (s .graph .m) (λ j. getD (s .stack) (maxEdges * p + j) 0 ≤ maxMark)
       (λ j. decLe (getD (s .stack) (maxEdges * p + j) 0) maxMark))
-      (decLe p (requireds (node (s .graph .m) (s .stack) p)))
+      (decLe p (requireds (marksAt (s .graph .m) (s .stack) p)))
 
   fits : Dec (Fits s)
   fits =
       map-dec
       {A = (fault (openingIn s) ≡ 0) × ((ceilingFits (s .upper) ≡ true) × ((s .depth ≤ s .graph .n + 2)
-      × (StackFits (s .graph .m) (s .depth) (s .stack) × (Bits (s .best) × (s .count ≤ maxCount)))))}
+      × (StackFits (s .graph .m) (s .depth) (s .stack) × (CarriedFits (s .graph .n) (s .depth) (s .carried)
+      × (Bits (s .best) × (s .count ≤ maxCount))))))}
       (λ t. record {
         opening = t .0;
         upper = t .1 .0;
         depth = t .1 .1 .0;
         stack = t .1 .1 .1 .0;
-        best = t .1 .1 .1 .1 .0;
-        count = t .1 .1 .1 .1 .1;
+        carried = t .1 .1 .1 .1 .0;
+        best = t .1 .1 .1 .1 .1 .0;
+        count = t .1 .1 .1 .1 .1 .1;
       })
-      (λ t. (t .opening, (t .upper, (t .depth, (t .stack, (t .best, t .count))))))
+      (λ t. (t .opening, (t .upper, (t .depth, (t .stack, (t .carried, (t .best, t .count)))))))
       (both (ℕ-discrete _ _) (both (bool _ _) (both (decLe _ _)
       (both (below (s .depth) (λ p. NodeFits (s .graph .m) (s .stack) p) node-fits)
-      (both (below maxEdges (λ i. getD (s .best) i 0 ≤ 1) (λ i. decLe _ _)) (decLe _ _))))))
+      (both (below (s .depth) (λ p. multipliersFit (multipliersAt (s .graph .n) (s .carried) p) ≡ true) (λ p. bool _ _))
+      (both (below maxEdges (λ i. getD (s .best) i 0 ≤ 1) (λ i. decLe _ _)) (decLe _ _)))))))
 
   stands : (b : Bool) → Dec (Stands b s)
   stands true = fits

@@ -20,7 +20,7 @@ use Rattle.graph.specs.Limits.{maxEdges}
 use Rattle.graph.specs.Network.{markOf}
 use Rattle.tree_theory.specs.Valid.{isRequired}
 use Rattle.machine.specs.Requireds.{requireds, requireds-last}
-use Rattle.search.specs.Record.{node, isOpen}
+use Rattle.search.specs.Record.{marksAt, isOpen}
 use Rattle.search.specs.Canonical.{Flags, Tidy, Stands, Canonical}
 use Rattle.search.specs.Check.{check, check-yes, check-no}
 use Rattle.search.specs.declared.Search.{Search}
@@ -70,18 +70,18 @@ says-stands s b o e f t h =
 -- ---- the required edges of a node, an edge more
 
 module _ (l : List ℕ) (p : ℕ) where
-  pub requireds-none : requireds (node 0 l p) ≡ 0
-  unfolding node fill row requireds
+  pub requireds-none : requireds (marksAt 0 l p) ≡ 0
+  unfolding marksAt fill row requireds
   requireds-none = refl
 
-  node-more : (j : ℕ) → requireds (node (j + 1) l p) ≡ requireds (node j l p) + bit (isRequired (markOf (getD l (maxEdges * p + j) 0)))
-  unfolding node fill
+  node-more : (j : ℕ) → requireds (marksAt (j + 1) l p) ≡ requireds (marksAt j l p) + bit (isRequired (markOf (getD l (maxEdges * p + j) 0)))
+  unfolding marksAt fill
   node-more j = rw add-one (requireds-last j _)
 
-  pub requireds-one : (j : ℕ) → getD l (maxEdges * p + j) 0 ≡ 1 → requireds (node (j + 1) l p) ≡ requireds (node j l p) + 1
-  requireds-one j e = node-more j ∙ ap (λ (k : ℕ). requireds (node j l p) + bit (isRequired (markOf k))) e ∙ unfold markOf in refl
+  pub requireds-one : (j : ℕ) → getD l (maxEdges * p + j) 0 ≡ 1 → requireds (marksAt (j + 1) l p) ≡ requireds (marksAt j l p) + 1
+  requireds-one j e = node-more j ∙ ap (λ (k : ℕ). requireds (marksAt j l p) + bit (isRequired (markOf k))) e ∙ unfold markOf in refl
 
-  pub requireds-other : (j : ℕ) → (getD l (maxEdges * p + j) 0 ≡ 1 → ⊥) → requireds (node (j + 1) l p) ≡ requireds (node j l p)
+  pub requireds-other : (j : ℕ) → (getD l (maxEdges * p + j) 0 ≡ 1 → ⊥) → requireds (marksAt (j + 1) l p) ≡ requireds (marksAt j l p)
   requireds-other j e = omega (arith, node-more j, other (getD l (maxEdges * p + j) 0) e)
     where
       other : (k : ℕ) → (k ≡ 1 → ⊥) → bit (isRequired (markOf k)) ≡ 0

@@ -21,8 +21,8 @@ use Rattle.machine.specs.declared.Settings.{Settings}
 use Rattle.machine.specs.Machine.{Opening}
 use Rattle.machine.specs.Calls.{fault}
 use Rattle.search.specs.Record.{maxNodes, stackSize, noSettings, openingOf, hasTour, openingIn}
-use Rattle.search.specs.Cells.{each-place}
-use Rattle.search.specs.Canonical.{Zeros, GraphTidy, NodeZeros, usedIn, StackTidy, Tidy, Idle, StackFits, Bits, Fits}
+use Rattle.search.specs.Cells.{bytes-places, each-place}
+use Rattle.search.specs.Canonical.{Zeros, GraphTidy, NodeZeros, usedIn, StackTidy, CarriedTidy, Tidy, Idle, StackFits, CarriedFits, Bits, Fits}
 use Rattle.search.specs.CheckLoops.{says-both, says-le, says-eq}
 use Rattle.search.specs.declared.Search.{Search}
 
@@ -82,7 +82,7 @@ module _ (m depth used : ℕ) (l : List ℕ) (u : InUse depth used) where
 
   pub tidy-past : StackTidy m depth l → Zeros 0 stackSize (maxEdges * used) l
   tidy-past t =
-      each-place (λ i. maxEdges * used ≤ i → getD l i 0 ≡ 0)
+      each-place maxEdges stackSize bytes-places (λ i. maxEdges * used ≤ i → getD l i 0 ≡ 0)
       (λ p h j b w. let here : used ≤ p = omega arith in t p h j b (omega (arith, past p h here)))
 
   pub tidy-stack : Zeros 0 stackSize (maxEdges * used) l → ((p : ℕ) → p < used → NodeZeros l p m) → StackTidy m depth l
@@ -139,19 +139,20 @@ module _ (s : Search) where
   tidy-fields t = record { graph = t .graph; multipliers = t .multipliers; best = t .best }
 
   pub tidy-whole : FieldsTidy (s .graph) (s .multipliers) (hasTour s) (s .best)
-      → StackTidy (s .graph .m) (s .depth) (s .stack) → Tidy s
-  tidy-whole t l = record { graph = t .graph; multipliers = t .multipliers; stack = l; best = t .best }
+      → StackTidy (s .graph .m) (s .depth) (s .stack) → CarriedTidy (s .graph .n) (s .depth) (s .carried) → Tidy s
+  tidy-whole t l e = record { graph = t .graph; multipliers = t .multipliers; stack = l; carried = e; best = t .best }
 
   pub fits-fields : Fits s → Fitting s
   unfolding openingIn
   fits-fields t = record { opening = t .opening; upper = t .upper; depth = t .depth; best = t .best; count = t .count }
 
   -- the last test of an open record
-  pub says-fits : (b : Bool) → Fitting s → Says b (StackFits (s .graph .m) (s .depth) (s .stack)) → Says b (Fits s)
+  pub says-fits : (b : Bool) → Fitting s → CarriedFits (s .graph .n) (s .depth) (s .carried)
+      → Says b (StackFits (s .graph .m) (s .depth) (s .stack)) → Says b (Fits s)
   unfolding openingIn
-  says-fits b t =
+  says-fits b t e =
       says-both b {Q = Fits s}
-      (λ l. record { opening = t .opening; upper = t .upper; depth = t .depth; stack = l; best = t .best; count = t .count })
+      (λ l. record { opening = t .opening; upper = t .upper; depth = t .depth; stack = l; carried = e; best = t .best; count = t .count })
       (λ f. f .stack)
 
   -- and of one where none is open

@@ -6,7 +6,7 @@ use mathlib.Core.List.{List}
 use Prim.Native.Nat.{ℕ, suc, _+_, _*_, _≤_, _<_}
 use native.Mathlib.Omega.{arith}
 use native.Mathlib.Decide.{decLe}
-use lib.ListN.{length, getD, List·getD-eq-default}
+use lib.ListN.{length, getD, replicate, List·getD-eq-default}
 use lib.IntN.{ℤ, pos}
 use borrow.Author.Tests.{lt-ltb, le-ltb, eqb-true}
 use Rattle.lists.specs.Bools.{bit}
@@ -14,15 +14,16 @@ use Rattle.lists.specs.Fill.{fit, fit-at, fit-fill, fit-cut, replicate-at, repl
 use Rattle.graph.specs.Limits.{maxVertices, maxEdges}
 use Rattle.graph.specs.Network.{free}
 use Rattle.graph.specs.Edgeless.{edgeless}
-use Rattle.machine.specs.Machine.{Marks, Progress, State, noSearch, searching}
+use Rattle.machine.specs.Machine.{Marks, Node, nodeOf, Progress, State, noSearch, searching}
+use Rattle.tree_theory.specs.Inputs.{multipliersFit}
 use Rattle.machine.specs.Requireds.{requireds}
 use Rattle.machine.specs.Calls.{fault}
 use Rattle.machine.specs.Trimmed.{Trim}
 use Rattle.machine.specs.Kept.{Kept, KeptState, depth-most}
 use Rattle.node.specs.Marks.{byteOf, byte-mark}
-use Rattle.search.specs.Record.{maxNodes, stackSize, fresh, nodeAt, cell, cells, node, nodes, bestOf, hasBest, bestBytes, isOpen, hasTour, openingIn, progressOf, decode, recordOf, encode}
-use Rattle.search.specs.Cells.{cells-at, cells-is, each-place, node-at, node-past, nodes-size, nodes-at, nodes-back, nodes-of, node-fits, node-narrow, node-back, cell-past, cell-small, cell-none}
-use Rattle.search.specs.Canonical.{Zeros, StackTidy, usedIn, Tidy, Idle, Fits, Flags, Stands, Canonical}
+use Rattle.search.specs.Record.{maxNodes, stackSize, carriedSize, fresh, nodeAt, cell, cells, marksAt, multipliersAt, nodes, byteAt, multiplierAt, stackBytes, carriedOf, bestOf, hasBest, bestBytes, isOpen, hasTour, openingIn, progressOf, decode, recordOf, encode}
+use Rattle.search.specs.Cells.{bytes-places, carried-places, cells-at, cells-is, each-place, marks-at, marks-past, multipliers-at, multipliers-size, nodes-size, nodes-at, nodes-back, nodes-of, node-waits, node-narrow, marks-back, multipliers-back, cell-past, carried-past, cell-small, cell-none}
+use Rattle.search.specs.Canonical.{Zeros, StackTidy, CarriedTidy, usedIn, Tidy, Idle, Fits, Flags, Stands, Canonical}
 use Rattle.search.specs.Accepted.{fits-range, range-fits, accepted-fault, fault-accepted}
 use Rattle.search.specs.Incumbents.{bit-back, byte-back, bit-small, flag-off, best-back, best-bits, best-zeros, best-sized, has-back, bytes-back}
 use Rattle.search.specs.declared.Search.{Search}
@@ -33,38 +34,57 @@ module _ (s : Progress) (h : Kept s) where
   few : s .opening .graph .m ≤ maxEdges
   few = h .opening .valid .few
 
-  multipliers-back : fit (s .opening .graph .n) (pos 0) (fit maxVertices (pos 0) (s .opening .multipliers)) ≡ s .opening .multipliers
-  multipliers-back =
+  opening-multipliers : fit (s .opening .graph .n) (pos 0) (fit maxVertices (pos 0) (s .opening .multipliers)) ≡ s .opening .multipliers
+  opening-multipliers =
       fit-cut maxVertices (s .opening .graph .n) (pos 0) (s .opening .multipliers) (h .opening .valid .high) (h .opening .long)
 
   opening-back : openingIn (recordOf s) ≡ s .opening
   unfolding openingIn recordOf
-  opening-back = λ i. record { graph = s .opening .graph; multipliers = multipliers-back i; settings = s .opening .settings }
+  opening-back = λ i. record { graph = s .opening .graph; multipliers = opening-multipliers i; settings = s .opening .settings }
 
   byte : (p : ℕ) → p < length (s .stack) → (j : ℕ) → j < s .opening .graph .m
-      → getD (cells (s .stack)) (maxEdges * p + j) 0 ≡ cell (s .stack) p j
-  byte p b j c = cells-at (s .stack) p j (omega (arith, depth-most s h)) (omega (arith, few))
+      → getD (stackBytes (s .stack)) (maxEdges * p + j) 0 ≡ cell byteAt (s .stack) p j
+  byte p b j c = cells-at maxEdges stackSize bytes-places byteAt 0 (s .stack) p j (omega (arith, depth-most s h)) (omega (arith, few))
+
+  number : (p : ℕ) → p < length (s .stack) → (j : ℕ) → j < s .opening .graph .n
+      → getD (carriedOf (s .stack)) (maxVertices * p + j) (pos 0) ≡ cell multiplierAt (s .stack) p j
+  number p b j c =
+      cells-at maxVertices carriedSize carried-places multiplierAt (pos 0) (s .stack) p j (omega (arith, depth-most s h))
+      (omega (arith, h .opening .valid .high))
 
   progress-back : progressOf (recordOf s) ≡ s
   unfolding progressOf recordOf
   progress-back = λ i. record {
     opening = opening-back i;
     upper = s .upper;
-    stack = nodes-back (s .opening .graph .m) (cells (s .stack)) (s .stack) (h .nodes) byte i;
+    stack =
+        nodes-back (s .opening .graph .n) (s .opening .graph .m) (stackBytes (s .stack)) (carriedOf (s .stack)) (s .stack) (h .nodes) byte number i;
     incumbent =
         (ap (λ (b : Bool). bestOf (s .opening .graph .m) b (bestBytes (s .incumbent))) (bit-back (hasBest (s .incumbent)))
         ∙ best-back (s .opening .graph .m) (s .incumbent) few (h .sized)) i;
     count = s .count;
   }
 
-  stack-tidy : StackTidy (s .opening .graph .m) (length (s .stack)) (cells (s .stack))
-  stack-tidy p b j d c = cells-at (s .stack) p j b d ∙ go (decLe (suc p) (length (s .stack))) c
+  stack-tidy : StackTidy (s .opening .graph .m) (length (s .stack)) (stackBytes (s .stack))
+  stack-tidy p b j d c = cells-at maxEdges stackSize bytes-places byteAt 0 (s .stack) p j b d ∙ go (decLe (suc p) (length (s .stack))) c
     where
-      go : Dec (p < length (s .stack)) → usedIn (s .opening .graph .m) (length (s .stack)) p ≤ j → cell (s .stack) p j ≡ 0
+      go : Dec (p < length (s .stack)) → usedIn (s .opening .graph .m) (length (s .stack)) p ≤ j → cell byteAt (s .stack) p j ≡ 0
       go (yes l) u =
           let v : s .opening .graph .m ≤ j = (rw (lt-ltb p (length (s .stack)) l) at u) in
-          cell-past (s .stack) p j (omega (arith, node-narrow (s .opening .graph .m) (s .stack) (h .nodes) p))
-      go (no l) u = cell-none (s .stack) p j (omega arith)
+          cell-past (s .stack) p j (omega (arith, node-narrow (s .opening .graph .n) (s .opening .graph .m) (s .stack) (h .nodes) p .0))
+      go (no l) u = cell-none byteAt (s .stack) p j (omega arith)
+
+  carried-tidy : CarriedTidy (s .opening .graph .n) (length (s .stack)) (carriedOf (s .stack))
+  carried-tidy p b j d c =
+      multipliers-at maxVertices (carriedOf (s .stack)) p j d
+      ∙ cells-at maxVertices carriedSize carried-places multiplierAt (pos 0) (s .stack) p j b d
+      ∙ go (decLe (suc p) (length (s .stack))) c
+    where
+      go : Dec (p < length (s .stack)) → usedIn (s .opening .graph .n) (length (s .stack)) p ≤ j → cell multiplierAt (s .stack) p j ≡ pos 0
+      go (yes l) u =
+          let v : s .opening .graph .n ≤ j = (rw (lt-ltb p (length (s .stack)) l) at u) in
+          carried-past (s .stack) p j (omega (arith, node-narrow (s .opening .graph .n) (s .opening .graph .m) (s .stack) (h .nodes) p .1))
+      go (no l) u = cell-none multiplierAt (s .stack) p j (omega arith)
 
   record-tidy : Tidy (recordOf s)
   unfolding recordOf
@@ -79,6 +99,7 @@ module _ (s : Progress) (h : Kept s) where
         λ i b c. fit-at maxVertices (pos 0) (s .opening .multipliers) i b
         ∙ List·getD-eq-default (s .opening .multipliers) (pos 0) (omega (arith, h .opening .long));
     stack = stack-tidy;
+    carried = carried-tidy;
     best =
         subst (λ (b : Bool). Zeros 0 maxEdges (cond b (s .opening .graph .m) 0) (bestBytes (s .incumbent)))
         (sym (bit-back (hasBest (s .incumbent)))) (best-zeros (s .opening .graph .m) (s .incumbent) (h .sized));
@@ -90,11 +111,15 @@ module _ (s : Progress) (h : Kept s) where
     opening = ap fault opening-back ∙ accepted-fault (s .opening) (h .opening);
     upper = range-fits (s .upper) (h .upper);
     depth = h .depth;
-    stack = λ p b. let f = node-fits (s .opening .graph .m) (s .stack) (h .nodes) p b in (
+    stack = λ p b. let f = node-waits (s .opening .graph .n) (s .opening .graph .m) (s .stack) (h .nodes) p b in (
       (λ j c. subst (λ (k : ℕ). k ≤ 2) (sym (byte p b j c)) (cell-small (s .stack) p j)),
       subst (λ (x : Marks). p ≤ requireds x)
-          (sym (node-back (s .opening .graph .m) (cells (s .stack)) (s .stack) p (f .0) (byte p b))) (f .1),
+          (sym (marks-back (s .opening .graph .m) (stackBytes (s .stack)) (s .stack) p (f .long) (byte p b))) (f .required),
     );
+    carried = λ p b. let f = node-waits (s .opening .graph .n) (s .opening .graph .m) (s .stack) (h .nodes) p b in
+        ap multipliersFit
+        (multipliers-back (s .opening .graph .n) (carriedOf (s .stack)) (s .stack) p (f .multipliers .long) (number p b))
+        ∙ f .multipliers .fits;
     best = best-bits (s .incumbent);
     count = h .count;
   }
@@ -112,6 +137,8 @@ fresh-canonical = record {
     };
     multipliers = λ i b c. replicate-at {A = ℤ} maxVertices (pos 0) i;
     stack = λ p b j d c. replicate-at {A = ℕ} stackSize 0 (maxEdges * p + j);
+    carried = λ p b j d c.
+        multipliers-at maxVertices (replicate carriedSize (pos 0)) p j d ∙ replicate-at {A = ℤ} carriedSize (pos 0) (maxVertices * p + j);
     best = λ i b c. replicate-at {A = ℕ} maxEdges 0 i;
   };
   stands = record {
@@ -150,6 +177,7 @@ pub record Typed (r : Search) : Type 0 where
   pub cost : length (r .graph .cost) ≡ maxEdges
   pub mark : length (r .graph .mark) ≡ maxEdges
   pub multipliers : length (r .multipliers) ≡ maxVertices
+  pub carried : length (r .carried) ≡ carriedSize
   pub stack : length (r .stack) ≡ stackSize
   pub best : length (r .best) ≡ maxEdges
 
@@ -179,7 +207,9 @@ module _ (r : Search) (t : Typed r) (f : Flags r) (u : Tidy r) where
     settings = sym (d .settings) i;
     upper = sym (d .upper) i;
     depth = sym (d .depth) i;
-    stack = replicate-is stackSize 0 (r .stack) (t .stack) (each-place (λ k. getD (r .stack) k 0 ≡ 0) none) i;
+    carried = replicate-is carriedSize (pos 0) (r .carried) (t .carried)
+        (each-place maxVertices carriedSize carried-places (λ k. getD (r .carried) k (pos 0) ≡ pos 0) nothing) i;
+    stack = replicate-is stackSize 0 (r .stack) (t .stack) (each-place maxEdges stackSize bytes-places (λ k. getD (r .stack) k 0 ≡ 0) none) i;
     «has_best» = sym (flag-off (r .«has_best») (f .best) (d .best)) i;
     best = replicate-is maxEdges 0 (r .best) (t .best) (λ k b. u .best k b (rw (d .best) (omega arith))) i;
     count = sym (d .count) i;
@@ -188,27 +218,58 @@ module _ (r : Search) (t : Typed r) (f : Flags r) (u : Tidy r) where
       none : (p : ℕ) → p < maxNodes → (j : ℕ) → j < maxEdges → getD (r .stack) (maxEdges * p + j) 0 ≡ 0
       none p b j c = u .stack p b j c (rw (le-ltb p (r .depth) (omega (arith, d .depth))) (omega arith))
 
+      nothing : (p : ℕ) → p < maxNodes → (j : ℕ) → j < maxVertices → getD (r .carried) (maxVertices * p + j) (pos 0) ≡ pos 0
+      nothing p b j c =
+          sym (multipliers-at maxVertices (r .carried) p j c)
+          ∙ u .carried p b j c (rw (le-ltb p (r .depth) (omega (arith, d .depth))) (omega arith))
+
   module _ (w : Fits r) where
     cell-back : (p : ℕ) → p < maxNodes → (j : ℕ) → j < maxEdges
-        → cell (nodes (r .graph .m) (r .stack) (r .depth)) p j ≡ getD (r .stack) (maxEdges * p + j) 0
+        → cell byteAt (nodes (r .graph .n) (r .graph .m) (r .stack) (r .carried) (r .depth)) p j ≡ getD (r .stack) (maxEdges * p + j) 0
     unfolding cell
     cell-back p b j c = go (decLe (suc p) (r .depth)) (decLe (suc j) (r .graph .m))
       where
-        here : p < r .depth → byteOf (getD (nodeAt (nodes (r .graph .m) (r .stack) (r .depth)) p) j free)
-            ≡ byteOf (getD (node (r .graph .m) (r .stack) p) j free)
-        here d = ap (λ (x : Marks). byteOf (getD x j free)) (nodes-at (r .graph .m) (r .stack) (r .depth) p d)
+        here : p < r .depth → byteAt (nodeAt (nodes (r .graph .n) (r .graph .m) (r .stack) (r .carried) (r .depth)) p) j
+            ≡ byteOf (getD (marksAt (r .graph .m) (r .stack) p) j free)
+        here d = ap (λ (x : Node). byteAt x j) (nodes-at (r .graph .n) (r .graph .m) (r .stack) (r .carried) (r .depth) p d)
 
         go : Dec (p < r .depth) → Dec (j < r .graph .m)
-            → byteOf (getD (nodeAt (nodes (r .graph .m) (r .stack) (r .depth)) p) j free) ≡ getD (r .stack) (maxEdges * p + j) 0
+            → byteAt (nodeAt (nodes (r .graph .n) (r .graph .m) (r .stack) (r .carried) (r .depth)) p) j ≡ getD (r .stack) (maxEdges * p + j) 0
         go (yes d) (yes e) =
-            here d ∙ ap byteOf (node-at (r .graph .m) (r .stack) p j e)
+            here d ∙ ap byteOf (marks-at (r .graph .m) (r .stack) p j e)
             ∙ byte-mark (getD (r .stack) (maxEdges * p + j) 0) (w .stack p d .0 j e)
         go (yes d) (no e) =
-            here d ∙ ap byteOf (node-past (r .graph .m) (r .stack) p j (omega arith))
+            here d ∙ ap byteOf (marks-past (r .graph .m) (r .stack) p j (omega arith))
             ∙ sym (u .stack p b j c (rw (lt-ltb p (r .depth) d) (omega arith)))
         go (no d) e =
-            cell-none (nodes (r .graph .m) (r .stack) (r .depth)) p j (omega (arith, nodes-size (r .graph .m) (r .stack) (r .depth)))
+            cell-none byteAt (nodes (r .graph .n) (r .graph .m) (r .stack) (r .carried) (r .depth)) p j
+            (omega (arith, nodes-size (r .graph .n) (r .graph .m) (r .stack) (r .carried) (r .depth)))
             ∙ sym (u .stack p b j c (rw (le-ltb p (r .depth) (omega arith)) (omega arith)))
+
+    carried-back : (p : ℕ) → p < maxNodes → (j : ℕ) → j < maxVertices
+        → cell multiplierAt (nodes (r .graph .n) (r .graph .m) (r .stack) (r .carried) (r .depth)) p j ≡ getD (r .carried) (maxVertices * p + j) (pos 0)
+    unfolding cell
+    carried-back p b j c = go (decLe (suc p) (r .depth)) (decLe (suc j) (r .graph .n))
+      where
+        here : p < r .depth → multiplierAt (nodeAt (nodes (r .graph .n) (r .graph .m) (r .stack) (r .carried) (r .depth)) p) j
+            ≡ getD (multipliersAt (r .graph .n) (r .carried) p) j (pos 0)
+        here d = ap (λ (x : Node). multiplierAt x j) (nodes-at (r .graph .n) (r .graph .m) (r .stack) (r .carried) (r .depth) p d)
+
+        zero-there : usedIn (r .graph .n) (r .depth) p ≤ j → getD (r .carried) (maxVertices * p + j) (pos 0) ≡ pos 0
+        zero-there k = sym (multipliers-at maxVertices (r .carried) p j c) ∙ u .carried p b j c k
+
+        go : Dec (p < r .depth) → Dec (j < r .graph .n)
+            → multiplierAt (nodeAt (nodes (r .graph .n) (r .graph .m) (r .stack) (r .carried) (r .depth)) p) j
+            ≡ getD (r .carried) (maxVertices * p + j) (pos 0)
+        go (yes d) (yes e) = here d ∙ multipliers-at (r .graph .n) (r .carried) p j e
+        go (yes d) (no e) =
+            here d
+            ∙ List·getD-eq-default (multipliersAt (r .graph .n) (r .carried) p) (pos 0) (omega (arith, multipliers-size (r .graph .n) (r .carried) p))
+            ∙ sym (zero-there (rw (lt-ltb p (r .depth) d) (omega arith)))
+        go (no d) e =
+            cell-none multiplierAt (nodes (r .graph .n) (r .graph .m) (r .stack) (r .carried) (r .depth)) p j
+            (omega (arith, nodes-size (r .graph .n) (r .graph .m) (r .stack) (r .carried) (r .depth)))
+            ∙ sym (zero-there (rw (le-ltb p (r .depth) (omega arith)) (omega arith)))
 
     open-back : isOpen r ≡ true → recordOf (progressOf r) ≡ r
     unfolding recordOf progressOf openingIn
@@ -220,8 +281,13 @@ module _ (r : Search) (t : Typed r) (f : Flags r) (u : Tidy r) where
           (zeros-past (pos 0) maxVertices (r .graph .n) (r .multipliers) (t .multipliers) (u .multipliers)) i;
       settings = r .settings;
       upper = r .upper;
-      depth = nodes-size (r .graph .m) (r .stack) (r .depth) i;
-      stack = cells-is (nodes (r .graph .m) (r .stack) (r .depth)) (r .stack) (t .stack) cell-back i;
+      depth = nodes-size (r .graph .n) (r .graph .m) (r .stack) (r .carried) (r .depth) i;
+      carried =
+          cells-is maxVertices carriedSize carried-places multiplierAt (pos 0)
+          (nodes (r .graph .n) (r .graph .m) (r .stack) (r .carried) (r .depth)) (r .carried) (t .carried) carried-back i;
+      stack =
+          cells-is maxEdges stackSize bytes-places byteAt 0 (nodes (r .graph .n) (r .graph .m) (r .stack) (r .carried) (r .depth)) (r .stack)
+          (t .stack) cell-back i;
       «has_best» = (ap bit (has-back (r .graph .m) (hasTour r) (r .best)) ∙ byte-back (r .«has_best») (f .best)) i;
       best = bytes-back (r .graph .m) (hasTour r) (r .best) (t .best) (w .best) (u .best) i;
       count = r .count;
@@ -246,8 +312,9 @@ module _ (r : Search) (t : Typed r) (f : Flags r) (u : Tidy r) where
     open-kept = record {
       opening = fault-accepted (openingIn r) (unfold openingIn in trim) (w .opening);
       upper = fits-range (r .upper) (w .upper);
-      depth = unfold openingIn in rw (nodes-size (r .graph .m) (r .stack) (r .depth)) (w .depth);
-      nodes = unfold openingIn in nodes-of (r .graph .m) (r .stack) (r .depth) (λ p b. w .stack p b .1);
+      depth = unfold openingIn in rw (nodes-size (r .graph .n) (r .graph .m) (r .stack) (r .carried) (r .depth)) (w .depth);
+      nodes =
+          unfold openingIn in nodes-of (r .graph .n) (r .graph .m) (r .stack) (r .carried) (r .depth) (λ p b. w .stack p b .1) (λ p b. w .carried p b);
       sized = unfold openingIn in best-sized (r .graph .m) (hasTour r) (r .best);
       count = w .count;
     }

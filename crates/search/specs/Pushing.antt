@@ -1,4 +1,5 @@
--- Nodes go on the stack and come off it: what storing 190 bytes at place 190 · p makes of the bytes of a stack. Assumes nothing.
+-- Nodes go on the stack and come off it: what storing the places of node p makes of a stack's cells, of its bytes and of what its nodes
+-- carry. Assumes nothing.
 use mathlib.Core.Path.{_≡_, refl, sym, ap, _∙_, subst}
 use mathlib.Core.Logic.{_≢_, _⊎_, inl, inr}
 use mathlib.Core.List.{List, _∷_}
@@ -7,113 +8,156 @@ use native.Mathlib.Omega.{arith}
 use native.Mathlib.Decide.{decLe, ℕ-discrete}
 use lib.ListN.{length, getD, set, length-set, replicate}
 use lib.Seq.{getD-set-same, getD-set-other}
-use Rattle.lists.specs.Fill.{fill, fill-same, replicate-at}
-use Rattle.graph.specs.Limits.{maxEdges}
+use lib.IntN.{ℤ, pos}
+use Rattle.lists.specs.Fill.{fill, fill-same, fit, fit-at, replicate-at}
+use Rattle.graph.specs.Limits.{maxVertices, maxEdges}
 use Rattle.graph.specs.Network.{free}
-use Rattle.machine.specs.Machine.{Marks}
+use Rattle.machine.specs.Machine.{Marks, Node}
 use Rattle.node.specs.Marks.{byteOf, bytesOf, bytes-at}
-use Rattle.search.specs.Record.{maxNodes, stackSize, cell, cells}
-use Rattle.search.specs.Cells.{cell-top, cell-lower, cell-none, cells-at, cells-size, cells-is}
+use Rattle.node.specs.Opened.{places}
+use Rattle.search.specs.Record.{maxNodes, stackSize, carriedSize, multipliersAt, noNode, cell, cells, byteAt, multiplierAt, stackBytes, carriedOf}
+use Rattle.search.specs.Cells.{Layout, bytes-places, carried-places, cell-top, cell-lower, cell-none, cells-at, cells-size, cells-is}
 
--- ---- 190 bytes of the stack
+-- ---- the places of one node
 
--- those of node p
+-- the bytes of node p
 unfoldable pub rowAt : List ℕ → ℕ → List ℕ
 unfolding fill
 rowAt l p = fill maxEdges (λ j. getD l (maxEdges * p + j) 0)
 
--- the first k bytes of x stand at node p, and the other bytes are those of l
-pub record Put (p k : ℕ) (x l l′ : List ℕ) : Type 0 where
+-- the first k of x stand from place `at` on, and at the other places what l has
+pub record Put {A : Type 0} (z : A) (at k : ℕ) (x l l′ : List A) : Type 0 where
   pub size : length l′ ≡ length l
-  pub new : (j : ℕ) → j < k → getD l′ (maxEdges * p + j) 0 ≡ getD x j 0
-  pub old : (i : ℕ) → (i < maxEdges * p) ⊎ (maxEdges * p + k ≤ i) → getD l′ i 0 ≡ getD l i 0
+  pub new : (j : ℕ) → j < k → getD l′ (at + j) z ≡ getD x j z
+  pub old : (i : ℕ) → (i < at) ⊎ (at + k ≤ i) → getD l′ i z ≡ getD l i z
 
-pub put-none : (p : ℕ) (x l : List ℕ) → Put p 0 x l l
-put-none p x l = record { size = refl; new = λ j h. absurd (omega arith); old = λ i h. refl }
+module _ {A : Type 0} (z : A) (at : ℕ) (x l : List A) where
+  pub put-none : Put z at 0 x l l
+  put-none = record { size = refl; new = λ j h. absurd (omega arith); old = λ i h. refl }
 
-pub put-more : (p k : ℕ) (x l l′ : List ℕ) → maxEdges * p + k < length l′ → Put p k x l l′
-    → Put p (k + 1) x l (set l′ (maxEdges * p + k) (getD x k 0))
-put-more p k x l l′ b h = record {
-  size = length-set l′ (maxEdges * p + k) (getD x k 0) ∙ h .size;
-  new = λ j i. new j i (ℕ-discrete j k);
-  old = λ i d. getD-set-other l′ (maxEdges * p + k) i (getD x k 0) 0 (off i d) ∙ h .old i (less i d);
-}
-  where
-    new : (j : ℕ) → j < k + 1 → Dec (j ≡ k) → getD (set l′ (maxEdges * p + k) (getD x k 0)) (maxEdges * p + j) 0 ≡ getD x j 0
-    new j i (yes e) = rw e (getD-set-same l′ (maxEdges * p + k) (getD x k 0) 0 b)
-    new j i (no e) = getD-set-other l′ (maxEdges * p + k) (maxEdges * p + j) (getD x k 0) 0 (λ d. e (omega arith)) ∙ h .new j (omega arith)
+  pub put-more : (k : ℕ) (l′ : List A) (y : A) → y ≡ getD x k z → at + k < length l′ → Put z at k x l l′ → Put z at (k + 1) x l (set l′ (at + k) y)
+  put-more k l′ y e b h = record {
+    size = length-set l′ (at + k) y ∙ h .size;
+    new = λ j i. new j i (ℕ-discrete j k);
+    old = λ i d. getD-set-other l′ (at + k) i y z (off i d) ∙ h .old i (less i d);
+  }
+    where
+      new : (j : ℕ) → j < k + 1 → Dec (j ≡ k) → getD (set l′ (at + k) y) (at + j) z ≡ getD x j z
+      new j i (yes q) = rw q (getD-set-same l′ (at + k) y z b ∙ e)
+      new j i (no q) = getD-set-other l′ (at + k) (at + j) y z (λ d. q (omega arith)) ∙ h .new j (omega arith)
 
-    off : (i : ℕ) → (i < maxEdges * p) ⊎ (maxEdges * p + (k + 1) ≤ i) → i ≢ maxEdges * p + k
-    off i (inl d) e = omega arith
-    off i (inr d) e = omega arith
+      off : (i : ℕ) → (i < at) ⊎ (at + (k + 1) ≤ i) → i ≢ at + k
+      off i (inl d) q = omega arith
+      off i (inr d) q = omega arith
 
-    less : (i : ℕ) → (i < maxEdges * p) ⊎ (maxEdges * p + (k + 1) ≤ i) → (i < maxEdges * p) ⊎ (maxEdges * p + k ≤ i)
-    less i (inl d) = inl d
-    less i (inr d) = inr (omega arith)
+      less : (i : ℕ) → (i < at) ⊎ (at + (k + 1) ≤ i) → (i < at) ⊎ (at + k ≤ i)
+      less i (inl d) = inl d
+      less i (inr d) = inr (omega arith)
 
-pub put-to : (p k m : ℕ) (x l l′ : List ℕ) → k ≡ m → Put p k x l l′ → Put p m x l l′
-put-to p k m x l l′ e h = subst (λ (i : ℕ). Put p i x l l′) e h
+  pub put-to : (k m : ℕ) (l′ : List A) → k ≡ m → Put z at k x l l′ → Put z at m x l l′
+  put-to k m l′ e h = subst (λ (i : ℕ). Put z at i x l l′) e h
 
--- ---- on the stack and off it
+-- the bytes of node p, and what it carries
+abbrev pub PutBytes : ℕ → List ℕ → List ℕ → List ℕ → Type 0
+PutBytes p x l l′ = Put 0 (maxEdges * p) maxEdges x l l′
+
+abbrev pub PutCarried : ℕ → List ℤ → List ℤ → List ℤ → Type 0
+PutCarried p d e e′ = Put (pos 0) (maxVertices * p) maxVertices d e e′
+
+-- ---- on the stack and off it, of any cells
+
+module _ {A : Type 0} (w size : ℕ) (lay : Layout w size) (v : Node → ℕ → A) (z : A) where
+  -- l has the cells of `rest`, but perhaps at node p, the first above it
+  abbrev Below : List Node → ℕ → List A → Type 0
+  Below rest p l = (q : ℕ) → q < maxNodes → q ≢ p → (j : ℕ) → j < w → getD l (w * q + j) z ≡ cell v rest q j
+
+  below-rest : (rest : List Node) (l : List A) (p : ℕ) → l ≡ cells w size v rest → Below rest p l
+  below-rest rest l p e q b d j h = ap (λ (y : List A). getD y (w * q + j) z) e ∙ cells-at w size lay v z rest q j b h
+
+  below-top : (x : Node) (rest : List Node) (l : List A) (p : ℕ) → l ≡ cells w size v (x ∷ rest) → length rest ≡ p → Below rest p l
+  below-top x rest l p e n q b d j h =
+      ap (λ (y : List A). getD y (w * q + j) z) e
+      ∙ cells-at w size lay v z (x ∷ rest) q j b h
+      ∙ cell-lower v x rest q j (λ i. d (i ∙ n))
+
+  module _ (p : ℕ) (y l l′ : List A) (sized : length l ≡ size) (h : Put z (w * p) w y l l′) (rest : List Node) (n : length rest ≡ p)
+      (below : Below rest p l) where
+    stored : (st : List Node) → ((q : ℕ) → q ≢ p → (j : ℕ) → cell v st q j ≡ cell v rest q j)
+        → ((j : ℕ) → j < w → cell v st p j ≡ getD y j z) → l′ ≡ cells w size v st
+    stored st others here = sym (cells-is w size lay v z st l′ (h .size ∙ sized) (λ q b j d. at q b j d (ℕ-discrete q p)))
+      where
+        at : (q : ℕ) → q < maxNodes → (j : ℕ) → j < w → Dec (q ≡ p) → cell v st q j ≡ getD l′ (w * q + j) z
+        at q b j d (yes i) = rw i (here j d ∙ sym (h .new j d))
+        at q b j d (no i) = others q i j ∙ sym (below q b i j d) ∙ sym (h .old (w * q + j) (lay .apart p q j i d))
+
+    stored-on : (x : Node) → ((j : ℕ) → j < w → getD y j z ≡ v x j) → l′ ≡ cells w size v (x ∷ rest)
+    stored-on x e =
+        stored (x ∷ rest) (λ q d j. cell-lower v x rest q j (λ i. d (i ∙ n))) (λ j b. cell-top v x rest p j n ∙ sym (e j b))
+
+    stored-off : ((j : ℕ) → j < w → getD y j z ≡ v noNode j) → l′ ≡ cells w size v rest
+    stored-off e = stored rest (λ q d j. refl) (λ j b. cell-none v rest p j (omega (arith, n)) ∙ sym (e j b))
+
+  module _ (p : ℕ) (y l l′ : List A) (rest : List Node) (n : length rest ≡ p) (h : Put z (w * p) w y l l′) where
+    -- a node goes on top
+    push : (x : Node) → ((j : ℕ) → j < w → getD y j z ≡ v x j) → l ≡ cells w size v rest → l′ ≡ cells w size v (x ∷ rest)
+    push x at e = stored-on p y l l′ (ap length e ∙ cells-size w size lay v rest) h rest n (below-rest rest l p e) x at
+
+    -- a node takes the place of the top one
+    replace : (x u : Node) → ((j : ℕ) → j < w → getD y j z ≡ v u j) → l ≡ cells w size v (x ∷ rest) → l′ ≡ cells w size v (u ∷ rest)
+    replace x u at e =
+        stored-on p y l l′ (ap length e ∙ cells-size w size lay v (x ∷ rest)) h rest n (below-top x rest l p e n) u at
+
+    -- the top node is wiped off
+    pop : (x : Node) → ((j : ℕ) → j < w → getD y j z ≡ v noNode j) → l ≡ cells w size v (x ∷ rest) → l′ ≡ cells w size v rest
+    pop x at e = stored-off p y l l′ (ap length e ∙ cells-size w size lay v (x ∷ rest)) h rest n (below-top x rest l p e n) at
+
+-- ---- the bytes of the marks
 
 -- the top node is read
-pub row-top : (x : Marks) (rest : List Marks) (l : List ℕ) (p : ℕ) → l ≡ cells (x ∷ rest) → length rest ≡ p → p < maxNodes
-    → rowAt l p ≡ bytesOf x
+pub row-top : (x : Node) (rest : List Node) (l : List ℕ) (p : ℕ) → l ≡ stackBytes (x ∷ rest) → length rest ≡ p → p < maxNodes
+    → rowAt l p ≡ bytesOf (x .marks)
 unfolding rowAt bytesOf
 row-top x rest l p e n b =
-    fill-same maxEdges (λ j. getD l (maxEdges * p + j) 0) (λ j. byteOf (getD x j free))
-    (λ j h. ap (λ (y : List ℕ). getD y (maxEdges * p + j) 0) e ∙ cells-at (x ∷ rest) p j b h ∙ cell-top x rest p j n)
+    fill-same maxEdges (λ j. getD l (maxEdges * p + j) 0) (λ j. byteAt x j)
+    (λ j h.
+    ap (λ (y : List ℕ). getD y (maxEdges * p + j) 0) e
+    ∙ cells-at maxEdges stackSize bytes-places byteAt 0 (x ∷ rest) p j b h
+    ∙ cell-top byteAt x rest p j n)
 
--- the bytes l are those of `rest`, but perhaps at node p, the first above it
-abbrev Below : List Marks → ℕ → List ℕ → Type 0
-Below rest p l = (q : ℕ) → q < maxNodes → q ≢ p → (j : ℕ) → j < maxEdges → getD l (maxEdges * q + j) 0 ≡ cell rest q j
+module _ (p : ℕ) (l l′ : List ℕ) (rest : List Node) (n : length rest ≡ p) where
+  pub pushed : (x : Node) → l ≡ stackBytes rest → PutBytes p (bytesOf (x .marks)) l l′ → l′ ≡ stackBytes (x ∷ rest)
+  pushed x e h = push maxEdges stackSize bytes-places byteAt 0 p _ l l′ rest n h x (λ j b. bytes-at (x .marks) j b) e
 
-below-rest : (rest : List Marks) (l : List ℕ) (p : ℕ) → l ≡ cells rest → Below rest p l
-below-rest rest l p e q b d j h = ap (λ (y : List ℕ). getD y (maxEdges * q + j) 0) e ∙ cells-at rest q j b h
+  pub replaced : (x y : Node) → l ≡ stackBytes (x ∷ rest) → PutBytes p (bytesOf (y .marks)) l l′ → l′ ≡ stackBytes (y ∷ rest)
+  replaced x y e h = replace maxEdges stackSize bytes-places byteAt 0 p _ l l′ rest n h x y (λ j b. bytes-at (y .marks) j b) e
 
-below-top : (x : Marks) (rest : List Marks) (l : List ℕ) (p : ℕ) → l ≡ cells (x ∷ rest) → length rest ≡ p → Below rest p l
-below-top x rest l p e n q b d j h =
-    ap (λ (y : List ℕ). getD y (maxEdges * q + j) 0) e
-    ∙ cells-at (x ∷ rest) q j b h
-    ∙ cell-lower x rest q j (λ i. d (i ∙ n))
+  pub popped : (x : Node) → l ≡ stackBytes (x ∷ rest) → PutBytes p (replicate maxEdges 0) l l′ → l′ ≡ stackBytes rest
+  popped x e h = pop maxEdges stackSize bytes-places byteAt 0 p _ l l′ rest n h x (λ j b. replicate-at {A = ℕ} maxEdges 0 j) e
 
-module _ (p : ℕ) (y l l′ : List ℕ) (size : length l ≡ stackSize) (h : Put p maxEdges y l l′) (rest : List Marks) (n : length rest ≡ p)
-    (below : Below rest p l) where
-  elsewhere : (q : ℕ) → q ≢ p → (j : ℕ) → j < maxEdges → getD l′ (maxEdges * q + j) 0 ≡ getD l (maxEdges * q + j) 0
-  elsewhere q d j b = h .old (maxEdges * q + j) (go (decLe (suc q) p))
-    where
-      go : Dec (q < p) → (maxEdges * q + j < maxEdges * p) ⊎ (maxEdges * p + maxEdges ≤ maxEdges * q + j)
-      go (yes i) = inl (omega arith)
-      go (no i) = inr (omega arith)
+-- ---- what the nodes carry
 
-  stored : (st : List Marks) → ((q : ℕ) → q ≢ p → (j : ℕ) → cell st q j ≡ cell rest q j)
-      → ((j : ℕ) → j < maxEdges → cell st p j ≡ getD y j 0) → l′ ≡ cells st
-  stored st others here = sym (cells-is st l′ (h .size ∙ size) (λ q b j d. at q b j d (ℕ-discrete q p)))
-    where
-      at : (q : ℕ) → q < maxNodes → (j : ℕ) → j < maxEdges → Dec (q ≡ p) → cell st q j ≡ getD l′ (maxEdges * q + j) 0
-      at q b j d (yes i) = rw i (here j d ∙ sym (h .new j d))
-      at q b j d (no i) = others q i j ∙ sym (below q b i j d) ∙ sym (elsewhere q i j d)
+pub carried-top : (x : Node) (rest : List Node) (e : List ℤ) (p : ℕ) → e ≡ carriedOf (x ∷ rest) → length rest ≡ p → p < maxNodes
+    → multipliersAt maxVertices e p ≡ places (x .multipliers)
+unfolding multipliersAt fit
+carried-top x rest e p q n b =
+    fill-same maxVertices (λ j. getD e (maxVertices * p + j) (pos 0)) (λ j. multiplierAt x j)
+    (λ j h.
+    ap (λ (y : List ℤ). getD y (maxVertices * p + j) (pos 0)) q
+    ∙ cells-at maxVertices carriedSize carried-places multiplierAt (pos 0) (x ∷ rest) p j b h
+    ∙ cell-top multiplierAt x rest p j n)
 
-  stored-on : (x : Marks) → y ≡ bytesOf x → l′ ≡ cells (x ∷ rest)
-  stored-on x e =
-      stored (x ∷ rest) (λ q d j. cell-lower x rest q j (λ i. d (i ∙ n)))
-      (λ j b. cell-top x rest p j n ∙ sym (ap (λ (z : List ℕ). getD z j 0) e ∙ bytes-at x j b))
+module _ (p : ℕ) (e e′ : List ℤ) (rest : List Node) (n : length rest ≡ p) where
+  pub carried-pushed : (x : Node) → e ≡ carriedOf rest → PutCarried p (places (x .multipliers)) e e′ → e′ ≡ carriedOf (x ∷ rest)
+  carried-pushed x q h =
+      push maxVertices carriedSize carried-places multiplierAt (pos 0) p _ e e′ rest n h x
+      (λ j b. fit-at maxVertices (pos 0) (x .multipliers) j b) q
 
-  stored-off : ((j : ℕ) → j < maxEdges → getD y j 0 ≡ 0) → l′ ≡ cells rest
-  stored-off e = stored rest (λ q d j. refl) (λ j b. cell-none rest p j (omega (arith, n)) ∙ sym (e j b))
+  pub carried-replaced : (x y : Node) → e ≡ carriedOf (x ∷ rest) → PutCarried p (places (y .multipliers)) e e′ → e′ ≡ carriedOf (y ∷ rest)
+  carried-replaced x y q h =
+      replace maxVertices carriedSize carried-places multiplierAt (pos 0) p _ e e′ rest n h x y
+      (λ j b. fit-at maxVertices (pos 0) (y .multipliers) j b) q
 
-module _ (p : ℕ) (l l′ : List ℕ) (rest : List Marks) (n : length rest ≡ p) where
-  -- a node goes on top
-  pub pushed : (x : Marks) → l ≡ cells rest → Put p maxEdges (bytesOf x) l l′ → l′ ≡ cells (x ∷ rest)
-  pushed x e h = stored-on p (bytesOf x) l l′ (ap length e ∙ cells-size rest) h rest n (below-rest rest l p e) x refl
-
-  -- a node takes the place of the top one
-  pub replaced : (x y : Marks) → l ≡ cells (x ∷ rest) → Put p maxEdges (bytesOf y) l l′ → l′ ≡ cells (y ∷ rest)
-  replaced x y e h =
-      stored-on p (bytesOf y) l l′ (ap length e ∙ cells-size (x ∷ rest)) h rest n (below-top x rest l p e n) y refl
-
-  -- the top node is wiped off
-  pub popped : (x : Marks) → l ≡ cells (x ∷ rest) → Put p maxEdges (replicate maxEdges 0) l l′ → l′ ≡ cells rest
-  popped x e h =
-      stored-off p (replicate maxEdges 0) l l′ (ap length e ∙ cells-size (x ∷ rest)) h rest n (below-top x rest l p e n)
-      (λ j b. replicate-at {A = ℕ} maxEdges 0 j)
+  pub carried-popped : (x : Node) → e ≡ carriedOf (x ∷ rest) → PutCarried p (replicate maxVertices (pos 0)) e e′ → e′ ≡ carriedOf rest
+  carried-popped x q h =
+      pop maxVertices carriedSize carried-places multiplierAt (pos 0) p _ e e′ rest n h x
+      (λ j b. replicate-at {A = ℤ} maxVertices (pos 0) j) q

@@ -14,16 +14,19 @@ use Rattle.graph.specs.Network.{free, markOf}
 use Rattle.graph.specs.Edgeless.{edgeless}
 use Rattle.machine.specs.declared.Settings.{Settings}
 use Rattle.machine.specs.Outcomes.{Incumbent, noTour, aTour}
-use Rattle.machine.specs.Machine.{Marks, Opening, Progress, State, noSearch, searching}
+use Rattle.machine.specs.Machine.{Marks, Node, nodeOf, Opening, Progress, State, noSearch, searching}
 use Rattle.node.specs.Marks.{byteOf, bytesOfTour}
 use Rattle.search.specs.declared.Search.{Search}
 
--- a stack has room for 22 nodes, 190 bytes each: a search never has more than n + 2 waiting
+-- a stack has room for 22 nodes, 190 bytes and 20 multipliers each: a search never has more than n + 2 waiting
 abbrev pub maxNodes : ℕ
 maxNodes = 22
 
 abbrev pub stackSize : ℕ
 stackSize = 4180
+
+abbrev pub carriedSize : ℕ
+carriedSize = 440
 
 -- the settings of a record where no search is open
 abbrev pub noSettings : Settings
@@ -39,35 +42,59 @@ fresh =
       depth = 0;
       graph = edgeless 0;
       multipliers = replicate maxVertices (pos 0);
+      carried = replicate carriedSize (pos 0);
       stack = replicate stackSize 0;
       best = replicate maxEdges 0;
       «open» = 0;
       «has_best» = 0;
     }
 
--- ---- the stack: node p, counted from 0 at the bottom, has the mark of edge j + 1 at place 190 · p + j
+-- ---- the stack: node p, counted from 0 at the bottom, has the mark of edge j + 1 at place 190 · p + j of the stack's bytes, and its
+-- multiplier of vertex j + 1 at place 20 · p + j of what the nodes carry
 
--- node p of a stack's bytes
-unfoldable pub node : ℕ → List ℕ → ℕ → Marks
-node m l p = fill m (λ j. markOf (getD l (maxEdges * p + j) 0))
+-- the marks of node p in a stack's bytes
+unfoldable pub marksAt : ℕ → List ℕ → ℕ → Marks
+marksAt m l p = fill m (λ j. markOf (getD l (maxEdges * p + j) 0))
+
+-- and its multipliers
+unfoldable pub multipliersAt : ℕ → List ℤ → ℕ → List ℤ
+multipliersAt n e p = fill n (λ j. getD e (maxVertices * p + j) (pos 0))
 
 -- the nodes below depth d, the top first
-unfoldable pub nodes : ℕ → List ℕ → ℕ → List Marks
-nodes m l zero = []
-nodes m l (suc p) = node m l p ∷ nodes m l p
+unfoldable pub nodes : ℕ → ℕ → List ℕ → List ℤ → ℕ → List Node
+nodes n m l e zero = []
+nodes n m l e (suc p) = nodeOf (multipliersAt n e p) (marksAt m l p) ∷ nodes n m l e p
+
+-- a node of nothing
+abbrev pub noNode : Node
+noNode = nodeOf [] []
 
 -- node p from the bottom
-unfoldable pub nodeAt : List Marks → ℕ → Marks
-nodeAt [] p = []
+unfoldable pub nodeAt : List Node → ℕ → Node
+nodeAt [] p = noNode
 nodeAt (x ∷ rest) p = cond (eqb p (length rest)) x (nodeAt rest p)
 
--- the byte for edge j + 1 in node p; 0 where there is none
-unfoldable pub cell : List Marks → ℕ → ℕ → ℕ
-cell st p j = byteOf (getD (nodeAt st p) j free)
+-- what node p has at place j, where v x j is what a node x has there
+unfoldable pub cell : {A : Type 0} → (Node → ℕ → A) → List Node → ℕ → ℕ → A
+cell v st p j = v (nodeAt st p) j
 
--- a stack's bytes
-unfoldable pub cells : List Marks → List ℕ
-cells st = fill stackSize (λ i. cell st (i / maxEdges) (i % maxEdges))
+-- that of all nodes, w places each
+unfoldable pub cells : {A : Type 0} → ℕ → ℕ → (Node → ℕ → A) → List Node → List A
+cells w size v st = fill size (λ i. cell v st (i / w) (i % w))
+
+-- the byte for edge j + 1, and the multiplier of vertex j + 1; 0 where there is none
+abbrev pub byteAt : Node → ℕ → ℕ
+byteAt x j = byteOf (getD (x .marks) j free)
+
+abbrev pub multiplierAt : Node → ℕ → ℤ
+multiplierAt x j = getD (x .multipliers) j (pos 0)
+
+-- a stack's bytes, and what its nodes carry
+abbrev pub stackBytes : List Node → List ℕ
+stackBytes st = cells maxEdges stackSize byteAt st
+
+abbrev pub carriedOf : List Node → List ℤ
+carriedOf st = cells maxVertices carriedSize multiplierAt st
 
 -- ---- the incumbent: "1 in, 0 out"
 
@@ -111,7 +138,7 @@ progressOf s =
     record {
       opening = openingIn s;
       upper = s .upper;
-      stack = nodes (s .graph .m) (s .stack) (s .depth);
+      stack = nodes (s .graph .n) (s .graph .m) (s .stack) (s .carried) (s .depth);
       incumbent = bestOf (s .graph .m) (hasTour s) (s .best);
       count = s .count;
     }
@@ -129,7 +156,8 @@ recordOf s =
       depth = length (s .stack);
       graph = s .opening .graph;
       multipliers = fit maxVertices (pos 0) (s .opening .multipliers);
-      stack = cells (s .stack);
+      carried = carriedOf (s .stack);
+      stack = stackBytes (s .stack);
       best = bestBytes (s .incumbent);
       «open» = 1;
       «has_best» = bit (hasBest (s .incumbent));

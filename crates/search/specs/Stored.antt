@@ -24,7 +24,7 @@ pub record Fitting (s : Progress) : Type 0 where
   pub trim : held (s .opening) ≡ s .opening
   pub upper : ceilingFits (s .upper) ≡ true
   pub depth : length (s .stack) ≤ s .opening .graph .n + 2
-  pub nodes : Nodes (s .opening .graph .m) (s .stack)
+  pub nodes : Nodes (s .opening .graph .n) (s .opening .graph .m) (s .stack)
   pub sized : Sized (s .opening .graph .m) (s .incumbent)
   pub count : s .count ≤ maxCount
 

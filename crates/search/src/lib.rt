@@ -31,8 +31,11 @@ pub const MAX_NODES: usize = MAX_VERTICES + 2;
 
 pub const STACK_SIZE: usize = MAX_EDGES * MAX_NODES;
 
+// And for the multipliers that they carry, one for each vertex.
+pub const CARRIED_SIZE: usize = MAX_VERTICES * MAX_NODES;
+
 // The search record. Where a search is open: the arguments of its opening, the upper bound, the stack (node p from the bottom has
-// a mark for each edge from place MAX_EDGES * p on), the incumbent (1 in, 0 out) and the count of nodes opened. The flags `open` and `has_best`
+// a mark for each edge from place MAX_EDGES * p on, and carries a multiplier for each vertex from place MAX_VERTICES * p on), the incumbent (1 in, 0 out) and the count of nodes opened. The flags `open` and `has_best`
 // are bytes, 1 yes and 0 no. The fields stand by width, so that no byte lies between them. docs/RECORD.md states the check that every
 // call makes of it.
 #[repr(C)]
@@ -43,6 +46,7 @@ pub struct Search {
     pub depth: usize,
     pub graph: Graph,
     pub multipliers: [i32; MAX_VERTICES],
+    pub carried: [i32; CARRIED_SIZE],
     pub stack: [u8; STACK_SIZE],
     pub best: [u8; MAX_EDGES],
     pub open: u8,
@@ -88,6 +92,7 @@ impl Search {
             depth: 0,
             graph: g,
             multipliers: [0; MAX_VERTICES],
+            carried: [0; CARRIED_SIZE],
             stack: [0; STACK_SIZE],
             best: [0; MAX_EDGES],
             open: 0,
@@ -129,8 +134,8 @@ pub fn open_core(s: Search, g: Graph, multipliers: &[i32], settings: Settings) -
     }
 }
 
-// Running. Ruled out: a node opened beyond the budget; a count of nodes that were not opened; a node that is opened with marks made below
-// another. The stack and the incumbent are copied once, and lent: nothing is copied for a node.
+// Running. Ruled out: a node opened beyond the budget; a count of nodes that were not opened; a node that is opened with marks or
+// multipliers made below another. The stack and the incumbent are copied once, and lent: nothing is copied for a node.
 pub fn run_core(s: Search, budget: u64) -> Outcome
     ensures { λ r. ⌜ r ≡ reply s (Calls.run budget) ⌝ }
 {
@@ -142,7 +147,6 @@ pub fn run_core(s: Search, budget: u64) -> Outcome
     }
     let settings = s.settings;
     let g = s.graph;
-    let d = s.multipliers;
     let f = Frame {
         upper: s.upper,
         depth: s.depth,
@@ -150,10 +154,20 @@ pub fn run_core(s: Search, budget: u64) -> Outcome
         count: s.count,
     };
     let mut best = s.best;
+    let mut carried = s.carried;
     let mut r = s;
-    let t = run_frame(g, d, settings, f, &mut r.stack, &mut best, budget);
+    let t = run_frame(
+        g,
+        settings,
+        f,
+        &mut r.stack,
+        &mut best,
+        &mut carried,
+        budget,
+    );
     let k = t.count;
     r.best = best;
+    r.carried = carried;
     r.upper = t.upper;
     r.count = k;
     r.depth = t.depth;

@@ -9,6 +9,7 @@ ghost use Rattle.machine.specs.Machine.{trimmed};
 ghost use Rattle.machine.specs.Machine as Machine;
 ghost use Rattle.machine.specs.Calls as Calls;
 ghost use Rattle.search.specs.Record.{openingOf, recordOf};
+use crate::CARRIED_SIZE;
 use crate::STACK_SIZE;
 use crate::Search;
 use crate::stack;
@@ -85,6 +86,8 @@ pub(crate) fn begin(g: Graph, multipliers: &[i32], settings: Settings) -> Search
     let marks = t.mark;
     let mut nodes = [0u8; STACK_SIZE];
     stack::put(&mut nodes, 0, &marks);
+    let mut carried = [0i32; CARRIED_SIZE];
+    stack::put_carried(&mut carried, 0, &d);
     Search {
         settings: settings,
         upper: settings.ceiling,
@@ -92,6 +95,7 @@ pub(crate) fn begin(g: Graph, multipliers: &[i32], settings: Settings) -> Search
         depth: 1,
         graph: t,
         multipliers: d,
+        carried: carried,
         stack: nodes,
         best: [0; MAX_EDGES],
         open: 1,

@@ -7,14 +7,16 @@ ghost use Rattle.lists.specs.Bools.{Says};
 ghost use Rattle.graph.specs.Limits.{maxVertices, maxEdges};
 ghost use Rattle.machine.specs.Calls.{fault};
 ghost use Rattle.search.specs.Record.{maxNodes, stackSize, noSettings};
-ghost use Rattle.search.specs.Canonical.{Zeros, GraphTidy, NodeZeros, StackTidy, NodeFits, StackFits, Bits};
+ghost use Rattle.search.specs.Canonical.{Zeros, GraphTidy, NodeZeros, usedIn, StackTidy, CarriedTidy, NodeFits, StackFits, CarriedFits, Bits};
 ghost use Rattle.search.specs.CheckParts.{InUse, FieldsTidy, FieldsFit, FieldsIdle, openingWith};
 ghost use Rattle.search.specs.Check.{check};
+use crate::CARRIED_SIZE;
 use crate::MAX_COUNT;
 use crate::MAX_NODES;
 use crate::STACK_SIZE;
 use crate::Search;
 use crate::opening;
+use crate::stack::get_carried;
 use graph::EXCLUDED;
 use graph::Graph;
 use graph::MAX_EDGES;
@@ -148,6 +150,30 @@ fn stack_tidy(stack: &[u8; STACK_SIZE], m: usize, depth: usize) -> bool
     true
 }
 
+// How many places of node p are in use, of k?
+fn used_in(k: usize, depth: usize, p: usize) -> usize
+    ensures { λ r. ⌜ r ≡ usedIn k depth p ⌝ }
+{
+    if p < depth {
+        return k;
+    }
+    0
+}
+
+fn carried_tidy(carried: &[i32; CARRIED_SIZE], n: usize, depth: usize) -> bool
+    ensures { λ r. ⌜ Says r (CarriedTidy n depth (now (carried .entry))) ⌝ }
+{
+    let mut p = 0;
+    while p < MAX_NODES {
+        let d = get_carried(carried, p);
+        if !multipliers_tidy(d, used_in(n, depth, p)) {
+            return false;
+        }
+        p = p + 1;
+    }
+    true
+}
+
 fn bits(a: [u8; MAX_EDGES]) -> bool
     ensures { λ r. ⌜ Says r (Bits a) ⌝ }
 {
@@ -194,6 +220,22 @@ fn stack_fits(stack: &[u8; STACK_SIZE], m: usize, depth: usize) -> bool
     let mut p = 0;
     while p < depth {
         if !node_fits(stack, m, p) {
+            return false;
+        }
+        p = p + 1;
+    }
+    true
+}
+
+// Are the multipliers that each node carries such as an opening accepts?
+fn carried_fits(carried: &[i32; CARRIED_SIZE], n: usize, depth: usize) -> bool
+    requires { ⌜ (n ≤ maxVertices) × (depth ≤ maxNodes) ⌝ }
+    ensures { λ r. ⌜ Says r (CarriedFits n depth (now (carried .entry))) ⌝ }
+{
+    let mut p = 0;
+    while p < depth {
+        let d = get_carried(carried, p);
+        if !onetree::multipliers_fit(&d[..n]) {
             return false;
         }
         p = p + 1;
@@ -324,6 +366,10 @@ pub(crate) fn sound(s: Search) -> bool
     if !stack_tidy(&s.stack, m, s.depth) {
         return false;
     }
+    let n = wide(g.n);
+    if !carried_tidy(&s.carried, n, s.depth) {
+        return false;
+    }
     let settings = s.settings;
     if s.open != 1 {
         return idle(
@@ -337,6 +383,9 @@ pub(crate) fn sound(s: Search) -> bool
         );
     }
     if !fields_fit(g, d, settings, s.upper, s.depth, best, s.count) {
+        return false;
+    }
+    if !carried_fits(&s.carried, n, s.depth) {
         return false;
     }
     stack_fits(&s.stack, m, s.depth)

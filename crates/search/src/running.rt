@@ -1,13 +1,23 @@
 // Running: the top node is opened while one waits, budget is left and the count is below its limit. What changes is a small frame by
-// value beside the bytes of the stack and of the best tour, which are lent: nothing copies the record for a node.
+// value beside the bytes of the stack and of the best tour and what the nodes carry, which are lent: nothing copies the record for a node.
+ghost use mathlib.Core.Path.{_≡_};
+ghost use mathlib.Core.List.{List};
+ghost use Prim.Native.Nat.{_+_, _<_};
+ghost use lib.IntN.{ℤ};
+ghost use lib.ListN.{length};
 ghost use Rattle.machine.specs.Machine.{Progress, openTop, ran};
+ghost use Rattle.node.specs.declared.Fate.the-variants as fates;
 ghost use Rattle.node.specs.Opened.{opened};
-ghost use Rattle.search.specs.Runs.Frames.{FrameHolds, Opens};
+ghost use Rattle.search.specs.Record.{maxNodes, carriedSize};
+ghost use Rattle.search.specs.Runs.Frames.{FrameHolds, Opens, CarriedBy};
 ghost use Rattle.search.specs.Runs.Running.{Runs};
+use crate::CARRIED_SIZE;
 use crate::STACK_SIZE;
 use crate::cost::tour_cost;
 use crate::stack::get;
+use crate::stack::get_carried;
 use crate::stack::put;
+use crate::stack::put_carried;
 use graph::Graph;
 use graph::MAX_EDGES;
 use graph::MAX_VERTICES;
@@ -35,9 +45,9 @@ fn settle<'a>(
     stack: &mut [u8; STACK_SIZE],
     best: &mut [u8; MAX_EDGES],
 ) -> Frame
-    requires { ⌜ Opens m (now cost) f (now stack) (now best) (opened fate (now row) (now top)) ⌝ }
-    ensures { λ r. ⌜ ((t : Opens m (now (cost .entry)) f (now (stack .entry)) (now (best .entry))
-        (opened fate (now (row .entry)) (now (top .entry))))
+    requires { ⌜ ((d : List ℤ) × Opens m (now cost) f (now stack) (now best) (opened fate (now row) (now top) d)) ⌝ }
+    ensures { λ r. ⌜ ((d : List ℤ) (t : Opens m (now (cost .entry)) f (now (stack .entry)) (now (best .entry))
+        (opened fate (now (row .entry)) (now (top .entry)) d))
         → FrameHolds (t .graph) r (now (stack .exit)) (now (best .exit)) (openTop (t .search) (t .search .stack))) ⌝ }
 {
     let p = f.depth - 1;
@@ -78,25 +88,42 @@ fn settle<'a>(
     }
 }
 
+// What the nodes carry once node p was opened: `last` at its place, and where it splits at its upper half's too.
+fn carry<'a>(fate: Fate, p: usize, last: &'a [i32; MAX_VERTICES], carried: &mut [i32; CARRIED_SIZE])
+    requires { ⌜ (p < maxNodes) × (length (now carried) ≡ carriedSize) × (fate ≡ fates.Splits → p + 1 < maxNodes) ⌝ }
+    ensures { λ _. ⌜ CarriedBy fate p (now (last .entry)) (now (carried .entry)) (now (carried .exit)) ⌝ }
+{
+    put_carried(carried, p, last);
+    match fate {
+        Fate::Refused(_) => {}
+        Fate::Closes => {}
+        Fate::Finds => {}
+        Fate::Splits => {
+            put_carried(carried, p + 1, last);
+        }
+    }
+}
+
 // The run: the top node is opened, again and again. The graph's own marks count for nothing here: a node has its own.
 pub(crate) fn run_frame(
     g: Graph,
-    multipliers: [i32; MAX_VERTICES],
     settings: Settings,
     f: Frame,
     stack: &mut [u8; STACK_SIZE],
     best: &mut [u8; MAX_EDGES],
+    carried: &mut [i32; CARRIED_SIZE],
     budget: u64,
 ) -> Frame
-    requires { ⌜ ((s : Progress) × Runs g multipliers settings f (now stack) (now best) s) ⌝ }
-    ensures { λ r. ⌜ ((s : Progress) → Runs g multipliers settings f (now (stack .entry)) (now (best .entry)) s
-        → Runs g multipliers settings r (now (stack .exit)) (now (best .exit)) (ran budget s)) ⌝ }
+    requires { ⌜ ((s : Progress) × Runs g settings f (now stack) (now best) (now carried) s) ⌝ }
+    ensures { λ r. ⌜ ((s : Progress) → Runs g settings f (now (stack .entry)) (now (best .entry)) (now (carried .entry)) s
+        → Runs g settings r (now (stack .exit)) (now (best .exit)) (now (carried .exit)) (ran budget s)) ⌝ }
 {
     let n = wide(g.n);
     let m = wide(g.m);
     let mut t = f;
     let mut left = budget;
     let mut top = [0u8; MAX_EDGES];
+    let mut last = [0i32; MAX_VERTICES];
     while left > 0 {
         if t.depth == 0 {
             return t;
@@ -104,16 +131,19 @@ pub(crate) fn run_frame(
         if t.count >= crate::MAX_COUNT {
             return t;
         }
-        let mut row = get(stack, t.depth - 1);
+        let at = t.depth - 1;
+        let mut row = get(stack, at);
+        let d = get_carried(carried, at);
         let mut present = settings;
         present.ceiling = t.upper;
         let p = Subproblem {
             n: n,
             m: m,
-            multipliers: multipliers,
+            multipliers: d,
             settings: present,
         };
-        let fate = node::open(p, &g.a, &g.b, &g.cost, &mut row, &mut top);
+        let fate = node::open(p, &g.a, &g.b, &g.cost, &mut row, &mut top, &mut last);
+        carry(fate, at, &last, carried);
         t = settle(m, &g.cost, t, fate, &row, &top, stack, best);
         left = left - 1;
     }

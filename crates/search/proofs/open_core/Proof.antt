@@ -2,6 +2,7 @@
 use mathlib.Core.Path.{_≡_, sym, ap, _∙_}
 use mathlib.Core.Bool.{true}
 use borrow.Author.Needs.{needs}
+use lib.ListN.{length}
 use borrow.Author.Tests.{not-true, not-false, eq-eqb, ne-eqb}
 use Rattle.machine.specs.Machine.{Opening}
 use Rattle.machine.specs.Calls.{step}
@@ -19,8 +20,25 @@ abbrev asked : tie.Start → Opening
 asked c = openingOf (c .args .g) (c .args .multipliers .now) (c .args .settings)
 
 -- the arrays of the record have the lengths of their types
+own : (c : tie.Start)
+    → (length (c .args .s .multipliers) ≡ 20) × (length (c .args .s .carried) ≡ 440) × (length (c .args .s .stack) ≡ 4180)
+    × (length (c .args .s .best) ≡ 190)
+own c = (search needs, search needs, search needs, search needs)
+
 typed : (c : tie.Start) → Typed (c .args .s)
-typed c = search needs
+typed c =
+    let graph = c .good .0 .1 .1 .1 .1 .1 .1 .0 in
+    let l = own c in
+    record {
+      a = search (needs, graph);
+      b = search (needs, graph);
+      cost = search (needs, graph);
+      mark = search (needs, graph);
+      multipliers = l .0;
+      carried = l .1;
+      stack = l .2;
+      best = l .3;
+    }
 
 abbrev entry : tie.After-sound → tie.Start
 entry c = c .before

@@ -57,33 +57,33 @@ returns-2 c =
     ∙ sym (run-20 (start .args .s) (typed start) (passed c1) (ne-eqb _ 1 (c .before .if2 .taken)) (start .args .budget))
 
 -- where each test was passed, from where the run begins
-abbrev at-open : tie.After-best2 → tie.Else2
+abbrev at-open : tie.After-carried2 → tie.Else2
 at-open c =
-    let at-best = c .before .before in
-    let at-g = at-best .before .before .before in
+    let at-best = c .before .before .before .before in
+    let at-g = at-best .before .before in
     at-g .before .before
 
-abbrev at-check : tie.After-best2 → tie.Else1
+abbrev at-check : tie.After-carried2 → tie.Else1
 at-check c = at-open c .before .before
 
-abbrev begin : tie.After-best2 → tie.Start
+abbrev begin : tie.After-carried2 → tie.Start
 begin c = entry (at-check c .before)
 
-abbrev given : tie.After-best2 → Search
+abbrev given : tie.After-carried2 → Search
 given c = begin c .args .s
 
 -- the upper bound is read back from its word
-upper : (c : tie.After-best2) → toZ w64 (ofZ w64 (given c .upper)) ≡ given c .upper
-upper c = back64 (given c .upper) (c .before .before .before .struct-told .given .1 .0 .1)
+upper : (c : tie.After-carried2) → toZ w64 (ofZ w64 (given c .upper)) ≡ given c .upper
+upper c = back64 (given c .upper) (c .before .before .before .before .before .struct-told .given .1 .0 .1)
 
 -- the frame that the code makes
-abbrev made : tie.After-best2 → Frame
+abbrev made : tie.After-carried2 → Frame
 made c =
     let q = given c in
     record { upper = toZ w64 (ofZ w64 (q .upper)); depth = q .depth; «has_best» = q .«has_best»; count = q .count }
 
-started : (c : tie.After-best2)
-    → let q = given c in Runs (q .graph) (q .multipliers) (q .settings) (made c) (q .stack) (q .best) (progressOf q)
+started : (c : tie.After-carried2)
+    → let q = given c in Runs (q .graph) (q .settings) (made c) (q .stack) (q .best) (q .carried) (progressOf q)
 started c =
     rw (upper c) (run-starts (given c) (typed (begin c)) (passed (at-check c)) (eq-eqb _ 1 (at-open c .if2 .left)))
 
@@ -93,7 +93,7 @@ run-frame-requires c κs = (progressOf (given c), started c)
 -- what the run leaves
 ran : (c : tie.After-run-frame)
     → let q = given (c .before) in
-    Runs (q .graph) (q .multipliers) (q .settings) (c .run-frame .result) (c .run-frame .last .1 .1 .1 .1 .0)
+    Runs (q .graph) (q .settings) (c .run-frame .result) (c .run-frame .last .1 .1 .1 .0) (c .run-frame .last .1 .1 .1 .1 .0)
     (c .run-frame .last .1 .1 .1 .1 .1 .0) (machine.ran (begin (c .before) .args .budget) (progressOf q))
 ran c = c .run-frame .ensures (progressOf (given (c .before))) (started (c .before))
 
@@ -103,7 +103,7 @@ returns-3 c =
     let b = k .before in
     rw (back64 (k .run-frame .result .upper) (holds-mag _ _ _ _ _ (ran k .holds)))
     (run-finished (given b) (typed (begin b)) (passed (at-check b)) (eq-eqb _ 1 (at-open b .if2 .left)) (begin b .args .budget)
-    (k .run-frame .result) _ _ (ran k) (c .if3 .taken))
+    (k .run-frame .result) _ _ _ (ran k) (c .if3 .taken))
 
 returns-4 : tie.Need-returns-4
 returns-4 c =
@@ -111,7 +111,7 @@ returns-4 c =
     let b = k .before in
     rw (back64 (k .run-frame .result .upper) (holds-mag _ _ _ _ _ (ran k .holds)))
     (run-going (given b) (typed (begin b)) (passed (at-check b)) (eq-eqb _ 1 (at-open b .if2 .left)) (begin b .args .budget)
-    (k .run-frame .result) _ _ (ran k) (c .if3 .left))
+    (k .run-frame .result) _ _ _ (ran k) (c .if3 .left))
 
 pub run-core-spec : {M : Type 1} → statement M
 run-core-spec =

@@ -1,6 +1,6 @@
 -- A search while it runs: the part of its progress that changes is a small frame by value (`Frame`) beside the lent bytes of the stack
--- and of the best tour. `FrameHolds` says which search they hold, and the laws say what each outcome of the top node's opening makes of them.
--- Running.antt has the loop over them.
+-- and of the best tour, and what the nodes carry. `FrameHolds` says which search they hold, and the laws say what each outcome of the top node's
+-- opening makes of them; `next-carried` has it of what the nodes carry. Running.antt has the loop over them.
 use mathlib.Core.Path.{_≡_, refl, sym, ap, _∙_, subst}
 use mathlib.Core.Bool.{Bool}
 use mathlib.Core.List.{List, [], _∷_}
@@ -21,18 +21,20 @@ use Rattle.tree_theory.specs.Arrays.{bytes}
 use Rattle.tours.specs.Tours.{cost}
 use Rattle.machine.specs.Outcomes.{closes, finds, splits, aTour}
 use Rattle.machine.specs.Machine as M
-use Rattle.machine.specs.Machine.{Marks, Progress, edgesOf, costOf, lowered, openNode, settled, openTop}
+use Rattle.machine.specs.Machine.{Node, Progress, edgesOf, costOf, lowered, openNode, settled, openTop}
 use Rattle.machine.specs.Kept.{Kept, Sized, depth-most}
 use Rattle.machine.specs.Preserved.{top-kept}
+use Rattle.machine.specs.Inherited.{siblings}
 use Rattle.node.specs.declared.Fate.{Fate}
 use Rattle.node.specs.declared.Fate.the-variants as fate
 use Rattle.node.specs.Marks.{bytesOf}
-use Rattle.node.specs.Opened.{Opened, openedAs}
+use Rattle.node.specs.Opened.{Opened, places, noMultipliers, openedAs}
+use Rattle.node.specs.Refusing.{never-refused}
 use Rattle.search.specs.declared.running.Frame.{Frame}
-use Rattle.search.specs.Record.{maxNodes, stackSize, cells, bits, bestOf, hasBest, bestBytes}
-use Rattle.search.specs.Cells.{cells-size}
+use Rattle.search.specs.Record.{maxNodes, stackSize, byteAt, stackBytes, carriedOf, bits, bestOf, hasBest, bestBytes}
+use Rattle.search.specs.Cells.{bytes-places, cells-size}
 use Rattle.search.specs.Incumbents.{best-back}
-use Rattle.search.specs.Pushing.{Put, pushed, replaced, popped}
+use Rattle.search.specs.Pushing.{PutBytes, PutCarried, pushed, replaced, popped, carried-pushed, carried-replaced, carried-popped}
 use Rattle.search.specs.Runs.Costs.{cost-bits}
 
 -- what changes of a search, but for the bytes of the stack and of the best tour
@@ -45,13 +47,13 @@ pub record FrameHolds (g : Graph) (f : Frame) (l w : List ℕ) (s : Progress) : 
   pub kept : Kept s
   pub graph : s .opening .graph ≡ g
   pub frame : f ≡ frameOf s
-  pub bytes : l ≡ cells (s .stack)
+  pub bytes : l ≡ stackBytes (s .stack)
   pub best : w ≡ bestBytes (s .incumbent)
 
 -- a node waits, and may be opened
 pub record Top (s : Progress) : Type 0 where
-  pub node : Marks
-  pub rest : List Marks
+  pub node : Node
+  pub rest : List Node
   pub stack : s .stack ≡ node ∷ rest
   pub room : s .count < maxCount
 
@@ -87,7 +89,7 @@ module _ (g : Graph) (f : Frame) (l w : List ℕ) (s : Progress) (h : FrameHolds
   holds-count = ap (λ (x : Frame). x .count) (h .frame)
 
   pub holds-size : length l ≡ stackSize
-  holds-size = ap length (h .bytes) ∙ cells-size (s .stack)
+  holds-size = ap length (h .bytes) ∙ cells-size maxEdges stackSize bytes-places byteAt (s .stack)
 
   pub holds-valid : Valid g
   holds-valid = rw (← h .graph) (h .kept .opening .valid)
@@ -98,8 +100,8 @@ module _ (g : Graph) (f : Frame) (l w : List ℕ) (s : Progress) (h : FrameHolds
   pub top-of : 0 < f .depth → f .count < maxCount → Top s
   top-of b c = go (s .stack) refl
     where
-      go : (st : List Marks) → s .stack ≡ st → Top s
-      go [] e = absurd (omega (arith, holds-depth, ap {A = List Marks} length e))
+      go : (st : List Node) → s .stack ≡ st → Top s
+      go [] e = absurd (omega (arith, holds-depth, ap {A = List Node} length e))
       go (x ∷ rest) e = record { node = x; rest = rest; stack = e; room = omega (arith, holds-count) }
 
 -- ---- the outcome, from its bytes
@@ -117,10 +119,11 @@ fate-is out o e a h = ap (λ (x : Opened). fateNumber (x .fate)) (sym e) ∙ ap 
 pub record Closes (out : M.Opened) (o : Opened) : Type 0 where
   pub is : out ≡ closes
   pub top : o .top ≡ replicate maxEdges 0
+  pub last : o .last ≡ noMultipliers
 
 pub opened-closes : (out : M.Opened) (o : Opened) → o ≡ openedAs out → o .fate ≡ fate.Closes → Closes out o
 unfolding openedAs
-opened-closes closes o e h = record { is = refl; top = ap (λ (x : Opened). x .top) e }
+opened-closes closes o e h = record { is = refl; top = ap (λ (x : Opened). x .top) e; last = ap (λ (x : Opened). x .last) e }
 opened-closes (finds t) o e h = absurd (omega (arith, fate-is (finds t) o e fate.Closes h))
 opened-closes (splits y z) o e h = absurd (omega (arith, fate-is (splits y z) o e fate.Closes h))
 
@@ -129,26 +132,49 @@ pub record Finds (out : M.Opened) (o : Opened) : Type 0 where
   pub is : out ≡ finds tour
   pub row : o .row ≡ bestBytes (aTour tour)
   pub top : o .top ≡ replicate maxEdges 0
+  pub last : o .last ≡ noMultipliers
 
 pub opened-finds : (out : M.Opened) (o : Opened) → o ≡ openedAs out → o .fate ≡ fate.Finds → Finds out o
 unfolding openedAs bestBytes
 opened-finds closes o e h = absurd (omega (arith, fate-is closes o e fate.Finds h))
-opened-finds (finds t) o e h = record { tour = t; is = refl; row = ap (λ (x : Opened). x .row) e; top = ap (λ (x : Opened). x .top) e }
+opened-finds (finds t) o e h = record {
+  tour = t;
+  is = refl;
+  row = ap (λ (x : Opened). x .row) e;
+  top = ap (λ (x : Opened). x .top) e;
+  last = ap (λ (x : Opened). x .last) e;
+}
 opened-finds (splits y z) o e h = absurd (omega (arith, fate-is (splits y z) o e fate.Finds h))
 
 pub record Splits (out : M.Opened) (o : Opened) : Type 0 where
-  pub under : Marks
-  pub over : Marks
+  pub under : Node
+  pub over : Node
   pub is : out ≡ splits under over
-  pub row : o .row ≡ bytesOf under
-  pub top : o .top ≡ bytesOf over
+  pub row : o .row ≡ bytesOf (under .marks)
+  pub top : o .top ≡ bytesOf (over .marks)
+  pub last : o .last ≡ places (over .multipliers)
 
 pub opened-splits : (out : M.Opened) (o : Opened) → o ≡ openedAs out → o .fate ≡ fate.Splits → Splits out o
 unfolding openedAs
 opened-splits closes o e h = absurd (omega (arith, fate-is closes o e fate.Splits h))
 opened-splits (finds t) o e h = absurd (omega (arith, fate-is (finds t) o e fate.Splits h))
 opened-splits (splits y z) o e h =
-    record { under = y; over = z; is = refl; row = ap (λ (x : Opened). x .row) e; top = ap (λ (x : Opened). x .top) e }
+    record {
+      under = y;
+      over = z;
+      is = refl;
+      row = ap (λ (x : Opened). x .row) e;
+      top = ap (λ (x : Opened). x .top) e;
+      last = ap (λ (x : Opened). x .last) e;
+    }
+
+-- ---- what the nodes carry once node p was opened: where it splits its halves carry d, and else nothing stands at its places
+
+abbrev pub CarriedBy : Fate → ℕ → List ℤ → List ℤ → List ℤ → Type 0
+CarriedBy fate.Splits p d e e′ = (e₁ : List ℤ) × PutCarried p d e e₁ × PutCarried (p + 1) d e₁ e′
+CarriedBy fate.Closes p d e e′ = PutCarried p d e e′
+CarriedBy fate.Finds p d e e′ = PutCarried p d e e′
+CarriedBy (fate.Refused k) p d e e′ = PutCarried p d e e′
 
 -- ---- the search after the top node's opening
 
@@ -175,11 +201,11 @@ module _ (m : ℕ) (costs : List ℤ) (f : Frame) (l w : List ℕ) (o : Opened) 
   -- the place of the top node
   pub top-place : length (t .top .rest) ≡ f .depth - 1
   unfolding s
-  top-place = omega (arith, holds-depth g f l w s (t .holds), ap {A = List Marks} length (t .top .stack))
+  top-place = omega (arith, holds-depth g f l w s (t .holds), ap {A = List Node} length (t .top .stack))
 
   pub top-depth : 1 ≤ f .depth
   unfolding s
-  top-depth = omega (arith, holds-depth g f l w s (t .holds), ap {A = List Marks} length (t .top .stack))
+  top-depth = omega (arith, holds-depth g f l w s (t .holds), ap {A = List Node} length (t .top .stack))
 
   pub top-high : f .depth - 1 < maxNodes
   unfolding s
@@ -196,7 +222,7 @@ module _ (m : ℕ) (costs : List ℤ) (f : Frame) (l w : List ℕ) (o : Opened) 
   next-kept : Kept next
   unfolding s
   next-kept =
-      subst (λ (st : List Marks). Kept (openTop (t .search) st)) (sym (t .top .stack))
+      subst (λ (st : List Node). Kept (openTop (t .search) st)) (sym (t .top .stack))
       (top-kept s (t .holds .kept) (t .top .node) (t .top .rest) (t .top .stack) (t .top .room))
 
   settles : (r : M.Opened) → out ≡ r → next ≡ settled s (t .top .rest) r
@@ -204,26 +230,26 @@ module _ (m : ℕ) (costs : List ℤ) (f : Frame) (l w : List ℕ) (o : Opened) 
 
   -- how the frame and the bytes hold what they should
   holds-next : (r : M.Opened) → out ≡ r → (f′ : Frame) (l′ w′ : List ℕ) → f′ ≡ frameOf (settled s (t .top .rest) r)
-      → l′ ≡ cells (settled s (t .top .rest) r .stack) → w′ ≡ bestBytes (settled s (t .top .rest) r .incumbent) → FrameHolds g f′ l′ w′ next
+      → l′ ≡ stackBytes (settled s (t .top .rest) r .stack) → w′ ≡ bestBytes (settled s (t .top .rest) r .incumbent) → FrameHolds g f′ l′ w′ next
   unfolding s settled
   holds-next r e f′ l′ w′ a b d = record {
     kept = next-kept;
     graph = ap (λ (x : Progress). x .opening .graph) (settles r e) ∙ t .holds .graph;
     frame = a ∙ ap frameOf (sym (settles r e));
-    bytes = b ∙ ap (λ (x : Progress). cells (x .stack)) (sym (settles r e));
+    bytes = b ∙ ap (λ (x : Progress). stackBytes (x .stack)) (sym (settles r e));
     best = d ∙ ap (λ (x : Progress). bestBytes (x .incumbent)) (sym (settles r e));
   }
 
-  old-bytes : l ≡ cells (t .top .node ∷ t .top .rest)
+  old-bytes : l ≡ stackBytes (t .top .node ∷ t .top .rest)
   unfolding s
-  old-bytes = t .holds .bytes ∙ ap cells (t .top .stack)
+  old-bytes = t .holds .bytes ∙ ap (λ (st : List Node). stackBytes st) (t .top .stack)
 
   count-next : f .count + 1 ≡ suc (s .count)
   unfolding s
   count-next = add-one (f .count) ∙ ap suc (holds-count g f l w s (t .holds))
 
   -- the node closes
-  pub next-closes : (l′ : List ℕ) → o .fate ≡ fate.Closes → Put (f .depth - 1) maxEdges (o .top) l l′
+  pub next-closes : (l′ : List ℕ) → o .fate ≡ fate.Closes → PutBytes (f .depth - 1) (o .top) l l′
       → FrameHolds g (record { upper = f .upper; depth = f .depth - 1; «has_best» = f .«has_best»; count = f .count + 1 }) l′ w next
   unfolding s out settled frameOf
   next-closes l′ h put =
@@ -235,7 +261,7 @@ module _ (m : ℕ) (costs : List ℤ) (f : Frame) (l w : List ℕ) (o : Opened) 
         count = count-next i;
       })
       (popped (f .depth - 1) l l′ (t .top .rest) top-place (t .top .node) old-bytes
-      (subst (λ (x : List ℕ). Put (f .depth - 1) maxEdges x l l′) (r .top) put))
+      (subst (λ (x : List ℕ). PutBytes (f .depth - 1) x l l′) (r .top) put))
       (t .holds .best)
     where
       r : Closes (openNode (s .opening) (s .upper) (t .top .node)) o
@@ -243,7 +269,7 @@ module _ (m : ℕ) (costs : List ℤ) (f : Frame) (l w : List ℕ) (o : Opened) 
 
   -- the tour becomes the incumbent
   pub next-finds : (l′ : List ℕ) (upper : ℤ) → o .fate ≡ fate.Finds → upper ≡ cost (network g) (bytes (o .row)) -ℤ pos 1
-      → Put (f .depth - 1) maxEdges (o .top) l l′
+      → PutBytes (f .depth - 1) (o .top) l l′
       → FrameHolds g (record { upper = upper; depth = f .depth - 1; «has_best» = 1; count = f .count + 1 }) l′ (o .row) next
   unfolding s out settled frameOf lowered costOf hasBest
   next-finds l′ upper h u put =
@@ -255,7 +281,7 @@ module _ (m : ℕ) (costs : List ℤ) (f : Frame) (l w : List ℕ) (o : Opened) 
         count = count-next i;
       })
       (popped (f .depth - 1) l l′ (t .top .rest) top-place (t .top .node) old-bytes
-      (subst (λ (x : List ℕ). Put (f .depth - 1) maxEdges x l l′) (r .top) put))
+      (subst (λ (x : List ℕ). PutBytes (f .depth - 1) x l l′) (r .top) put))
       (r .row)
     where
       r : Finds (openNode (s .opening) (s .upper) (t .top .node)) o
@@ -287,8 +313,8 @@ module _ (m : ℕ) (costs : List ℤ) (f : Frame) (l w : List ℕ) (o : Opened) 
           (settles (splits (split h .under) (split h .over)) (split h .is))
           (depth-most next next-kept)
 
-  pub next-splits : (l₁ l₂ : List ℕ) → o .fate ≡ fate.Splits → Put (f .depth - 1) maxEdges (o .row) l l₁
-      → Put (f .depth - 1 + 1) maxEdges (o .top) l₁ l₂
+  pub next-splits : (l₁ l₂ : List ℕ) → o .fate ≡ fate.Splits → PutBytes (f .depth - 1) (o .row) l l₁
+      → PutBytes (f .depth - 1 + 1) (o .top) l₁ l₂
       → FrameHolds g (record { upper = f .upper; depth = f .depth - 1 + 2; «has_best» = f .«has_best»; count = f .count + 1 }) l₂ w next
   unfolding s out settled frameOf
   next-splits l₁ l₂ h put₁ put₂ =
@@ -301,9 +327,44 @@ module _ (m : ℕ) (costs : List ℤ) (f : Frame) (l w : List ℕ) (o : Opened) 
       })
       (pushed (f .depth - 1 + 1) l₁ l₂ (split h .under ∷ t .top .rest) (omega (arith, top-place)) (split h .over)
       (replaced (f .depth - 1) l l₁ (t .top .rest) top-place (t .top .node) (split h .under) old-bytes
-      (subst (λ (x : List ℕ). Put (f .depth - 1) maxEdges x l l₁) (split h .row) put₁))
-      (subst (λ (x : List ℕ). Put (f .depth - 1 + 1) maxEdges x l₁ l₂) (split h .top) put₂))
+      (subst (λ (x : List ℕ). PutBytes (f .depth - 1) x l l₁) (split h .row) put₁))
+      (subst (λ (x : List ℕ). PutBytes (f .depth - 1 + 1) x l₁ l₂) (split h .top) put₂))
       (t .holds .best)
     where
       deeper : f .depth - 1 + 2 ≡ suc (suc (length (t .top .rest)))
       deeper = omega (arith, top-place)
+
+  -- and what its nodes carry
+  pub next-carried : (e e′ : List ℤ) → e ≡ carriedOf (t .search .stack) → CarriedBy (o .fate) (f .depth - 1) (o .last) e e′
+      → e′ ≡ carriedOf (openTop (t .search) (t .search .stack) .stack)
+  unfolding s out settled
+  next-carried e e′ was put = go (o .fate) refl put
+    where
+      old : e ≡ carriedOf (t .top .node ∷ t .top .rest)
+      old = was ∙ ap (λ (st : List Node). carriedOf st) (t .top .stack)
+
+      comes : (r : M.Opened) → openNode (s .opening) (s .upper) (t .top .node) ≡ r → e′ ≡ carriedOf (settled s (t .top .rest) r .stack)
+          → e′ ≡ carriedOf (openTop (t .search) (t .search .stack) .stack)
+      comes r q i = i ∙ ap (λ (x : Progress). carriedOf (x .stack)) (sym (settles r q))
+
+      wiped : PutCarried (f .depth - 1) (o .last) e e′ → o .last ≡ noMultipliers → e′ ≡ carriedOf (t .top .rest)
+      wiped k q =
+          carried-popped (f .depth - 1) e e′ (t .top .rest) top-place (t .top .node) old
+          (subst (λ (d : List ℤ). PutCarried (f .depth - 1) d e e′) q k)
+
+      go : (a : Fate) → o .fate ≡ a → CarriedBy a (f .depth - 1) (o .last) e e′ → e′ ≡ carriedOf (openTop (t .search) (t .search .stack) .stack)
+      go fate.Closes h k =
+          let r = opened-closes (openNode (s .opening) (s .upper) (t .top .node)) o (t .is) h in comes closes (r .is) (wiped k (r .last))
+      go fate.Finds h k =
+          let r = opened-finds (openNode (s .opening) (s .upper) (t .top .node)) o (t .is) h in comes (finds (r .tour)) (r .is) (wiped k (r .last))
+      go fate.Splits h k =
+          comes (splits (split h .under) (split h .over)) (split h .is)
+          (carried-pushed (f .depth - 1 + 1) (k .0) e′ (split h .under ∷ t .top .rest) (omega (arith, top-place)) (split h .over)
+          (carried-replaced (f .depth - 1) e (k .0) (t .top .rest) top-place (t .top .node) (split h .under) old
+          (subst (λ (d : List ℤ). PutCarried (f .depth - 1) d e (k .0)) (split h .last ∙ ap places (sym same)) (k .1)))
+          (subst (λ (d : List ℤ). PutCarried (f .depth - 1 + 1) d (k .0) e′) (split h .last) (k .2)))
+        where
+          same : split h .under .multipliers ≡ split h .over .multipliers
+          same = siblings (s .opening) (s .upper) (t .top .node) (split h .under) (split h .over) (split h .is)
+      go (fate.Refused i) h k =
+          absurd (never-refused (openNode (s .opening) (s .upper) (t .top .node)) i (sym (ap (λ (x : Opened). x .fate) (t .is)) ∙ h))

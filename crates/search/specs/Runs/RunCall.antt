@@ -7,10 +7,10 @@ use Prim.Native.Nat.{ℕ}
 use native.Mathlib.Omega.{arith}
 use lib.ListN.{length}
 use borrow.Author.Tests.{eqb-true}
-use lib.IntN.{pos}
+use lib.IntN.{ℤ, pos}
 use Rattle.lists.specs.Fill.{fit}
 use Rattle.graph.specs.Limits.{maxVertices}
-use Rattle.machine.specs.Machine.{Marks, Opening, Progress, State, openTop, settled, isEmpty, finished, ran}
+use Rattle.machine.specs.Machine.{Node, Opening, Progress, State, openTop, settled, isEmpty, finished, ran}
 use Rattle.machine.specs.Calls.{Call, run, runs, step, runBy}
 use Rattle.machine.specs.Runs.{ran-keeps}
 use Rattle.search.specs.declared.Search.{Search}
@@ -33,9 +33,9 @@ outcome c q = record { search = encode (step q c .state); answer = said (step q 
 abbrev pub frameIn : Search → Frame
 frameIn s = record { upper = s .upper; depth = s .depth; «has_best» = s .«has_best»; count = s .count }
 
--- the record with that part, the stack's bytes and the best tour's bytes anew
-abbrev pub withFrame : Search → Frame → List ℕ → List ℕ → Search
-withFrame s f l w =
+-- the record with that part, the stack's bytes, the best tour's bytes and what the nodes carry anew
+abbrev pub withFrame : Search → Frame → List ℕ → List ℕ → List ℤ → Search
+withFrame s f l w d =
     record {
       settings = s .settings;
       upper = f .upper;
@@ -43,6 +43,7 @@ withFrame s f l w =
       depth = f .depth;
       graph = s .graph;
       multipliers = s .multipliers;
+      carried = d;
       stack = l;
       best = w;
       «open» = s .«open»;
@@ -54,7 +55,7 @@ module _ (s : Search) (t : Typed s) (h : check s ≡ true) (e : isOpen s ≡ tru
   unfolding encode
   back = ap encode (sym (opened s t h e)) ∙ encode-decode s t (check-is s h)
 
-  pub run-starts : Runs (s .graph) (s .multipliers) (s .settings) (frameIn s) (s .stack) (s .best) (progressOf s)
+  pub run-starts : Runs (s .graph) (s .settings) (frameIn s) (s .stack) (s .best) (s .carried) (progressOf s)
   unfolding progressOf openingIn frameOf recordOf
   run-starts = record {
     holds = record {
@@ -64,12 +65,12 @@ module _ (s : Search) (t : Typed s) (h : check s ≡ true) (e : isOpen s ≡ tru
       bytes = ap (λ (r : Search). r .stack) (sym back);
       best = ap (λ (r : Search). r .best) (sym back);
     };
-    multipliers = refl;
+    carried = ap (λ (r : Search). r .carried) (sym back);
     settings = refl;
   }
 
-  module _ (budget : ℕ) (f : Frame) (l w : List ℕ)
-      (r : Runs (s .graph) (s .multipliers) (s .settings) f l w (ran budget (progressOf s))) where
+  module _ (budget : ℕ) (f : Frame) (l w : List ℕ) (d : List ℤ)
+      (r : Runs (s .graph) (s .settings) f l w d (ran budget (progressOf s))) where
     after : Progress
     after = ran budget (progressOf s)
 
@@ -78,7 +79,7 @@ module _ (s : Search) (t : Typed s) (h : check s ≡ true) (e : isOpen s ≡ tru
     same-opening =
         ran-keeps (λ q. q .opening ≡ progressOf s .opening) (λ q x rest a b k. unfold openTop settled in k) budget (progressOf s) refl
 
-    leaves : withFrame s f l w ≡ recordOf after
+    leaves : withFrame s f l w d ≡ recordOf after
     unfolding recordOf after frameOf progressOf openingIn
     leaves = λ i. record {
       «open» = eqb-true (s .«open») 1 e i;
@@ -89,6 +90,7 @@ module _ (s : Search) (t : Typed s) (h : check s ≡ true) (e : isOpen s ≡ tru
       settings = sym (r .settings) i;
       upper = ap (λ (x : Frame). x .upper) (r .holds .frame) i;
       depth = ap (λ (x : Frame). x .depth) (r .holds .frame) i;
+      carried = r .carried i;
       stack = r .holds .bytes i;
       «has_best» = ap (λ (x : Frame). x .«has_best») (r .holds .frame) i;
       best = r .holds .best i;
@@ -107,21 +109,21 @@ module _ (s : Search) (t : Typed s) (h : check s ≡ true) (e : isOpen s ≡ tru
     unfolding after
     depth-is = holds-depth (s .graph) f l w (ran budget (progressOf s)) (r .holds)
 
-    answered : (b : Bool) → finished after ≡ b → record { search = withFrame s f l w; answer = said (runs b (f .count)) } ≡ reply s (run budget)
+    answered : (b : Bool) → finished after ≡ b → record { search = withFrame s f l w d; answer = said (runs b (f .count)) } ≡ reply s (run budget)
     answered b q =
         (λ i. record { search = leaves i; answer = said (runs (sym q i) (count-is i)) })
         ∙ sym replies
 
-    pub run-finished : f .depth ≡ 0 → record { search = withFrame s f l w; answer = Finished (f .count) } ≡ reply s (run budget)
+    pub run-finished : f .depth ≡ 0 → record { search = withFrame s f l w d; answer = Finished (f .count) } ≡ reply s (run budget)
     run-finished z = answered true (go (after .stack) refl)
       where
-        go : (st : List Marks) → after .stack ≡ st → isEmpty (after .stack) ≡ true
+        go : (st : List Node) → after .stack ≡ st → isEmpty (after .stack) ≡ true
         go [] q = rw q
-        go (x ∷ rest) q = absurd (omega (arith, z, depth-is, ap {A = List Marks} length q))
+        go (x ∷ rest) q = absurd (omega (arith, z, depth-is, ap {A = List Node} length q))
 
-    pub run-going : (f .depth ≡ 0 → ⊥) → record { search = withFrame s f l w; answer = GoingOn (f .count) } ≡ reply s (run budget)
+    pub run-going : (f .depth ≡ 0 → ⊥) → record { search = withFrame s f l w d; answer = GoingOn (f .count) } ≡ reply s (run budget)
     run-going n = answered false (go (after .stack) refl)
       where
-        go : (st : List Marks) → after .stack ≡ st → isEmpty (after .stack) ≡ false
-        go [] q = absurd (n (depth-is ∙ ap {A = List Marks} length q))
+        go : (st : List Node) → after .stack ≡ st → isEmpty (after .stack) ≡ false
+        go [] q = absurd (n (depth-is ∙ ap {A = List Node} length q))
         go (x ∷ rest) q = rw q

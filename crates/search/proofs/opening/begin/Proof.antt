@@ -22,14 +22,18 @@ padded-requires c κs =
 put-requires : tie.Need-put-requires
 put-requires c κs = search needs
 
+put-carried-requires : tie.Need-put-carried-requires
+put-carried-requires c κs = search needs
+
 returns : tie.Need-returns
 returns c =
-    let at-marks2 = c .before .before in
+    let stored = c .before .before .before .before in
+    let at-marks2 = stored .before in
     let padded = at-marks2 .before .before .before in
     let trimmed = padded .before in
     let start = trimmed .before in
     begun (asked start) (start .pre) _ (trimmed .trim .ensures) _ (padded .padded .ensures)
-    _ (back64 (start .args .settings .ceiling) (c .struct-told .given .0 .1)) _ (c .before .put .ensures)
+    _ (back64 (start .args .settings .ceiling) (c .struct-told .given .0 .1)) _ (stored .put .ensures) _ (c .before .put-carried .ensures)
 
 pub begin-spec : {M : Type 1} → statement M
-begin-spec = tie.close (tie.spec trim-requires padded-requires put-requires returns)
+begin-spec = tie.close (tie.spec trim-requires padded-requires put-requires put-carried-requires returns)

@@ -5,7 +5,7 @@ use mathlib.Core.Logic.{⊎-elim}
 use native.Mathlib.Omega.{arith}
 use borrow.Author.Needs.{needs}
 use lib.ListN.{getD}
-use Rattle.search.specs.Record.{node}
+use Rattle.search.specs.Record.{marksAt}
 use Rattle.search.specs.CheckLoops.{says-le, requireds-none, requireds-one, requireds-other}
 use Rattle.search.specs.CheckParts.{Greatest, greatest-none, greatest-raised, greatest-kept}
 use Rattle.machine.specs.Requireds as marked
@@ -14,7 +14,7 @@ use Rattle.search.proofs.record.node_fits.Tie as tie
 
 abbrev Inv-loop : tie.InvT-loop
 Inv-loop stack m p most₀ requireds₀ j₀ most requireds j =
-    (j ≤ m) × (requireds ≡ marked.requireds (node j stack p)) × (requireds ≤ j) × Greatest (λ k. getD stack (190 * p + k) 0) 0 m j most
+    (j ≤ m) × (requireds ≡ marked.requireds (marksAt j stack p)) × (requireds ≤ j) × Greatest (λ k. getD stack (190 * p + k) 0) 0 m j most
 
 abbrev μ-loop : tie.MeasureT-loop
 μ-loop stack m p most₀ requireds₀ j₀ most requireds j = m - j
@@ -67,8 +67,8 @@ returns-2 c =
     let args = c .before .before .before .args in
     let stack = args .stack .now in
     let all : l .j ≡ args .m = omega arith in
-    let requireds : l .requireds ≡ marked.requireds (node (args .m) stack (args .p)) =
-    l .inv .1 ∙ ap (λ (k : ℕ). marked.requireds (node k stack (args .p))) all in
+    let requireds : l .requireds ≡ marked.requireds (marksAt (args .m) stack (args .p)) =
+    l .inv .1 ∙ ap (λ (k : ℕ). marked.requireds (marksAt k stack (args .p))) all in
     says-le (args .p) (l .requireds) _
     (λ h. ((λ k b. omega (arith, c .if3 .left, l .inv .3 .above k (omega arith) (omega arith))), omega arith)) (λ e. omega (arith, e .1))
 

@@ -6,7 +6,8 @@ use mathlib.Core.Logic.{inl, inr}
 use mathlib.Core.List.{List}
 use native.Mathlib.Omega.{arith}
 use borrow.Author.Needs.{needs}
-use lib.IntN.{pos}
+use lib.ListN.{length}
+use lib.IntN.{ℤ, pos}
 use mir.Val.{toZ, ofZ}
 use mir.Syntax.{w64}
 use Rattle.lists.specs.Fill.{fit, fit-size}
@@ -23,18 +24,20 @@ use Rattle.node.specs.Opened.{Opened, opened, openedAs}
 use Rattle.node.specs.Faults.{Fit}
 use Rattle.node.specs.Passes.{withBytes}
 use Rattle.node.specs.Opens.{opens-node}
-use Rattle.search.specs.Runs.Frames.{Top, Opens, holds-mag, holds-deep, holds-valid, top-of}
-use Rattle.search.specs.Runs.Running.{runs-fits, runs-ceiling, runs-sweeps, runs-step, row-bytes, top-is, runs-next}
+use Rattle.search.specs.Runs.Frames.{Top, Opens, holds-mag, holds-deep, holds-valid, top-of, top-high, split-room, next-carried}
+use Rattle.search.specs.Record.{multiplierAt}
+use Rattle.search.specs.Cells.{carried-places, cells-size}
+use Rattle.search.specs.Runs.Running.{runs-ceiling, runs-sweeps, runs-step, row-bytes, top-fits, top-is, runs-next}
 use Rattle.search.specs.Runs.Running.{Runs, RunsTo, run-stops, run-spent, run-turn}
 use Rattle.search.proofs.running.run_frame.Statement.{statement}
 use Rattle.search.proofs.running.run_frame.Tie as tie
 
 abbrev Inv-loop : tie.InvT-loop
-Inv-loop multipliers settings stack₀ best₀ budget g n m t₀ left₀ top₀ stack best t left top =
-    (s : Progress) → Runs g multipliers settings t₀ stack₀ best₀ s → RunsTo g multipliers settings t stack best left (ran left₀ s)
+Inv-loop settings stack₀ best₀ carried₀ budget g n m t₀ left₀ top₀ last₀ stack best carried t left top last =
+    (s : Progress) → Runs g settings t₀ stack₀ best₀ carried₀ s → RunsTo g settings t stack best carried left (ran left₀ s)
 
 abbrev μ-loop : tie.MeasureT-loop
-μ-loop multipliers settings stack₀ best₀ budget g n m t₀ left₀ top₀ stack best t left top = left
+μ-loop settings stack₀ best₀ carried₀ budget g n m t₀ left₀ top₀ last₀ stack best carried t left top last = left
 
 -- where the function starts, from a turn of the loop
 abbrev start : tie.At-loop Inv-loop μ-loop → tie.Start Inv-loop μ-loop
@@ -74,7 +77,7 @@ abbrev RunsAt : tie.At-loop Inv-loop μ-loop → Progress → Type 0
 RunsAt at q =
     let a = start at .args in
     let l = at .loop in
-    Runs (given at) (a .multipliers) (a .settings) (l .t) (l .stack) (l .best) q
+    Runs (given at) (a .settings) (l .t) (l .stack) (l .best) (l .carried) q
 
 -- one is held there, since the contract asks for one at first
 held : (at : tie.At-loop Inv-loop μ-loop) → (q : Progress) × RunsAt at q
@@ -106,12 +109,22 @@ returns c = λ s r. run-stops _ _ _ _ _ _ _ _ (c .before .before .before .loop .
 returns-2 : tie.Need-returns-2 Inv-loop μ-loop
 returns-2 c = λ s r. run-stops _ _ _ _ _ _ _ _ (turn (c .before .before) .loop .inv s r) (inr (c .if2 .taken))
 
-sub-get : tie.Need-sub-get Inv-loop μ-loop
-sub-get c = omega (arith, deep (c .before .before))
+sub-at : tie.Need-sub-at Inv-loop μ-loop
+sub-at c = omega (arith, deep (c .before))
 
 get-requires : tie.Need-get-requires Inv-loop μ-loop
 get-requires c κs =
     let e = c .before .before in
+    let h = held (turn (waits e)) .1 .holds in
+    omega (arith, holds-deep _ _ _ _ _ h, deep e)
+
+-- where the multipliers are read, from where the node is
+abbrev marked : tie.After-get-carried Inv-loop μ-loop → tie.After-get Inv-loop μ-loop
+marked c = c .before .before
+
+get-carried-requires : tie.Need-get-carried-requires Inv-loop μ-loop
+get-carried-requires c κs =
+    let e = going (c .before) in
     let h = held (turn (waits e)) .1 .holds in
     omega (arith, holds-deep _ _ _ _ _ h, deep e)
 
@@ -120,54 +133,58 @@ open-requires c κs = search needs
 
 -- what the top node comes to
 abbrev came : tie.After-open Inv-loop μ-loop → Opened
-came c = let o = c .«open» in opened (o .result) (o .last .1 .1 .1 .1 .0) (o .last .1 .1 .1 .1 .1 .0)
+came c = let o = c .«open» in opened (o .result) (o .last .1 .1 .1 .1 .0) (o .last .1 .1 .1 .1 .1 .0) (o .last .1 .1 .1 .1 .1 .1 .0)
 
--- where the node is read, from where it is opened
-abbrev read : tie.After-open Inv-loop μ-loop → tie.After-get Inv-loop μ-loop
-read c =
-    let arguments = c .before .before .before in
+-- where the node's multipliers are read, and its marks, from where it is opened
+abbrev numbers : tie.After-open Inv-loop μ-loop → tie.After-get-carried Inv-loop μ-loop
+numbers c =
+    let arguments = c .before .before .before .before in
     let ends = arguments .before .before .before in
     ends .before .before
 
--- what the node is opened with: on the graph as it was given
-abbrev given-with : tie.At-loop Inv-loop μ-loop → Opening
-given-with at =
+abbrev read : tie.After-open Inv-loop μ-loop → tie.After-get Inv-loop μ-loop
+read c = marked (numbers c)
+
+-- what the node with the multipliers d is opened with: on the graph as it was given
+abbrev given-with : tie.At-loop Inv-loop μ-loop → List ℤ → Opening
+given-with at d =
     let g = given at in
     let a = start at .args in
     let n = at .before .before .wide .result in
     record {
       graph = graphOf n (at .before .wide2 .result) (g .a) (g .b) (g .cost) (g .mark);
-      multipliers = fit n (pos 0) (a .multipliers);
+      multipliers = fit n (pos 0) d;
       settings = record { ceiling = toZ w64 (ofZ w64 (at .loop .t .upper)); sweeps = a .settings .sweeps; step = a .settings .step };
     }
 
 -- and it has no fault
-fits : (at : tie.At-loop Inv-loop μ-loop) (q : Progress) → RunsAt at q → Fit (given-with at)
-fits at q r =
-    let d = start at .args .multipliers in
+fits : (at : tie.At-loop Inv-loop μ-loop) (q : Progress) → RunsAt at q → (d : List ℤ)
+    → multipliersFit (fit (given at .n) (pos 0) d) ≡ true → Fit (given-with at d)
+fits at q r d good =
     let n = at .before .before .wide .result in
     record {
       valid = subst Valid (sym (parts at)) (holds-valid _ _ _ _ _ (r .holds));
       long = fit-size n (pos 0) d;
-      multipliers = subst (λ (n : ℕ). multipliersFit (fit n (pos 0) d) ≡ true) (sym (vertices at)) (runs-fits _ _ _ _ _ _ _ r);
+      multipliers = subst (λ (n : ℕ). multipliersFit (fit n (pos 0) d) ≡ true) (sym (vertices at)) good;
       ceiling = rw (back64 (at .loop .t .upper) (holds-mag _ _ _ _ _ (r .holds))) (runs-ceiling _ _ _ _ _ _ _ r);
       sweeps = runs-sweeps _ _ _ _ _ _ _ r;
       step = runs-step _ _ _ _ _ _ _ r;
     }
 
 -- so the node with the bytes x comes to what its passes come to
-comes : (at : tie.At-loop Inv-loop μ-loop) (q : Progress) → RunsAt at q → (x top : List ℕ) → x ≡ bytesOf (marksIn (given at .m) x)
+comes : (at : tie.At-loop Inv-loop μ-loop) (q : Progress) → RunsAt at q → (x top : List ℕ) (d last : List ℤ)
+    → x ≡ bytesOf (marksIn (given at .m) x) → multipliersFit (fit (given at .n) (pos 0) d) ≡ true
     → (o : Opened)
-    → let w = given-with at in
-    o ≡ Node.opens (record { graph = withBytes (w .graph) x; multipliers = w .multipliers; settings = w .settings }) top
+    → let w = given-with at d in
+    o ≡ Node.opens (record { graph = withBytes (w .graph) x; multipliers = w .multipliers; settings = w .settings }) top last
     → o ≡ openedAs (passes (network (given at)) (w .settings .step) (w .settings .ceiling) (w .settings .sweeps)
-    (fit (given at .n) (pos 0) (start at .args .multipliers)) (marksIn (given at .m) x))
-comes at q r x top canonical o e =
-    let w = given-with at in
+    (fit (given at .n) (pos 0) d) (marksIn (given at .m) x))
+comes at q r x top d last canonical good o e =
+    let w = given-with at d in
     e
-    ∙ opens-node w (fits at q r) x (subst (λ (m : ℕ). x ≡ bytesOf (marksIn m x)) (sym (edges at)) canonical) top
+    ∙ opens-node w (fits at q r d good) x (subst (λ (m : ℕ). x ≡ bytesOf (marksIn m x)) (sym (edges at)) canonical) top last
     ∙ ap openedAs (λ i. passes (network (parts at i)) (w .settings .step) (w .settings .ceiling) (w .settings .sweeps)
-    (fit (vertices at i) (pos 0) (start at .args .multipliers)) (marksIn (edges at i) x))
+    (fit (vertices at i) (pos 0) d) (marksIn (edges at i) x))
 
 -- the node that is read is the machine's top node, and its opening the machine's
 opens : (c : tie.After-open Inv-loop μ-loop) (q : Progress) →
@@ -179,9 +196,12 @@ opens c q r =
     let u = back64 (at .loop .t .upper) (holds-mag _ _ _ _ _ (r .holds)) in
     let top = top-node (going k) q r in
     let row : List ℕ = k .get .result in
+    let d : List ℤ = numbers c .get-carried .result in
     let canonical =
     subst (λ (x : List ℕ). x ≡ bytesOf (marksIn (given at .m) x)) (sym (k .get .ensures)) (row-bytes _ _ _ _ _ _ _ r top)
     in
+    let good = subst (λ (y : List ℤ). multipliersFit (fit (given at .n) (pos 0) y) ≡ true) (sym (numbers c .get-carried .ensures))
+    (top-fits _ _ _ _ _ _ _ r top) in
     record {
       graph = given at;
       many = sym (edges at);
@@ -190,27 +210,45 @@ opens c q r =
       holds = r .holds;
       top = top;
       is =
-          top-is _ _ _ _ _ _ _ r top (came c) _ row u (k .get .ensures)
-          (comes at q r row _ canonical (came c) (c .«open» .ensures));
+          top-is _ _ _ _ _ _ _ r top (came c) _ row d u (k .get .ensures) (numbers c .get-carried .ensures)
+          (comes at q r row _ d _ canonical good (came c) (c .«open» .ensures));
     }
+
+-- there is room for what the node's halves carry
+carry-requires : tie.Need-carry-requires Inv-loop μ-loop
+carry-requires c κs =
+    let o = c .before .before in
+    let k = held (turn-of (read o)) in
+    let t = opens o (k .0) (k .1) in (
+      top-high _ _ _ _ _ _ t,
+      ap length (k .1 .carried) ∙ cells-size 20 440 carried-places multiplierAt (k .0 .stack),
+      split-room _ _ _ _ _ _ t,
+    )
+
+-- where the node is opened, from where its multipliers are stored
+abbrev before-carry : tie.After-carry Inv-loop μ-loop → tie.After-open Inv-loop μ-loop
+before-carry c = c .before .before .before
 
 settle-requires : tie.Need-settle-requires Inv-loop μ-loop
 settle-requires c κs =
     let lent = c .before .before .before in
-    let o = lent .before .before .before in
+    let o = before-carry (lent .before .before .before) in
     let k = held (turn-of (read o)) in
-    opens o (k .0) (k .1)
+    (came o .last, opens o (k .0) (k .1))
 
 -- budget is left
 left : (c : tie.Else1 Inv-loop μ-loop) → 0 < turn c .loop .left
 left c = omega (arith, c .before .before .loop-test .taken)
 
--- where the node is opened, from where it is settled
-abbrev opening : tie.After-settle Inv-loop μ-loop → tie.After-open Inv-loop μ-loop
-opening c =
+-- where its multipliers are stored, and where the node is opened, from where it is settled
+abbrev carried : tie.After-settle Inv-loop μ-loop → tie.After-carry Inv-loop μ-loop
+carried c =
     let lent = c .before .before .before in
     let costs = lent .before .before .before in
     costs .before
+
+abbrev opening : tie.After-settle Inv-loop μ-loop → tie.After-open Inv-loop μ-loop
+opening c = before-carry (carried c)
 
 sub-left : tie.Need-sub-left Inv-loop μ-loop
 sub-left c = omega (arith, left (waits (going (read (opening c)))))
@@ -225,10 +263,11 @@ loop-again c =
     let e = going (read o) in
     let l = turn (waits e) .loop in
     λ q r.
-    run-turn _ _ _ _ _ _ _ _ (l .inv q r) (l .left - 1) (omega (arith, left (waits e))) (deep e) (omega (arith, e .if2 .left)) _ _ _
+    run-turn _ _ _ _ _ _ _ _ (l .inv q r) (l .left - 1) (omega (arith, left (waits e))) (deep e) (omega (arith, e .if2 .left)) _ _ _ _
     (λ p h.
     let s = opens o p h in
-    runs-next _ _ _ _ _ _ _ h (s .top) _ _ _ (c .settle .ensures s))
+    runs-next _ _ _ _ _ _ _ h (s .top) _ _ _ _ (c .settle .ensures _ s)
+    (next-carried _ _ _ _ _ _ s _ _ (h .carried) (carried c .carry .ensures)))
 
 returns-3 : tie.Need-returns-3 Inv-loop μ-loop
 returns-3 c = λ s r. run-spent _ _ _ _ _ _ _ _ (c .before .loop .inv s r) (omega (arith, c .loop-test .left))
@@ -244,9 +283,11 @@ run-frame-spec =
     loop-holds
     returns
     returns-2
-    sub-get
+    sub-at
     get-requires
+    get-carried-requires
     open-requires
+    carry-requires
     settle-requires
     sub-left
     loop-less

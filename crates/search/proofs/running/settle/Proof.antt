@@ -31,17 +31,17 @@ sum-fits z y r s = record {
 
 -- the place of the top node is one of the stack's
 in-stack : (s : tie.Start) → (s .args .f .depth - 1 < 22) × (length (s .args .stack .now) ≡ 4180)
-in-stack s = (top-high _ _ _ _ _ _ (s .pre), holds-size _ _ _ _ _ (s .pre .holds))
+in-stack s = (top-high _ _ _ _ _ _ (s .pre .1), holds-size _ _ _ _ _ (s .pre .1 .holds))
 
 -- where the function starts, from where an arm begins
 abbrev start : tie.After-struct-known2 → tie.Start
 start k = k .before .before
 
 sub-p : tie.Need-sub-p
-sub-p c = top-depth _ _ _ _ _ _ (c .before .pre)
+sub-p c = top-depth _ _ _ _ _ _ (c .before .pre .1)
 
 add-k : tie.Need-add-k
-add-k c = omega (arith, top-room _ _ _ _ _ _ (c .before .before .pre))
+add-k c = omega (arith, top-room _ _ _ _ _ _ (c .before .before .pre .1))
 
 enum-told : tie.Need-enum-told
 enum-told c = search needs
@@ -49,7 +49,7 @@ enum-told c = search needs
 -- the machine's opening of a node refuses nothing
 returns : tie.Need-returns
 returns c =
-    λ t.
+    λ d t.
     absurd (never-refused (openNode (t .search .opening) (t .search .upper) (t .top .node)) _
     (sym (ap (λ (o : Opened). o .fate) (t .is)) ∙ c .enum-told .given .1))
 
@@ -74,7 +74,7 @@ put-requires-2 c κs = in-stack (finding (c .before))
 tour-cost-requires : tie.Need-tour-cost-requires
 tour-cost-requires c κs =
     let told = c .before .before .before in
-    let t = finding told .pre in
+    let t = finding told .pre .1 in
     (t .graph, holds-valid _ _ _ _ _ (t .holds), t .many, t .costs-are)
 
 sub-u : tie.Need-sub-u
@@ -102,7 +102,7 @@ put-requires-4 : tie.Need-put-requires-4
 put-requires-4 c κs =
     let told = lower (c .before) in
     let s = splitting told in
-    (split-room _ _ _ _ _ _ (s .pre) (told .enum-told4 .given .1), c .before .put3 .ensures .size ∙ in-stack s .1)
+    (split-room _ _ _ _ _ _ (s .pre .1) (told .enum-told4 .given .1), c .before .put3 .ensures .size ∙ in-stack s .1)
 
 add-t22 : tie.Need-add-t22
 add-t22 c = omega (arith, in-stack (splitting (lower (c .before .before))) .0)
@@ -110,7 +110,7 @@ add-t22 c = omega (arith, in-stack (splitting (lower (c .before .before))) .0)
 returns-2 : tie.Need-returns-2
 returns-2 c =
     let told = c .before .before .before in
-    λ t.
+    λ d t.
     rw (back64 (closing told .args .f .upper) (holds-mag _ _ _ _ _ (t .holds)))
     (next-closes _ _ _ _ _ _ t _ (told .enum-told2 .given .1) (c .before .put .ensures))
 
@@ -119,7 +119,7 @@ returns-3 c =
     let k = c .tour-cost in
     let put = c .before .before in
     let told = put .before .before in
-    λ t.
+    λ d t.
     rw (toZ-ofZ (sub-u c), back64 (k .result) (k .ok))
     (next-finds _ _ _ _ _ _ t _ _ (told .enum-told3 .given .1)
     (ap (λ (z : ℤ). z -ℤ pos 1) (k .ensures .0 (t .graph) (holds-valid _ _ _ _ _ (t .holds)) (t .many) (t .costs-are)))
@@ -129,7 +129,7 @@ returns-4 : tie.Need-returns-4
 returns-4 c =
     let put = c .before .before .before in
     let told = lower put in
-    λ t.
+    λ d t.
     rw (back64 (splitting told .args .f .upper) (holds-mag _ _ _ _ _ (t .holds)))
     (next-splits _ _ _ _ _ _ t _ _ (told .enum-told4 .given .1) (put .put3 .ensures) (c .before .put4 .ensures))
 

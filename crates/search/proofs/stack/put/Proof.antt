@@ -1,6 +1,6 @@
 -- The loop keeps: the first j bytes of x stand at node p.
-use Prim.Native.Nat.{_≤_, _<_, _-_}
-use mathlib.Core.Path.{_≡_}
+use Prim.Native.Nat.{_*_, _≤_, _<_, _-_}
+use mathlib.Core.Path.{_≡_, refl}
 use native.Mathlib.Omega.{arith}
 use borrow.Author.Needs.{needs}
 use lib.ListN.{length}
@@ -9,13 +9,13 @@ use Rattle.search.proofs.stack.put.Statement.{statement}
 use Rattle.search.proofs.stack.put.Tie as tie
 
 abbrev Inv-loop : tie.InvT-loop
-Inv-loop stack₀ p x j₀ stack j = (j ≤ 190) × (p < 22) × (length stack₀ ≡ 4180) × Put p j x stack₀ stack
+Inv-loop stack₀ p x j₀ stack j = (j ≤ 190) × (p < 22) × (length stack₀ ≡ 4180) × Put 0 (190 * p) j x stack₀ stack
 
 abbrev μ-loop : tie.MeasureT-loop
 μ-loop stack₀ p x j₀ stack j = 190 - j
 
 loop-holds : tie.Need-loop-holds Inv-loop μ-loop
-loop-holds c = (omega arith, c .pre .0, c .pre .1, put-none (c .args .p) _ _)
+loop-holds c = (omega arith, c .pre .0, c .pre .1, put-none 0 (190 * c .args .p) _ _)
 
 element-copy-out-stack : tie.Need-element-copy-out-stack Inv-loop μ-loop
 element-copy-out-stack c = search needs
@@ -38,10 +38,10 @@ loop-less c = search needs
 loop-again : tie.Need-loop-again Inv-loop μ-loop
 loop-again c =
     let l = c .before .before .loop in
-    (omega arith, l .inv .1, l .inv .2, put-more _ (l .j) _ _ _ (omega (arith, l .inv .3 .size)) (l .inv .3))
+    (omega arith, l .inv .1, l .inv .2, put-more 0 _ _ _ (l .j) _ _ refl (omega (arith, l .inv .3 .size)) (l .inv .3))
 
 returns : tie.Need-returns Inv-loop μ-loop
-returns c = let l = c .before .loop in put-to _ (l .j) 190 _ _ _ (omega arith) (l .inv .3)
+returns c = let l = c .before .loop in put-to 0 _ _ _ (l .j) 190 _ (omega arith) (l .inv .3)
 
 pub put-spec : {M : Type 1} → statement M
 put-spec =

@@ -7,7 +7,7 @@ use Prim.Native.Nat.{ℕ, suc, _≤_, _<_}
 use native.Mathlib.Omega.{arith}
 use Rattle.lists.specs.Bools.{by-cases}
 use Rattle.graph.specs.Limits.{maxCount}
-use Rattle.machine.specs.Machine.{Marks, Opening, Progress, held, begin, settled, openTop, finished, ran}
+use Rattle.machine.specs.Machine.{Node, Opening, Progress, held, begin, settled, openTop, finished, ran}
 use Rattle.machine.specs.Calls.{runs, fault, openedBy, runBy, step}
 use Rattle.machine.specs.Runs.{ran-keeps}
 use Rattle.compare.specs.Comparison.{countOf, finishes}
@@ -16,7 +16,7 @@ use Rattle.compare.specs.Comparison.{countOf, finishes}
 abbrev pub afterRun : Opening → ℕ → Progress
 afterRun o budget = ran budget (begin (held o))
 
-opened-counts : (s : Progress) (x : Marks) (rest : List Marks) → s .stack ≡ x ∷ rest → s .count < maxCount
+opened-counts : (s : Progress) (x : Node) (rest : List Node) → s .stack ≡ x ∷ rest → s .count < maxCount
     → (finished s ≡ true → 1 ≤ s .count) → finished (openTop s (x ∷ rest)) ≡ true → 1 ≤ openTop s (x ∷ rest) .count
 unfolding openTop settled
 opened-counts s x rest e l h f = omega arith

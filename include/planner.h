@@ -85,6 +85,7 @@ typedef struct {
     size_t depth;
     planner_graph graph;
     int32_t multipliers[PLANNER_VERTICES];
+    int32_t carried[PLANNER_NODES * PLANNER_VERTICES];
     uint8_t stack[PLANNER_NODES * PLANNER_EDGES];
     uint8_t best[PLANNER_EDGES];
     uint8_t open, has_best;
@@ -164,12 +165,12 @@ PLANNER_ASSERT(offsetof(planner_graph, mark) == 1140 && offsetof(planner_graph, 
 PLANNER_ASSERT(sizeof(planner_settings) == 16);
 PLANNER_ASSERT(offsetof(planner_settings, ceiling) == 0 && offsetof(planner_settings, sweeps) == 8);
 PLANNER_ASSERT(offsetof(planner_settings, step) == 12);
-PLANNER_ASSERT(sizeof(planner_search) == 5824);
+PLANNER_ASSERT(sizeof(planner_search) == 7584);
 PLANNER_ASSERT(offsetof(planner_search, settings) == 0 && offsetof(planner_search, upper) == 16 && offsetof(planner_search, count) == 24);
 PLANNER_ASSERT(offsetof(planner_search, depth) == 32 && offsetof(planner_search, graph) == 40);
-PLANNER_ASSERT(offsetof(planner_search, multipliers) == 1372 && offsetof(planner_search, stack) == 1452);
-PLANNER_ASSERT(offsetof(planner_search, best) == 5632 && offsetof(planner_search, open) == 5822);
-PLANNER_ASSERT(offsetof(planner_search, has_best) == 5823);
+PLANNER_ASSERT(offsetof(planner_search, multipliers) == 1372 && offsetof(planner_search, carried) == 1452);
+PLANNER_ASSERT(offsetof(planner_search, stack) == 3212 && offsetof(planner_search, best) == 7392);
+PLANNER_ASSERT(offsetof(planner_search, open) == 7582 && offsetof(planner_search, has_best) == 7583);
 PLANNER_ASSERT(sizeof(planner_said) == 32 && offsetof(planner_said, number) == 0 && offsetof(planner_said, place) == 8);
 PLANNER_ASSERT(offsetof(planner_said, value) == 16 && offsetof(planner_said, nodes) == 24);
 PLANNER_ASSERT(sizeof(planner_sailed) == 32 && offsetof(planner_sailed, number) == 0 && offsetof(planner_sailed, place) == 8);

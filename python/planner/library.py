@@ -114,6 +114,7 @@ class CSearch(ctypes.Structure):
         ("depth", c_size_t),
         ("graph", CGraph),
         ("multipliers", c_int32 * MOST_VERTICES),
+        ("carried", c_int32 * (MOST_NODES * MOST_VERTICES)),
         ("stack", c_uint8 * (MOST_NODES * MOST_EDGES)),
         ("best", c_uint8 * MOST_EDGES),
         ("open", c_uint8),
@@ -123,7 +124,7 @@ class CSearch(ctypes.Structure):
 
 Said = TypeVar("Said", CSaid, CSailed)
 
-for struct, size in ((CSaid, 32), (CGraph, 1_332), (CSettings, 16), (CSailed, 32), (CTerms, 16), (CSearch, 5_824)):
+for struct, size in ((CSaid, 32), (CGraph, 1_332), (CSettings, 16), (CSailed, 32), (CTerms, 16), (CSearch, 7_584)):
     assert ctypes.sizeof(struct) == size, f"{struct.__name__} is not as the library has it"
 
 _BYTES, _RECORD = POINTER(c_uint8), POINTER(CSearch)

@@ -127,9 +127,29 @@ pub const MARK_THREE: Bend = Bend {
     bend: |law| law.max_mark = 3,
 };
 
-pub const MULTIPLIERS_NOT_RESET: Bend = Bend {
-    what: "multipliers are not reset at a node",
-    bend: |law| law.multipliers_reset = false,
+pub const MULTIPLIERS_RESET: Bend = Bend {
+    what: "a node opens with document 01's multipliers, the opening ones",
+    bend: |law| law.multipliers_inherited = false,
+};
+
+pub const LAST_PASS_GAINS: Bend = Bend {
+    what: "multipliers gain after the last pass, before the split",
+    bend: |law| law.last_pass_gains = true,
+};
+
+pub const ONE_LIST_FOR_BOTH: Bend = Bend {
+    what: "all nodes share one list of multipliers",
+    bend: |law| law.multipliers_apart = false,
+};
+
+pub const CARRIED_NOT_JUDGED: Bend = Bend {
+    what: "what a record's nodes carry may be out of range",
+    bend: |law| law.carried_fit = false,
+};
+
+pub const CARRIED_PAST_N: Bend = Bend {
+    what: "what a record's nodes carry past n counts for nothing",
+    bend: |law| law.carried_zero_past_n = false,
 };
 
 pub const HIGHER_NUMBERED_FIRST: Bend = Bend {

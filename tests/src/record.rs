@@ -2,7 +2,7 @@
 
 use crate::document::graph::{self, Graph, EXCLUDED, PLACES, REQUIRED};
 use crate::document::law::Law;
-use crate::document::machine::{Call, Machine, Search};
+use crate::document::machine::{Call, Machine, Node, Search};
 use crate::document::rulings::ceiling_fits;
 use crate::document::tree::{self, Method};
 use std::fmt;
@@ -12,16 +12,23 @@ pub const NODES: usize = 22;
 
 pub const STACK: usize = NODES * PLACES;
 
+/// Vertices that a graph has room for.
+pub const VERTICES: usize = 20;
+
+/// Multipliers that the waiting nodes carry.
+pub const CARRIED: usize = NODES * VERTICES;
+
 /// Bytes of a graph: a cost, two ends and a mark for each place, n and m.
 pub const GRAPH: usize = 7 * PLACES + 2;
 
-/// Bytes of a record before its stack: settings, three numbers, the graph and the multipliers.
-pub const BEFORE_STACK: usize = 16 + 3 * 8 + GRAPH + 4 * 20;
+/// Bytes of a record before its stack: settings, three numbers, the graph, the multipliers and what the nodes carry.
+pub const BEFORE_STACK: usize = 16 + 3 * 8 + GRAPH + 4 * VERTICES + 4 * CARRIED;
 
 /// Bytes of a record: behind the stack are the incumbent and two flags.
 pub const SIZE: usize = BEFORE_STACK + STACK + PLACES + 2;
 
-/// The record's parts, with any contents. Edge j of node p, both counted from 0, has its mark at place 190 · p + j of the stack.
+/// The record's parts, with any contents. Edge j of node p, both counted from 0, has its mark at place 190 · p + j of the stack, and vertex v of
+/// node p its multiplier at place 20 · p + v of what the nodes carry.
 #[derive(Clone, PartialEq, Eq)]
 pub struct Record {
     pub ceiling: i64,
@@ -31,7 +38,8 @@ pub struct Record {
     pub count: u64,
     pub depth: usize,
     pub graph: Graph,
-    pub multipliers: [i32; 20],
+    pub multipliers: [i32; VERTICES],
+    pub carried: Vec<i32>,
     pub stack: Vec<u8>,
     pub best: [u8; PLACES],
     pub open: u8,
@@ -58,8 +66,10 @@ impl Record {
         record.step = search.step;
         record.upper = search.upper;
         record.depth = search.stack.len();
-        for (p, marks) in search.stack.iter().enumerate() {
+        for (p, Node { marks, multipliers }) in search.stack.iter().enumerate() {
             record.stack[PLACES * p..PLACES * p + marks.len()].copy_from_slice(marks);
+            record.carried[VERTICES * p..VERTICES * p + multipliers.len()]
+                .copy_from_slice(multipliers);
         }
         if let Some(edges) = &search.incumbent {
             record.has_best = 1;
@@ -79,6 +89,7 @@ impl Record {
         bytes.extend(self.depth.to_ne_bytes());
         bytes.extend(graph_bytes(&self.graph));
         bytes.extend(self.multipliers.iter().flat_map(|x| x.to_ne_bytes()));
+        bytes.extend(self.carried.iter().flat_map(|x| x.to_ne_bytes()));
         bytes.extend(&self.stack);
         bytes.extend(self.best);
         bytes.extend([self.open, self.has_best]);
@@ -97,6 +108,9 @@ impl Record {
             depth: usize::from_ne_bytes(next(&mut rest)),
             graph: graph_of(&next::<GRAPH>(&mut rest)),
             multipliers: std::array::from_fn(|_| i32::from_ne_bytes(next(&mut rest))),
+            carried: (0..CARRIED)
+                .map(|_| i32::from_ne_bytes(next(&mut rest)))
+                .collect(),
             stack: next::<STACK>(&mut rest).to_vec(),
             best: next(&mut rest),
             open: next::<1>(&mut rest)[0],
@@ -126,7 +140,10 @@ impl Record {
         let search = machine.search.as_mut()?;
         search.upper = self.upper;
         search.stack = (0..self.depth)
-            .map(|p| self.node(p)[..m].to_vec())
+            .map(|p| Node {
+                marks: self.node(p)[..m].to_vec(),
+                multipliers: self.carried_by(p)[..n].to_vec(),
+            })
             .collect();
         search.incumbent = (self.has_best != 0).then(|| self.best[..m].to_vec());
         search.count = self.count;
@@ -153,7 +170,9 @@ impl Record {
             && graph.b[past.clone()].iter().all(|x| *x == 0)
             && graph.cost[past.clone()].iter().all(|x| *x == 0)
             && graph.mark[past].iter().all(|x| *x == 0)
-            && self.multipliers[graph.n.min(20)..].iter().all(|x| *x == 0)
+            && self.multipliers[graph.n.min(VERTICES)..]
+                .iter()
+                .all(|x| *x == 0)
             && self.best[best..].iter().all(|x| *x == 0)
             && (0..NODES).all(|p| {
                 let used = match p < self.depth {
@@ -163,10 +182,22 @@ impl Record {
                 };
                 self.node(p)[used..].iter().all(|x| *x == 0)
             })
+            && (0..NODES).all(|p| {
+                let used = match p < self.depth {
+                    true if law.carried_zero_past_n => graph.n.min(VERTICES),
+                    false if law.zeros_past_depth => 0,
+                    _ => VERTICES,
+                };
+                self.carried_by(p)[used..].iter().all(|x| *x == 0)
+            })
     }
 
     fn node(&self, p: usize) -> &[u8] {
         &self.stack[PLACES * p..PLACES * (p + 1)]
+    }
+
+    fn carried_by(&self, p: usize) -> &[i32] {
+        &self.carried[VERTICES * p..VERTICES * (p + 1)]
     }
 
     /// No search is open: the numbers are zero too.
@@ -183,7 +214,7 @@ impl Record {
     }
 
     /// A search is open: an opening accepts the arguments, U is a ceiling, at most n + 2 nodes wait, node p has marks only and at least
-    /// p of them required, the incumbent is of 0 and 1, and the count is at most 2^63 - 1.
+    /// p of them required, an opening accepts the multipliers that it carries, the incumbent is of 0 and 1, and the count is at most 2^63 - 1.
     fn fits(&self, law: &Law) -> bool {
         let m = self.graph.m;
         graph::fits(law, &self.graph)
@@ -197,6 +228,10 @@ impl Record {
                 let marks = &self.node(p)[..m];
                 let required = marks.iter().filter(|mark| **mark == REQUIRED).count();
                 marks.iter().all(|mark| *mark <= EXCLUDED) && p <= required + law.required_short
+            })
+            && (0..self.depth).all(|p| {
+                let carried = &self.carried_by(p)[..self.graph.n];
+                !law.carried_fit || tree::admit(law, &self.graph, carried, None).is_ok()
             })
             && self.best.iter().all(|x| *x <= 1)
             && self.count < 1 << 63
@@ -257,6 +292,11 @@ impl fmt::Debug for Record {
                 .filter(|(_, x)| *x != 0)
                 .collect()
         };
+        let carried: Vec<(usize, i32)> = (0..)
+            .zip(self.carried.iter().copied())
+            .filter(|(_, x)| *x != 0)
+            .collect();
+        write!(f, " carried, where not zero, {carried:?}")?;
         write!(f, " stack, where not zero, {:?}", places(&self.stack))?;
         write!(f, " incumbent {:?}", places(&self.best))
     }

@@ -436,7 +436,7 @@ pub struct Told {
     pub nodes: u64,
 }
 
-/// A search for the cheapest tour. It owns its record, 5,824 bytes on the heap.
+/// A search for the cheapest tour. It owns its record, 7,584 bytes on the heap.
 #[derive(Clone, Debug)]
 pub struct Search {
     record: Box<Record>,

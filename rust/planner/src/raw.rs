@@ -89,6 +89,7 @@ pub struct Record {
     pub depth: usize,
     pub graph: Graph,
     pub multipliers: [i32; VERTICES],
+    pub carried: [i32; NODES * VERTICES],
     pub stack: [u8; NODES * EDGES],
     pub best: [u8; EDGES],
     pub open: u8,
@@ -109,9 +110,9 @@ layout!(Settings, 16, ceiling at 0, sweeps at 8, step at 12);
 layout!(Sailed, 32, number at 0, place at 8, total at 16, state at 24);
 layout!(Terms, 16, ceiling at 0, budget at 8);
 layout!(
-    Record, 5_824,
-    settings at 0, upper at 16, count at 24, depth at 32, graph at 40, multipliers at 1_372, stack at 1_452, best at 5_632, open at 5_822,
-    has_best at 5_823
+    Record, 7_584,
+    settings at 0, upper at 16, count at 24, depth at 32, graph at 40, multipliers at 1_372, carried at 1_452, stack at 3_212, best at 7_392,
+    open at 7_582, has_best at 7_583
 );
 
 // A pointer must lead to as much memory as the call is told, also where the length is 0, and no two that are lent may overlap.

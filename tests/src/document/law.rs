@@ -127,8 +127,12 @@ pub struct Law {
     pub below_tour: i64,
     /// U is lowered at all
     pub upper_lowered: bool,
-    /// "dues set to the opening ones" at each node
-    pub multipliers_reset: bool,
+    /// C-16: "A piled node now carries the dues that its parent had", and is not reset to the opening ones
+    pub multipliers_inherited: bool,
+    /// C-16: those "after its last pass": in the last pass nothing gains
+    pub last_pass_gains: bool,
+    /// C-16: "Both branches see the same parent dues, whatever the first branch did."
+    pub multipliers_apart: bool,
     /// "held to its range"
     pub multipliers_held: bool,
     /// "on top, that leg required"
@@ -146,6 +150,10 @@ pub struct Law {
     pub required_short: usize,
     /// its nodes that do not wait are zero
     pub zeros_past_depth: bool,
+    /// C-16: the multipliers that its nodes carry fit
+    pub carried_fit: bool,
+    /// and are zero past n
+    pub carried_zero_past_n: bool,
 }
 
 impl Law {
@@ -207,7 +215,9 @@ impl Law {
         max_step: 10_000,
         below_tour: 1,
         upper_lowered: true,
-        multipliers_reset: true,
+        multipliers_inherited: true,
+        last_pass_gains: false,
+        multipliers_apart: true,
         multipliers_held: true,
         required_on_top: true,
         marks_apart: true,
@@ -216,5 +226,7 @@ impl Law {
         nodes_above_vertices: 2,
         required_short: 0,
         zeros_past_depth: true,
+        carried_fit: true,
+        carried_zero_past_n: true,
     };
 }

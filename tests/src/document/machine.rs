@@ -20,12 +20,19 @@ pub struct Search {
     pub step: u32,
     /// U
     pub upper: i64,
-    /// "a pile of waiting nodes (each a mark per leg)", from bottom to top
-    pub stack: Vec<Vec<u8>>,
+    /// "a pile of waiting nodes", from bottom to top
+    pub stack: Vec<Node>,
     pub incumbent: Option<Vec<u8>>,
     pub count: u64,
-    /// the multipliers of the node before, under a bent law; otherwise none
-    carried: Option<Vec<i32>>,
+    /// the one list of multipliers that all nodes share, under a bent law; otherwise none
+    shared: Option<Vec<i32>>,
+}
+
+/// A waiting node: "each a mark per leg"; document 02, C-16: "A piled node now carries the dues that its parent had after its last pass".
+#[derive(Clone, PartialEq, Eq, Debug)]
+pub struct Node {
+    pub marks: Vec<u8>,
+    pub multipliers: Vec<i32>,
 }
 
 #[derive(Clone, PartialEq, Eq, Debug)]
@@ -89,21 +96,27 @@ impl Search {
     fn run(&mut self, law: &Law, method: Method, budget: u64) {
         let mut left = budget;
         while left > 0 && self.count < (1 << 63) - 1 {
-            let Some(marks) = self.stack.pop() else {
+            let Some(node) = self.stack.pop() else {
                 return;
             };
             self.count += 1;
             left -= 1;
-            self.open_node(law, method, marks);
+            self.open_node(law, method, node);
         }
     }
 
-    /// Passes 0 to 'sweeps' over one node, then its two children.
-    fn open_node(&mut self, law: &Law, method: Method, mut marks: Vec<u8>) {
-        let mut multipliers = match &self.carried {
-            Some(carried) if !law.multipliers_reset => carried.clone(),
-            _ => self.multipliers.clone(),
-        };
+    /// Passes 0 to 'sweeps' over one node, which "opens with" the dues that it carries, then its two children.
+    fn open_node(&mut self, law: &Law, method: Method, node: Node) {
+        let Node {
+            mut marks,
+            mut multipliers,
+        } = node;
+        if !law.multipliers_inherited {
+            multipliers = self.multipliers.clone();
+        }
+        if let (false, Some(shared)) = (law.multipliers_apart, &self.shared) {
+            multipliers = shared.clone();
+        }
         for pass in 0..=self.sweeps {
             let graph = self.graph.with_marks(&marks);
             let tree = match tree::least(law, method, &graph, &multipliers) {
@@ -123,21 +136,21 @@ impl Search {
             };
             apply(&mut marks, &rulings);
             if let (false, Some(below)) = (law.marks_apart, self.stack.last_mut()) {
-                apply(below, &rulings);
+                apply(&mut below.marks, &rulings);
             }
-            if pass < self.sweeps {
+            if pass < self.sweeps || law.last_pass_gains {
                 adjust(law, &graph, &tree.edges, self.step, &mut multipliers);
             }
+            if !law.multipliers_apart {
+                self.shared = Some(multipliers.clone());
+            }
         }
-        if !law.multipliers_reset {
-            self.carried = Some(multipliers);
-        }
-        self.split(law, &marks);
+        self.split(law, &marks, &multipliers);
     }
 
     /// "takes its lowest-numbered free leg and piles two nodes with the marks it now has: first that
-    /// leg struck, then, on top, that leg required. With no free leg it closes."
-    fn split(&mut self, law: &Law, marks: &[u8]) {
+    /// leg struck, then, on top, that leg required. With no free leg it closes." "Both branches see the same parent dues".
+    fn split(&mut self, law: &Law, marks: &[u8], multipliers: &[i32]) {
         let Some(k) = marks.iter().position(|mark| *mark == FREE) else {
             return;
         };
@@ -147,9 +160,12 @@ impl Search {
             [REQUIRED, EXCLUDED]
         };
         for mark in children {
-            let mut node = marks.to_vec();
-            node[k] = mark;
-            self.stack.push(node);
+            let mut marks = marks.to_vec();
+            marks[k] = mark;
+            self.stack.push(Node {
+                marks,
+                multipliers: multipliers.to_vec(),
+            });
         }
     }
 }
@@ -227,7 +243,7 @@ impl Machine {
     }
 
     /// Refusals 21, 15, 11, 12, 13, 14; then "Opening piles one node, the chart's marks; count 0, no
-    /// best, U the ceiling."
+    /// best, U the ceiling." Document 02, C-16: "the first node still has the opening dues".
     fn open(&mut self, call: &Call) -> Result<Answer, Refusal> {
         let Call::Open {
             graph,
@@ -256,10 +272,13 @@ impl Machine {
             sweeps: *sweeps,
             step: *step,
             upper: *ceiling,
-            stack: vec![graph.marks()],
+            stack: vec![Node {
+                marks: graph.marks(),
+                multipliers: multipliers.clone(),
+            }],
             incumbent: None,
             count: 0,
-            carried: None,
+            shared: None,
         });
         Ok(Answer::Accepted)
     }

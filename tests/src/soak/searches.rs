@@ -34,7 +34,9 @@ pub const LISTS: Kind = Kind {
     share: 1,
     spawns: false,
     bends: &[
-        bends::MULTIPLIERS_NOT_RESET,
+        bends::MULTIPLIERS_RESET,
+        bends::LAST_PASS_GAINS,
+        bends::ONE_LIST_FOR_BOTH,
         bends::MARKS_FROM_BELOW,
         bends::UPPER_NOT_LOWERED,
         bends::LENGTH_BEFORE_RECORD,

@@ -107,15 +107,15 @@ fn one(law: &Law, tally: &mut Tally, trial: &Trial) -> Outcome {
 /// Document 01's sea, allowance 5.
 fn facts(law: &Law, tally: &mut Tally) -> Outcome {
     let four = four();
-    for (ceiling, counts) in [(12, [5, 5, 1, 1, 1]), (16, [0, 0, 1, 1, 5])] {
+    for (ceiling, counts) in [(12, [5, 5, 3, 1, 1, 1]), (16, [0, 0, 3, 1, 1, 5])] {
         let trial = Trial {
             graph: four.clone(),
             multipliers: vec![0; 4],
             ceiling,
             budget: 5,
-            sweeps: vec![0, 0, 2, 15, 15],
-            steps: vec![0, 10_000, 1, 1, 10],
-            length: 5,
+            sweeps: vec![0, 0, 1, 2, 15, 15],
+            steps: vec![0, 10_000, 1, 1, 1, 10],
+            length: 6,
         };
         one(law, tally, &trial)?;
         let got = compare(&trial).report;

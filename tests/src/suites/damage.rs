@@ -3,12 +3,12 @@
 use crate::bends;
 use crate::document::graph::{EXCLUDED, FREE, PLACES, REQUIRED};
 use crate::document::law::Law;
-use crate::document::machine::{Call, Machine};
+use crate::document::machine::{Call, Machine, Node};
 use crate::document::tree::Method;
 use crate::ffi::{only, Reply};
 use crate::generate::{self, past, wrong_ceiling, MAX_CEILING, MAX_COST, MAX_MULTIPLIER};
 use crate::random::Random;
-use crate::record::{Record, NODES, STACK};
+use crate::record::{Record, CARRIED, NODES, STACK, VERTICES};
 use crate::report::{Outcome, Suite, Tally};
 
 pub const SUITE: Suite = Suite {
@@ -29,6 +29,8 @@ pub const SUITE: Suite = Suite {
         bends::SHALLOWER_STACK,
         bends::FEWER_REQUIRED,
         bends::JUNK_PAST_DEPTH,
+        bends::CARRIED_NOT_JUDGED,
+        bends::CARRIED_PAST_N,
     ],
 };
 
@@ -70,7 +72,12 @@ pub fn harm(random: &mut Random, record: &mut Record) {
         1 => PLACES * record.depth.min(NODES - 1) + random.below(PLACES),
         _ => PLACES * random.below(record.depth.clamp(1, NODES)) + k,
     };
-    match random.below(17) {
+    let number = match random.below(3) {
+        0 => random.below(CARRIED),
+        1 => VERTICES * record.depth.min(NODES - 1) + random.below(VERTICES),
+        _ => VERTICES * random.below(record.depth.clamp(1, NODES)) + random.below(n),
+    };
+    match random.below(18) {
         0 => record.open = byte,
         1 => record.graph.n = random.pick(&[0, 2, 3, 4, 20, 21, 255]),
         2 => record.graph.m = random.pick(&[0, m - 1, m + 1, 190, 191, 255]),
@@ -87,6 +94,7 @@ pub fn harm(random: &mut Random, record: &mut Record) {
         13 => record.stack[place] = byte,
         14 => record.has_best = byte,
         15 => record.best[k] = byte,
+        16 => record.carried[number] = about(random, MAX_MULTIPLIER),
         _ => record.count = random.pick(&[0, 1, (1 << 63) - 1, 1 << 63, u64::MAX]),
     }
 }
@@ -180,7 +188,8 @@ fn flags(law: &Law, tally: &mut Tally, random: &mut Random) -> Outcome {
 }
 
 /// A search of n vertices in which so many nodes wait, node p with p required edges: then each node with one required edge fewer, with a
-/// mark of 3, and with a byte past m; each other node with a byte in it; and other depths.
+/// mark of 3, and with a byte past m; each other node with a byte in it; each with multipliers at a limit and past it, with one of vertex 1 and with one
+/// past n; and other depths.
 fn stacks(law: &Law, tally: &mut Tally, random: &mut Random, n: usize, depth: usize) -> Outcome {
     let m = n * (n - 1) / 2;
     let record = waiting(random, n, depth);
@@ -206,6 +215,18 @@ fn stacks(law: &Law, tally: &mut Tally, random: &mut Random, n: usize, depth: us
             }
         } else {
             with(node.start + random.below(PLACES), 1)?;
+        }
+    }
+    for p in 0..NODES {
+        let mut carries = |v: usize, number: i32| {
+            let mut harmed = record.clone();
+            harmed.carried[VERTICES * p + v] = number;
+            judge(harmed)
+        };
+        carries(0, random.pick(&[-1, 1]))?;
+        carries(1 + random.below(n - 1), about(random, MAX_MULTIPLIER))?;
+        if n < VERTICES {
+            carries(n + random.below(VERTICES - n), random.pick(&[-1, 1]))?;
         }
     }
     for other in [depth + 1, 255, 256 + depth, (1 << 32) + depth, usize::MAX] {
@@ -237,7 +258,10 @@ fn waiting(random: &mut Random, n: usize, depth: usize) -> Record {
                     })
                     .collect();
                 random.shuffle(&mut marks);
-                marks
+                Node {
+                    marks,
+                    multipliers: generate::multipliers(random, n),
+                }
             })
             .collect();
     }

@@ -21,7 +21,9 @@ pub const SUITE: Suite = Suite {
     bends: &[
         bends::UPPER_AT_COST,
         bends::EXCLUDED_ON_TOP,
-        bends::MULTIPLIERS_NOT_RESET,
+        bends::MULTIPLIERS_RESET,
+        bends::LAST_PASS_GAINS,
+        bends::ONE_LIST_FOR_BOTH,
         bends::PAST_M_NOT_ZERO,
     ],
 };
@@ -104,11 +106,18 @@ fn record_fields(search: &Search, named: &raw::Record) -> Vec<Field> {
     };
     let (settings, waiting) = (&named.settings, search.stack.len());
     let multipliers = padded(numbers(&search.multipliers), 4 * 20);
-    let nodes = search.stack.iter();
-    let nodes: Vec<u8> = nodes
-        .flat_map(|node| padded(node.clone(), PLACES))
+    let marks: Vec<u8> = search
+        .stack
+        .iter()
+        .flat_map(|node| padded(node.marks.clone(), PLACES))
         .collect();
-    let stack = padded(nodes, NODES * PLACES);
+    let stack = padded(marks, NODES * PLACES);
+    let carried: Vec<u8> = search
+        .stack
+        .iter()
+        .flat_map(|node| padded(numbers(&node.multipliers), 4 * 20))
+        .collect();
+    let carried = padded(carried, 4 * 20 * NODES);
     let best = padded(search.incumbent.clone().unwrap_or_default(), PLACES);
     let mut fields = vec![
         number("ceiling", 0, search.ceiling, settings.ceiling),
@@ -126,10 +135,11 @@ fn record_fields(search: &Search, named: &raw::Record) -> Vec<Field> {
             multipliers,
             &numbers(&named.multipliers),
         ),
-        field("stack", 1_452, stack, &named.stack),
-        field("best", 5_632, best, &named.best),
-        field("open", 5_822, vec![1], &[named.open]),
-        field("has_best", 5_823, vec![1], &[named.has_best]),
+        field("carried", 1_452, carried, &numbers(&named.carried)),
+        field("stack", 3_212, stack, &named.stack),
+        field("best", 7_392, best, &named.best),
+        field("open", 7_582, vec![1], &[named.open]),
+        field("has_best", 7_583, vec![1], &[named.has_best]),
     ]);
     fields
 }

@@ -19,6 +19,8 @@ pub mod damage;
 #[cfg(feature = "library")]
 pub mod falling_ceilings;
 #[cfg(feature = "library")]
+pub mod inherited;
+#[cfg(feature = "library")]
 pub mod layout;
 #[cfg(feature = "library")]
 pub mod library_searches;
@@ -82,6 +84,8 @@ pub fn all() -> Vec<Suite> {
         compare::SUITE,
         #[cfg(feature = "library")]
         records::SUITE,
+        #[cfg(feature = "library")]
+        inherited::SUITE,
         #[cfg(feature = "library")]
         damage::SUITE,
         #[cfg(feature = "library")]

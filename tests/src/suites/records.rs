@@ -17,7 +17,9 @@ pub const SUITE: Suite = Suite {
     run,
     bends: &[
         bends::EXCLUDED_ON_TOP,
-        bends::MULTIPLIERS_NOT_RESET,
+        bends::MULTIPLIERS_RESET,
+        bends::LAST_PASS_GAINS,
+        bends::ONE_LIST_FOR_BOTH,
         bends::MULTIPLIERS_NOT_HELD,
         bends::MARKS_FROM_BELOW,
         bends::UPPER_AT_COST,

@@ -1,4 +1,4 @@
-//! The search: same nodes, same order, same count as document 01's machine.
+//! The search: same nodes, same order, same count as document 01's machine, read with document 02's C-16.
 
 use super::pass::{Changes, Keys, Pass, Required};
 use super::{edges_of, key, number, Key, NUMBERS};
@@ -28,6 +28,8 @@ struct Node {
     parts: Required,
     /// no edge of a lower number is free
     lowest: u8,
+    /// those of its parent's last pass; without sweeps always the opening's
+    multipliers: [i32; super::LANES],
 }
 
 #[derive(Clone, Copy, PartialEq, Eq, Debug)]
@@ -104,6 +106,7 @@ impl Search {
             required: Ranks([0; 3]),
             parts: Required::none(),
             lowest: 0,
+            multipliers: self.opening_multipliers,
         };
         for (k, mark) in marks.iter().enumerate() {
             node.free.set(self.rank[k], *mark == FREE);
@@ -134,6 +137,10 @@ impl Search {
         self.pass.required = node.parts;
         self.pass.multipliers = self.opening_multipliers;
         self.list_free(&node.free);
+        if self.sweeps > 0 && node.multipliers != self.opening_multipliers {
+            self.pass.multipliers = node.multipliers;
+            self.pass.renew();
+        }
         for sweep in 0..=self.sweeps {
             if sweep > 0 {
                 self.pass.adjust(self.step);
@@ -200,6 +207,9 @@ impl Search {
     /// The lowest-numbered free edge excluded and, on top, required.
     fn split(&mut self, mut node: Node) {
         node.parts = self.pass.required;
+        if self.sweeps > 0 {
+            node.multipliers = self.pass.multipliers;
+        }
         let mut k = node.lowest as usize;
         while k < self.m && !node.free.has(self.rank[k]) {
             k += 1;

@@ -2,7 +2,7 @@
 //! compiler takes many places at a time.
 
 use super::record::{Record, NODES};
-use super::Marks;
+use super::{Marks, Multipliers};
 use crate::inputs::{
     Graph, EXCLUDED, MAX_CEILING, MAX_COST, MAX_MULTIPLIER, PLACES, REQUIRED, VERTICES,
 };
@@ -71,6 +71,7 @@ pub fn record_fits(record: &Record) -> bool {
             && ceiling_fits(record.upper)
             && record.depth <= graph.n() + 2
             && nodes_fit(&record.stack[..record.depth], graph.m())
+            && carried_fits(&record.carried[..record.depth], graph.n())
             && record.best.iter().fold(0, |most, byte| most.max(*byte)) <= 1
             && record.count < 1 << 63
     } else {
@@ -89,6 +90,12 @@ fn nodes_fit(nodes: &[Marks], m: usize) -> bool {
             .sum::<u8>();
         most <= EXCLUDED && zero(&node[m..]) && p <= required as usize
     })
+}
+
+/// What nodes carry: multipliers, zero past n.
+fn carried_fits(nodes: &[Multipliers], n: usize) -> bool {
+    let fits = |node: &Multipliers| multipliers_fit(&node[..n]) && zero_numbers(&node[n..]);
+    nodes.iter().all(fits)
 }
 
 /// The numbers of a record without a search are zero.
@@ -117,5 +124,6 @@ fn unused(record: &Record) -> bool {
         && zero(&graph.mark[m..])
         && zero_numbers(&record.multipliers[n..])
         && zero(record.stack[depth..].as_flattened())
+        && zero_numbers(record.carried[depth..].as_flattened())
         && zero(&record.best[best..])
 }

@@ -4,7 +4,7 @@ use super::check::{ceiling_fits, graph_fits, multipliers_fit, record_fits, sweep
 use super::record::{Answer, Record, Step};
 use super::tree::{self, Tree, Work};
 use super::{Marks, Multipliers};
-use crate::inputs::{Graph, EXCLUDED, FREE, MAX_MULTIPLIER, PLACES, REQUIRED};
+use crate::inputs::{Graph, EXCLUDED, FREE, MAX_MULTIPLIER, PLACES, REQUIRED, VERTICES};
 
 /// Run opens no node beyond.
 const MOST: u64 = (1 << 63) - 1;
@@ -51,6 +51,7 @@ pub fn open(
     (record.ceiling, record.upper) = (ceiling, ceiling);
     (record.sweeps, record.step) = (sweeps, gain);
     record.stack[0] = record.graph.mark;
+    record.carried[0] = record.multipliers;
     record.depth = 1;
     step.answer = Answer::Accepted;
     step
@@ -130,6 +131,7 @@ fn open_nodes(record: &mut Record, mut left: u64) {
         graph: record.graph.clone(),
         work: Work::blank(),
         rulings: [0; PLACES],
+        multipliers: record.multipliers,
     };
     let (mut highest, mut in_hand) = (record.depth, false);
     while left > 0 && (in_hand || record.depth > 0) {
@@ -138,17 +140,20 @@ fn open_nodes(record: &mut Record, mut left: u64) {
         if !in_hand {
             record.depth -= 1;
             node.graph.mark = record.stack[record.depth];
+            node.multipliers = record.carried[record.depth];
         }
         node.work.order.list(&node.graph);
-        in_hand = node.passes(record) && split(record, &mut node.graph);
+        in_hand = node.passes(record) && split(record, &mut node);
         highest = highest.max(record.depth);
     }
     if in_hand {
         record.stack[record.depth] = node.graph.mark;
+        record.carried[record.depth] = node.multipliers;
         record.depth += 1;
     }
     if highest > record.depth {
         record.stack[record.depth..highest].fill([0; PLACES]);
+        record.carried[record.depth..highest].fill([0; VERTICES]);
     }
 }
 
@@ -157,12 +162,14 @@ struct Node {
     graph: Graph,
     work: Work,
     rulings: Marks,
+    /// those of the last pass
+    multipliers: Multipliers,
 }
 
 impl Node {
     /// All passes; whether the node is still open.
     fn passes(&mut self, record: &mut Record) -> bool {
-        let mut d = record.multipliers;
+        let mut d = self.multipliers;
         for sweep in 0..=record.sweeps {
             let (graph, work) = (&self.graph, &mut self.work);
             match tree::pass(graph, &d, record.upper, work, &mut self.rulings) {
@@ -179,6 +186,7 @@ impl Node {
                 }
             }
         }
+        self.multipliers = d;
         true
     }
 
@@ -220,9 +228,10 @@ fn adjust(d: &mut Multipliers, tree: &Tree, n: usize, step: i32) {
     }
 }
 
-/// Piles the node with its lowest-numbered free edge excluded and makes that edge required; false
+/// Piles the node with its lowest-numbered free edge excluded and makes that edge required, both with the multipliers of the last pass; false
 /// where none is free.
-fn split(record: &mut Record, graph: &mut Graph) -> bool {
+fn split(record: &mut Record, node: &mut Node) -> bool {
+    let graph = &mut node.graph;
     let k = lowest_free(&graph.mark);
     if k >= graph.m() {
         return false;
@@ -230,6 +239,7 @@ fn split(record: &mut Record, graph: &mut Graph) -> bool {
     let excluded = &mut record.stack[record.depth];
     *excluded = graph.mark;
     excluded[k] = EXCLUDED;
+    record.carried[record.depth] = node.multipliers;
     record.depth += 1;
     graph.mark[k] = REQUIRED;
     true

@@ -72,6 +72,8 @@ fn plain_check(r: &Record) -> bool {
         && (n..VERTICES).all(|v| r.multipliers[v] == 0)
         && (depth..r.stack.len()).all(|p| r.stack[p].iter().all(|mark| *mark == 0))
         && (0..depth).all(|p| r.stack[p][m..].iter().all(|mark| *mark == 0))
+        && (depth..r.carried.len()).all(|p| r.carried[p].iter().all(|d| *d == 0))
+        && (0..depth).all(|p| r.carried[p][n..].iter().all(|d| *d == 0))
         && (r.has_best == 1 || r.best.iter().all(|byte| *byte == 0));
     if r.open > 1 || r.has_best > 1 {
         return false;
@@ -102,6 +104,10 @@ fn plain_check(r: &Record) -> bool {
             let required = r.stack[p][..m].iter().filter(|mark| **mark == 1).count();
             r.stack[p].iter().all(|mark| *mark <= 2) && p <= required
         })
+        && (0..depth).all(|p| {
+            let carried = &r.carried[p];
+            carried[0] == 0 && carried.iter().all(|d| within(*d, MAX_MULTIPLIER))
+        })
         && r.best.iter().all(|byte| *byte <= 1)
         && r.count < 1 << 63
 }
@@ -111,7 +117,7 @@ fn bend(r: &mut Record, random: &mut Random) {
     let byte = [0, 1, 2, 3, 21, 255][random.below(6)];
     let past = MAX_CEILING + 1;
     let wide = [-1, 0, 1, MAX_CEILING, past, -past, i64::MIN][random.below(7)];
-    match random.below(18) {
+    match random.below(20) {
         0 => r.open = byte,
         1 => r.graph.n = byte,
         2 => r.graph.m = r.graph.m.wrapping_add(1),
@@ -128,6 +134,8 @@ fn bend(r: &mut Record, random: &mut Random) {
         13 => r.stack[p][k] = byte,
         14 => r.stack[random.below(r.depth + 1) % 22][k] = byte,
         15 => r.has_best = byte,
+        17 => r.carried[p][k % VERTICES] = [0, 1, MAX_MULTIPLIER + 1, i32::MIN][random.below(4)],
+        18 => r.carried[random.below(r.depth + 1) % 22][k % VERTICES] = [0, 1][random.below(2)],
         16 => r.best[k] = byte,
         _ => r.count = [0, (1 << 63) - 1, 1 << 63][random.below(3)],
     }

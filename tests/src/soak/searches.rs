@@ -25,6 +25,8 @@ pub const RECORDS: Kind = Kind {
         bends::FLAG_OF_TWO,
         bends::FEWER_REQUIRED,
         bends::JUNK_PAST_DEPTH,
+        bends::CARRIED_NOT_JUDGED,
+        bends::CARRIED_PAST_N,
     ],
 };
 
@@ -53,9 +55,9 @@ impl Numbered for (Reply, Record) {
 /// A place of a record: any, one that is in use, or one beside the stack, which is most of the record.
 fn a_place(random: &mut Random, bytes: &[u8]) -> usize {
     let used: Vec<usize> = (0..bytes.len()).filter(|at| bytes[*at] != 0).collect();
-    match random.below(3) {
+    match random.below(4) {
         0 => random.below(bytes.len()),
-        1 if !used.is_empty() => random.pick(&used),
+        1 | 2 if !used.is_empty() => random.pick(&used),
         _ => match random.below(bytes.len() - STACK) {
             before if before < BEFORE_STACK => before,
             behind => behind + STACK,

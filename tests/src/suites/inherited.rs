@@ -1,6 +1,6 @@
 //! Document 02, C-16, through the library: children start from their parent's multipliers. Lists of calls with sweeps and small budgets, so that
 //! searches stop and go on between nodes; each answer, and after each call every byte of the record, the multipliers of each waiting node
-//! among them, is the reference machine's. Searches with the same marks below stay as they are until they are the top.
+//! among them, is the reference machine's. And a sea on which each misreading opens another number of nodes.
 
 use super::records::reply;
 use crate::bends;
@@ -44,9 +44,11 @@ fn run(law: &Law, tally: &mut Tally) -> Outcome {
 /// Every opening has sweeps, every budget is small; what comes between the runs changes nothing.
 fn calls(random: &mut Random, graph: &Graph) -> Vec<Call> {
     let spread = random.pick(&[Spread::Equal, Spread::Few, Spread::Some]);
+    let near = generate::multipliers_of(random, graph.n, spread);
+    let far = generate::multipliers(random, graph.n);
     let open = Call::Open {
         graph: Box::new(graph.clone()),
-        multipliers: generate::multipliers_of(random, graph.n, spread),
+        multipliers: if random.one_in(4) { far } else { near },
         ceiling: random.pick(&[generate::MAX_CEILING, 60, 30, 12]),
         sweeps: random.pick(&[1, 1, 1, 2, 3, 5]),
         step: random.pick(&STEPS),

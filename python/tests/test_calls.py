@@ -110,8 +110,18 @@ close > accepted
 # A round sailed, and settings compared.
 simulate 0 2 1 4 6 3 > times 2 1 2 7 total 12 state 2868466484
 simulate 0 0 3 6 4 1 > times 5 1 2 4 total 12 state 2868466484
-compare 12 5 0/0 0/10000 2/1 15/1 15/10 > nodes 5 5 1 1 1
-compare 16 5 0/0 0/10000 2/1 15/1 15/10 > nodes 0 0 1 1 5
+compare 12 5 0/0 0/10000 1/1 2/1 15/1 15/10 > nodes 5 5 3 1 1 1
+compare 16 5 0/0 0/10000 1/1 2/1 15/1 15/10 > nodes 0 0 3 1 1 5
+
+# Children start from their parent's dues (document 02, C-16): with dues reset at each node it would be 15 nodes.
+sea 5 1-2:6 1-4:8 1-5:2 2-4:5 2-5:3 3-4:8 4-5:9
+open 40 1 2 > accepted
+run 1 > going on nodes 1
+run 9 > going on nodes 10
+run 1 > finished nodes 11
+tell > none nodes 11
+close > accepted
+{FOUR}
 
 # Marks as letters and as bytes.
 sea 4 1-2:4m0 1-3:3s 1-4:5m1 2-3:-2r 2-4:6 3-4:1m2

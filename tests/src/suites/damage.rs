@@ -77,7 +77,10 @@ pub fn harm(random: &mut Random, record: &mut Record) {
         1 => VERTICES * record.depth.min(NODES - 1) + random.below(VERTICES),
         _ => VERTICES * random.below(record.depth.clamp(1, NODES)) + random.below(n),
     };
-    match random.below(18) {
+    let node = PLACES * random.below(record.depth.clamp(1, NODES));
+    let mut marks = record.stack[node..node + PLACES].iter_mut();
+    let required = marks.find(|mark| **mark == REQUIRED);
+    match random.below(19) {
         0 => record.open = byte,
         1 => record.graph.n = random.pick(&[0, 2, 3, 4, 20, 21, 255]),
         2 => record.graph.m = random.pick(&[0, m - 1, m + 1, 190, 191, 255]),
@@ -95,6 +98,7 @@ pub fn harm(random: &mut Random, record: &mut Record) {
         14 => record.has_best = byte,
         15 => record.best[k] = byte,
         16 => record.carried[number] = about(random, MAX_MULTIPLIER),
+        17 => required.into_iter().for_each(|mark| *mark = FREE),
         _ => record.count = random.pick(&[0, 1, (1 << 63) - 1, 1 << 63, u64::MAX]),
     }
 }

@@ -1,9 +1,9 @@
--- The record's check in the parts that the code makes of it: the greatest byte of a stretch; the stack past the depth as one stretch; the
--- fields apart from the stack. Assumes nothing.
-use mathlib.Core.Path.{_≡_, refl, sym, subst}
+-- The record's check in the parts that the code makes of it: the greatest byte of a stretch; the stack past the depth, and what is carried there, as
+-- one stretch; the fields apart from the stack. Assumes nothing.
+use mathlib.Core.Path.{_≡_, refl, sym, _∙_, subst}
 use mathlib.Core.Bool.{Bool, true, false, cond}
 use mathlib.Core.Logic.{_⊎_, inl, inr}
-use mathlib.Core.List.{List}
+use mathlib.Core.List.{List, []}
 use Prim.Native.Nat.{ℕ, _+_, _*_, _≤_, _<_}
 use native.Mathlib.Omega.{arith}
 use native.Mathlib.Decide.{decLe}
@@ -20,8 +20,8 @@ use Rattle.tree_theory.specs.Inputs.{ceilingFits}
 use Rattle.machine.specs.declared.Settings.{Settings}
 use Rattle.machine.specs.Machine.{Opening}
 use Rattle.machine.specs.Calls.{fault}
-use Rattle.search.specs.Record.{maxNodes, stackSize, noSettings, openingOf, hasTour, openingIn}
-use Rattle.search.specs.Cells.{bytes-places, each-place}
+use Rattle.search.specs.Record.{maxNodes, stackSize, carriedSize, noSettings, multipliersAt, openingOf, hasTour, openingIn}
+use Rattle.search.specs.Cells.{bytes-places, carried-places, each-place, multipliers-at}
 use Rattle.search.specs.Canonical.{Zeros, GraphTidy, NodeZeros, usedIn, StackTidy, CarriedTidy, Tidy, Idle, StackFits, CarriedFits, Bits, Fits}
 use Rattle.search.specs.CheckLoops.{says-both, says-le, says-eq}
 use Rattle.search.specs.declared.Search.{Search}
@@ -91,6 +91,30 @@ module _ (m depth used : ℕ) (l : List ℕ) (u : InUse depth used) where
       go : Dec (used ≤ p) → NodeZeros l p (usedIn m depth p)
       go (yes b) = λ j i w. z (maxEdges * p + j) (omega arith) (omega arith)
       go (no b) = subst (λ (k : ℕ). NodeZeros l p k) (sym (rw (lt-ltb p depth (omega (arith, u .deep))) refl)) (f p (omega arith))
+
+-- what the nodes carry likewise: the nodes in use past n, and all that is past them
+module _ (n depth used : ℕ) (e : List ℤ) (u : InUse depth used) where
+  pub carried-nodes : CarriedTidy n depth e → (p : ℕ) → p < used → Zeros (pos 0) maxVertices n (multipliersAt maxVertices e p)
+  carried-nodes t p h =
+      subst (λ (k : ℕ). Zeros (pos 0) maxVertices k (multipliersAt maxVertices e p)) (rw (lt-ltb p depth (omega (arith, u .deep))) refl)
+      (t p (omega (arith, u .few)))
+
+  pub carried-past : CarriedTidy n depth e → Zeros (pos 0) carriedSize (maxVertices * used) e
+  carried-past t =
+      each-place maxVertices carriedSize carried-places (λ i. maxVertices * used ≤ i → getD e i (pos 0) ≡ pos 0)
+      (λ p h j b w.
+      let here : used ≤ p = omega arith in
+      sym (multipliers-at maxVertices e p j b) ∙ t p h j b (omega (arith, past n depth used [] u p h here)))
+
+  pub carried-whole : Zeros (pos 0) carriedSize (maxVertices * used) e
+      → ((p : ℕ) → p < used → Zeros (pos 0) maxVertices n (multipliersAt maxVertices e p)) → CarriedTidy n depth e
+  carried-whole z f p h = go (decLe used p)
+    where
+      go : Dec (used ≤ p) → Zeros (pos 0) maxVertices (usedIn n depth p) (multipliersAt maxVertices e p)
+      go (yes b) = λ j i w. multipliers-at maxVertices e p j i ∙ z (maxVertices * p + j) (omega arith) (omega arith)
+      go (no b) =
+          subst (λ (k : ℕ). Zeros (pos 0) maxVertices k (multipliersAt maxVertices e p))
+          (sym (rw (lt-ltb p depth (omega (arith, u .deep))) refl)) (f p (omega arith))
 
 -- ---- all but the stack, part by part
 

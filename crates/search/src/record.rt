@@ -6,8 +6,8 @@ ghost use lib.IntN.{pos};
 ghost use Rattle.lists.specs.Bools.{Says};
 ghost use Rattle.graph.specs.Limits.{maxVertices, maxEdges};
 ghost use Rattle.machine.specs.Calls.{fault};
-ghost use Rattle.search.specs.Record.{maxNodes, stackSize, noSettings};
-ghost use Rattle.search.specs.Canonical.{Zeros, GraphTidy, NodeZeros, usedIn, StackTidy, CarriedTidy, NodeFits, StackFits, CarriedFits, Bits};
+ghost use Rattle.search.specs.Record.{maxNodes, stackSize, carriedSize, noSettings};
+ghost use Rattle.search.specs.Canonical.{Zeros, GraphTidy, NodeZeros, StackTidy, CarriedTidy, NodeFits, StackFits, CarriedFits, Bits};
 ghost use Rattle.search.specs.CheckParts.{InUse, FieldsTidy, FieldsFit, FieldsIdle, openingWith};
 ghost use Rattle.search.specs.Check.{check};
 use crate::CARRIED_SIZE;
@@ -150,23 +150,32 @@ fn stack_tidy(stack: &[u8; STACK_SIZE], m: usize, depth: usize) -> bool
     true
 }
 
-// How many places of node p are in use, of k?
-fn used_in(k: usize, depth: usize, p: usize) -> usize
-    ensures { λ r. ⌜ r ≡ usedIn k depth p ⌝ }
+// Is what is carried zero from `from` on?
+fn carried_zeros(carried: &[i32; CARRIED_SIZE], from: usize) -> bool
+    ensures { λ r. ⌜ Says r (Zeros (pos 0) carriedSize from (now (carried .entry))) ⌝ }
 {
-    if p < depth {
-        return k;
+    let mut met: u8 = 0;
+    let mut i = from;
+    while i < CARRIED_SIZE {
+        if carried[i] != 0 {
+            met = 1;
+        }
+        i = i + 1;
     }
-    0
+    met == 0
 }
 
 fn carried_tidy(carried: &[i32; CARRIED_SIZE], n: usize, depth: usize) -> bool
     ensures { λ r. ⌜ Says r (CarriedTidy n depth (now (carried .entry))) ⌝ }
 {
+    let used = nodes_in_use(depth);
+    if !carried_zeros(carried, MAX_VERTICES * used) {
+        return false;
+    }
     let mut p = 0;
-    while p < MAX_NODES {
+    while p < used {
         let d = get_carried(carried, p);
-        if !multipliers_tidy(d, used_in(n, depth, p)) {
+        if !multipliers_tidy(d, n) {
             return false;
         }
         p = p + 1;

@@ -107,7 +107,10 @@ open-left-requires c κs =
 
 -- where all parts are gathered, from where the node is opened
 abbrev all : tie.After-open-left → tie.After-gather3
-all o = let lent = o .before .before .before .before in lent .before .before .before
+all o =
+    let lent = o .before .before .before in
+    let ends = lent .before .before .before in
+    ends .before
 
 abbrev begun : tie.After-open-left → tie.Start
 begun o = start (before-all (all o))

@@ -59,7 +59,8 @@ returns-2 c =
 -- where each test was passed, from where the run begins
 abbrev at-open : tie.After-carried2 → tie.Else2
 at-open c =
-    let at-best = c .before .before .before .before in
+    let at-carried = c .before .before .before in
+    let at-best = at-carried .before in
     let at-g = at-best .before .before in
     at-g .before .before
 
@@ -74,7 +75,10 @@ given c = begin c .args .s
 
 -- the upper bound is read back from its word
 upper : (c : tie.After-carried2) → toZ w64 (ofZ w64 (given c .upper)) ≡ given c .upper
-upper c = back64 (given c .upper) (c .before .before .before .before .before .struct-told .given .1 .0 .1)
+upper c =
+    let at-carried = c .before .before .before in
+    let made = at-carried .before .before in
+    back64 (given c .upper) (made .struct-told .given .1 .0 .1)
 
 -- the frame that the code makes
 abbrev made : tie.After-carried2 → Frame

@@ -118,7 +118,8 @@ close-requires c κs = search needs
 
 returns-2 : tie.Need-returns-2 Inv-loop μ-loop
 returns-2 c =
-    let told = c .before .before .before .before in
+    let lent = c .before .before .before in
+    let told = lent .before in
     let j = told .before .before in
     let v = judged j verdict.Shut (told .enum-told .given .1) in
     let t = accepted j (v .0) in
@@ -129,8 +130,9 @@ enum-told-2 c = search needs
 
 returns-3 : tie.Need-returns-3 Inv-loop μ-loop
 returns-3 c =
-    let j = c .before .before .before .before in
-    let v = judged j verdict.Found (c .before .before .enum-told2 .given .1) in
+    let told = c .before .before in
+    let j = told .before .before in
+    let v = judged j verdict.Found (told .enum-told2 .given .1) in
     let t = accepted j (v .0) in
     comes j (t .0) _ (turn-found _ (fault-fit _ (t .0) .valid) _ _ _ _ _ _ (t .1) _ (v .1))
 
@@ -143,14 +145,16 @@ ruled c = c .before .before .before
 
 split-requires : tie.Need-split-requires Inv-loop μ-loop
 split-requires c κs =
-    let k = c .before .before .before .before in
+    let lent = c .before .before .before in
+    let k = lent .before in
     let v = judged (ruled k) _ (k .before .verdict2 .given .1) in
     let t = accepted (ruled k) (v .0) in
     (turn (ruled k) .loop .inv .0, turn (ruled k) .loop .inv .1, turn-marks _ (fault-fit _ (t .0) .valid) _ _ _ _ _ _ (t .1) _ _ (v .1))
 
 returns-4 : tie.Need-returns-4 Inv-loop μ-loop
 returns-4 c =
-    let last = c .before .before .before .before in
+    let lent = c .before .before .before in
+    let last = lent .before in
     let k = last .before in
     let v = judged (ruled k) _ (k .before .verdict2 .given .1) in
     let t = accepted (ruled k) (v .0) in

@@ -20,7 +20,8 @@ close-requires c κs = search needs
 
 returns : tie.Need-returns
 returns c =
-    let none = c .before .before .before .before in
+    let lent = c .before .before .before in
+    let none = lent .before in
     let free = none .before in
     let s = free .before .before in
     let m = s .args .m in
@@ -36,18 +37,22 @@ element-write-top : tie.Need-element-write-top
 element-write-top c = search needs
 
 hand-on-requires : tie.Need-hand-on-requires
-hand-on-requires c κs = let s = c .before .before .before .before .before in s .pre .0
+hand-on-requires c κs =
+    let free = c .before .before .before in
+    let s = free .before .before in
+    s .pre .0
 
 returns-2 : tie.Need-returns-2
 returns-2 c =
-    let free = c .before .before .before .before in
+    let lent = c .before .before .before in
+    let free = lent .before in
     let s = free .before .before in
     let m = s .args .m in
     let x = s .args .row .now in
     let k = free .first-free .result in
     let f = subst (λ (y : List ℕ). FirstFree y m k) (s .pre .2) (free .first-free .ensures) in
     (λ i. opened fate.Splits (set (s .pre .2 i) k 2) (set (s .pre .2 i) k 1) (c .hand-on .ensures i))
-    ∙ sym (branch-splits (marksIn m x) m k (s .pre .1) (marks-size m x) f _ (omega (arith, f .most, c .before .before .before .if1 .left)))
+    ∙ sym (branch-splits (marksIn m x) m k (s .pre .1) (marks-size m x) f _ (omega (arith, f .most, lent .if1 .left)))
 
 pub split-spec : {M : Type 1} → statement M
 split-spec =

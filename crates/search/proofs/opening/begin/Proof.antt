@@ -27,7 +27,8 @@ put-carried-requires c κs = search needs
 
 returns : tie.Need-returns
 returns c =
-    let stored = c .before .before .before .before in
+    let lent = c .before .before .before in
+    let stored = lent .before in
     let at-marks2 = stored .before in
     let padded = at-marks2 .before .before .before in
     let trimmed = padded .before in

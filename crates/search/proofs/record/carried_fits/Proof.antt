@@ -63,7 +63,8 @@ told c =
 returns : tie.Need-returns Inv-loop μ-loop
 returns c =
     let fits = c .before in
-    let at = fits .before .before .before .before in
+    let got = fits .before .before in
+    let at = got .before .before in
     λ t. true≢false (sym (t (at .loop .p) (omega arith)) ∙ sym (told fits) ∙ not-true _ (c .if1 .taken))
 
 add-p : tie.Need-add-p Inv-loop μ-loop
@@ -75,7 +76,8 @@ loop-less c = search needs
 loop-again : tie.Need-loop-again Inv-loop μ-loop
 loop-again c =
     let fits = c .before in
-    let at = fits .before .before .before .before in
+    let got = fits .before .before in
+    let at = got .before .before in
     (at .loop .inv .0, below-more _ _ (at .loop .inv .1) (sym (told fits) ∙ not-false _ (c .if1 .left)))
 
 returns-2 : tie.Need-returns-2 Inv-loop μ-loop

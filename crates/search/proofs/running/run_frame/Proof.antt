@@ -138,9 +138,9 @@ came c = let o = c .«open» in opened (o .result) (o .last .1 .1 .1 .1 .0) (o .
 -- where the node's multipliers are read, and its marks, from where it is opened
 abbrev numbers : tie.After-open Inv-loop μ-loop → tie.After-get-carried Inv-loop μ-loop
 numbers c =
-    let arguments = c .before .before .before .before in
+    let arguments = c .before .before .before in
     let ends = arguments .before .before .before in
-    ends .before .before
+    ends .before .before .before
 
 abbrev read : tie.After-open Inv-loop μ-loop → tie.After-get Inv-loop μ-loop
 read c = marked (numbers c)

@@ -11,7 +11,7 @@ use Rattle.lists.specs.Fill.{fill}
 use Rattle.graph.specs.declared.Graph.{Graph}
 use Rattle.graph.specs.Limits.{maxSweeps, maxStep}
 use Rattle.graph.specs.Valid.{valid}
-use Rattle.tree_theory.specs.Inputs.{multipliersFit, ceilingFits}
+use Rattle.tree_theory.specs.Inputs.{multipliersFit, ceilingFits, denominatorFault}
 use Rattle.machine.specs.Machine.{Opening, noSearch}
 use Rattle.machine.specs.Calls.{opens, run, refused, accepted, runs, tells, step}
 use Rattle.machine.specs.Calls as machine
@@ -42,13 +42,15 @@ finishes o budget = countOf (step (step noSearch (opens o) .state) (run budget) 
 -- ---- all pairs
 
 -- "the arguments of opening .., with up to 16 pairs of sweeps and step instead of one": the opening of the pair at place i, counted from 0
-abbrev pub pairOpening : Graph → List ℤ → ℤ → List ℕ → List ℕ → ℕ → Opening
-pairOpening g d ceiling sweeps steps i = openingOf g d (record { ceiling = ceiling; sweeps = getD sweeps i 0; step = getD steps i 0 })
+abbrev pub pairOpening : Graph → List ℤ → ℤ → ℕ → List ℕ → List ℕ → ℕ → Opening
+pairOpening g d ceiling q sweeps steps i =
+    openingOf g d (record { ceiling = ceiling; sweeps = getD sweeps i 0; step = getD steps i 0; denominator = q })
 
 -- "an allowance that each pair has in full"; one entry a pair
 unfoldable pub counts : Graph → List ℤ → Terms → List ℕ → List ℕ → List ℕ
 unfolding finishes
-counts g d terms sweeps steps = fill (length sweeps) (λ i. finishes (pairOpening g d (terms .ceiling) sweeps steps i) (terms .budget))
+counts g d terms sweeps steps =
+    fill (length sweeps) (λ i. finishes (pairOpening g d (terms .ceiling) (terms .denominator) sweeps steps i) (terms .budget))
 
 -- ---- refusals
 
@@ -61,16 +63,16 @@ unfoldable pub settingsFit : List ℕ → List ℕ → Bool
 unfolding everyOf
 settingsFit sweeps steps = everyOf (λ x. leb x maxSweeps) sweeps && everyOf (λ x. leb x maxStep) steps
 
--- the numbers of an opening, in its order
-unfoldable pub compareFault : Graph → List ℤ → ℤ → List ℕ → List ℕ → ℕ → ℕ
-unfolding valid multipliersFit ceilingFits settingsFit
-compareFault g d ceiling sweeps steps report =
+-- the numbers of an opening, in its order, 32 too (C-17)
+unfoldable pub compareFault : Graph → List ℤ → ℤ → ℕ → List ℕ → List ℕ → ℕ → ℕ
+unfolding valid multipliersFit ceilingFits settingsFit denominatorFault
+compareFault g d ceiling q sweeps steps report =
     cond (not (valid g)) 15
     (cond (not (eqb (length d) (g .n) && pairsFit (length sweeps) (length steps) report)) 11
     (cond (not (multipliersFit d)) 12
     (cond (not (ceilingFits ceiling)) 13
     (cond (not (settingsFit sweeps steps)) 14
-    0))))
+    (denominatorFault q)))))
 
 -- ---- the answer, and the report as it is left
 
@@ -80,7 +82,7 @@ answerBy (suc f) = Refused (suc f) 0
 
 unfoldable pub compareReply : Graph → List ℤ → Terms → List ℕ → List ℕ → ℕ → Answer
 unfolding compareFault
-compareReply g d terms sweeps steps report = answerBy (compareFault g d (terms .ceiling) sweeps steps report)
+compareReply g d terms sweeps steps report = answerBy (compareFault g d (terms .ceiling) (terms .denominator) sweeps steps report)
 
 abbrev pub leftBy : ℕ → List ℕ → List ℕ → List ℕ
 leftBy zero made report = made
@@ -89,4 +91,4 @@ leftBy (suc f) made report = report
 unfoldable pub compareLeaves : Graph → List ℤ → Terms → List ℕ → List ℕ → List ℕ → List ℕ
 unfolding compareFault counts
 compareLeaves g d terms sweeps steps report =
-    leftBy (compareFault g d (terms .ceiling) sweeps steps (length report)) (counts g d terms sweeps steps) report
+    leftBy (compareFault g d (terms .ceiling) (terms .denominator) sweeps steps (length report)) (counts g d terms sweeps steps) report

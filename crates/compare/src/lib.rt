@@ -23,6 +23,7 @@ pub const MAX_PAIRS: usize = 16;
 pub struct Terms {
     pub ceiling: i64,
     pub budget: u64,
+    pub denominator: u64,
 }
 
 // Is every number of the list at most the limit?
@@ -60,11 +61,12 @@ fn fault(
     g: Graph,
     multipliers: &[i32],
     ceiling: i64,
+    denominator: u64,
     sweeps: &[u32],
     steps: &[u32],
     report: usize,
 ) -> u32
-    ensures { λ r. ⌜ r ≡ compareFault g (now (multipliers .entry)) ceiling (now (sweeps .entry)) (now (steps .entry)) report ⌝ }
+    ensures { λ r. ⌜ r ≡ compareFault g (now (multipliers .entry)) ceiling denominator (now (sweeps .entry)) (now (steps .entry)) report ⌝ }
 {
     if !graph::check(g) {
         return 15;
@@ -87,7 +89,7 @@ fn fault(
     if !all_at_most(steps, MAX_STEP) {
         return 14;
     }
-    0
+    onetree::denominator_fault(denominator)
 }
 
 // The count of a run that finished; 0 of any other answer.
@@ -135,6 +137,7 @@ fn count_all(
             ceiling: terms.ceiling,
             sweeps: sweeps[i],
             step: steps[i],
+            denominator: terms.denominator,
         };
         report[i] = count(g, multipliers, settings, terms.budget);
         i = i + 1;
@@ -154,7 +157,15 @@ pub fn compare(
     ensures { λ r. ⌜ (r ≡ compareReply g (now (multipliers .entry)) terms (now (sweeps .entry)) (now (steps .entry)) (length (now (report .entry))))
         × (now (report .exit) ≡ compareLeaves g (now (multipliers .entry)) terms (now (sweeps .entry)) (now (steps .entry)) (now (report .entry))) ⌝ }
 {
-    let number = fault(g, multipliers, terms.ceiling, sweeps, steps, report.len());
+    let number = fault(
+        g,
+        multipliers,
+        terms.ceiling,
+        terms.denominator,
+        sweeps,
+        steps,
+        report.len(),
+    );
     if number != 0 {
         return Answer::Refused(number, 0);
     }

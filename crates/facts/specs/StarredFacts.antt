@@ -13,7 +13,7 @@ use Rattle.graph.specs.declared.Graph.{Graph}
 use Rattle.graph.specs.Limits.{maxEdges}
 use Rattle.graph.specs.Network.{markOf, network}
 use Rattle.graph.specs.Valid.{valid, edgesOk, edgeOk, endsOk, pairMet}
-use Rattle.tree_theory.specs.Inputs.{multipliersFit, ceilingFits}
+use Rattle.tree_theory.specs.Inputs.{multipliersFit, ceilingFits, denominatorFault, denominatorFits}
 use Rattle.tree_theory.specs.Enumeration.{edgeSets, leastTree, ruling}
 use Rattle.onetree.specs.Answers.{Reply, bounded, treeReply, treeLeaves, ruleReply, ruleLeaves}
 use Rattle.onetree.specs.Answers as tree
@@ -53,19 +53,19 @@ unfolding row
 nines g = row (g .m) (λ k. 9)
 
 unfoldable pub treeCall : Graph → List ℤ → Reply × List ℕ
-unfolding treeReply treeLeaves nines valid edgesOk edgeOk endsOk pairMet within multipliersFit leastTree network markOf
-treeCall g d = (treeReply g d (g .m), treeLeaves g d (nines g))
+unfolding treeReply treeLeaves nines valid edgesOk edgeOk endsOk pairMet within multipliersFit denominatorFault denominatorFits leastTree network markOf
+treeCall g d = (treeReply g d 1 (g .m), treeLeaves g d 1 (nines g))
 
 unfoldable pub ruleCall : Graph → List ℤ → ℤ → Reply × List ℕ
-unfolding ruleReply ruleLeaves nines valid edgesOk edgeOk endsOk pairMet within multipliersFit ceilingFits leastTree ruling network markOf
-ruleCall g d ceiling = (ruleReply g d ceiling (g .m), ruleLeaves g d ceiling (nines g))
+unfolding ruleReply ruleLeaves nines valid edgesOk edgeOk endsOk pairMet within multipliersFit ceilingFits denominatorFault denominatorFits leastTree ruling network markOf
+ruleCall g d ceiling = (ruleReply g d ceiling 1 (g .m), ruleLeaves g d ceiling 1 (nines g))
 
 -- opening with no sweeps, a run, tell
 unfoldable pub searchCalls : Graph → List ℤ → ℤ → List Answer
-unfolding answers valid edgesOk edgeOk endsOk pairMet within multipliersFit ceilingFits network markOf
+unfolding answers valid edgesOk edgeOk endsOk pairMet within multipliersFit ceilingFits denominatorFault denominatorFits network markOf
 searchCalls g d ceiling =
     answers noSearch
-    (opens (record { graph = g; multipliers = d; settings = record { ceiling = ceiling; sweeps = 0; step = 0 } }) ∷ run 100 ∷ tell ∷ [])
+    (opens (record { graph = g; multipliers = d; settings = record { ceiling = ceiling; sweeps = 0; step = 0; denominator = 1 } }) ∷ run 100 ∷ tell ∷ [])
 
 -- ---- the four-buoy sea
 

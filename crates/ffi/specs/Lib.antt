@@ -4,3 +4,4 @@ pub mod Searches
 pub mod Demand3
 -- It holds.
 pub mod Theorem
+pub mod CompareAtOne

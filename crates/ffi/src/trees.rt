@@ -1,4 +1,5 @@
-// The tree call, the preview and the rule call: 0 and the bound as the value; or 1,000, 'no tree' or 'dead'; or a refusal.
+// The tree call, the preview and the rule call: 0 and the bound as the value, in parts of a minute by the denominator; or 1,000, 'no tree' or 'dead'; or a
+// refusal.
 ghost use mathlib.Core.Path.{_≡_};
 ghost use lib.ListN.{length};
 ghost use Rattle.onetree.specs.Answers.{treeReply, treeLeaves, ruleReply, ruleLeaves};
@@ -24,14 +25,19 @@ fn bound(value: i64) -> Said
 
 // Ruled out: a bound with 'no tree'; 0 for another 1-tree than the least.
 #[no_mangle]
-pub extern "C" fn planner_tree(g: Graph, multipliers: &[i32], out: &mut [u8]) -> Said
+pub extern "C" fn planner_tree(
+    g: Graph,
+    multipliers: &[i32],
+    denominator: u64,
+    out: &mut [u8],
+) -> Said
     ensures { λ r.
         ⌜
-        (r ≡ saidReply (treeReply g (now (multipliers .entry)) (length (now (out .entry)))))
-        × (now (out .exit) ≡ treeLeaves g (now (multipliers .entry)) (now (out .entry)))
+        (r ≡ saidReply (treeReply g (now (multipliers .entry)) denominator (length (now (out .entry)))))
+        × (now (out .exit) ≡ treeLeaves g (now (multipliers .entry)) denominator (now (out .entry)))
         ⌝ }
 {
-    let answer = onetree::tree(g, multipliers, out);
+    let answer = onetree::tree(g, multipliers, denominator, out);
     match answer {
         TreeAnswer::Bound(value) => bound(value),
         TreeAnswer::NoTree => plain(NONE, 0),
@@ -44,17 +50,18 @@ pub extern "C" fn planner_tree(g: Graph, multipliers: &[i32], out: &mut [u8]) ->
 pub extern "C" fn planner_preview(
     g: Graph,
     multipliers: &[i32],
+    denominator: u64,
     edge: usize,
     mark: u32,
     out: &mut [u8],
 ) -> Said
     ensures { λ r.
         ⌜
-        (r ≡ saidReply (previewReply g (now (multipliers .entry)) edge mark (length (now (out .entry)))))
-        × (now (out .exit) ≡ previewLeaves g (now (multipliers .entry)) edge mark (now (out .entry)))
+        (r ≡ saidReply (previewReply g (now (multipliers .entry)) denominator edge mark (length (now (out .entry)))))
+        × (now (out .exit) ≡ previewLeaves g (now (multipliers .entry)) denominator edge mark (now (out .entry)))
         ⌝ }
 {
-    let answer = preview::preview(g, multipliers, edge, mark, out);
+    let answer = preview::preview(g, multipliers, denominator, edge, mark, out);
     match answer {
         TreeAnswer::Bound(value) => bound(value),
         TreeAnswer::NoTree => plain(NONE, 0),
@@ -64,14 +71,20 @@ pub extern "C" fn planner_preview(
 
 // Ruled out: a ruling written where no 1-tree is within the ceiling; 0 for a ceiling out of range.
 #[no_mangle]
-pub extern "C" fn planner_rule(g: Graph, multipliers: &[i32], ceiling: i64, out: &mut [u8]) -> Said
+pub extern "C" fn planner_rule(
+    g: Graph,
+    multipliers: &[i32],
+    ceiling: i64,
+    denominator: u64,
+    out: &mut [u8],
+) -> Said
     ensures { λ r.
         ⌜
-        (r ≡ saidReply (ruleReply g (now (multipliers .entry)) ceiling (length (now (out .entry)))))
-        × (now (out .exit) ≡ ruleLeaves g (now (multipliers .entry)) ceiling (now (out .entry)))
+        (r ≡ saidReply (ruleReply g (now (multipliers .entry)) ceiling denominator (length (now (out .entry)))))
+        × (now (out .exit) ≡ ruleLeaves g (now (multipliers .entry)) ceiling denominator (now (out .entry)))
         ⌝ }
 {
-    let answer = onetree::rule(g, multipliers, ceiling, out);
+    let answer = onetree::rule(g, multipliers, ceiling, denominator, out);
     match answer {
         RuleAnswer::Bound(value) => bound(value),
         RuleAnswer::Infeasible => plain(NONE, 0),

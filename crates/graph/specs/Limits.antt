@@ -35,6 +35,10 @@ maxSweeps = 15
 abbrev pub maxStep : ℕ
 maxStep = 10000
 
+-- document 02, C-17: "a denominator q, 1 to 1,000"
+abbrev pub maxDenominator : ℕ
+maxDenominator = 1000
+
 -- "record count r (u16, at most 1,000)"
 abbrev pub maxRecords : ℕ
 maxRecords = 1000

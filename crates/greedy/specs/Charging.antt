@@ -16,6 +16,7 @@ use Rattle.lists.specs.Weights.{weight}
 use Rattle.integers.specs.Parts.{IsDiff, up, dn, one-side, add-parts, add-up, abs-parts, diff-one, diff-add}
 use Rattle.integers.specs.Range.{InRange, within-range}
 use Rattle.integers.specs.Sums.{sumZ, twice}
+use Rattle.integers.specs.Multiples.{_times_}
 use Rattle.graph.specs.declared.Graph.{Graph}
 use Rattle.graph.specs.Limits.{maxCost, maxMultiplier}
 use Rattle.graph.specs.Network.{network}
@@ -23,10 +24,12 @@ use Rattle.graph.specs.Places.{network-a, network-b, network-cost}
 use Rattle.graph.specs.Valid as value
 use Rattle.tree_theory.specs.OneTree.{OneTree, charge, bound}
 use Rattle.tree_theory.specs.Inputs.{multiplier}
+use Rattle.tree_theory.specs.Scaled.{scaledBy}
+use Rattle.tree_theory.specs.Scaling.{valid-scaled}
 use Rattle.tree_theory.specs.Optimal.Link.{to-parts}
 use Rattle.tree_theory.specs.Optimal.Bound.{bound-diff}
 use Rattle.tree_theory.specs.Arrays.{entry, bytes, network-valid}
-use Rattle.greedy.specs.Charged.{offset, maxCharge, Charged, offs}
+use Rattle.greedy.specs.Charged.{offset, maxScaled, maxCharge, Charged, offs}
 
 -- ---- a number of a range, moved up by the range's limit, is not negative
 
@@ -42,7 +45,7 @@ module _ (limit : ℕ) (x : ℤ) (h : InRange limit x) where
 
 -- ---- the array of charges
 
-pub raise-three : (x y z : ℤ) (a b c : ℕ) → IsDiff x a maxCost → IsDiff y b maxMultiplier → IsDiff z c maxMultiplier
+pub raise-three : (x y z : ℤ) (a b c : ℕ) → IsDiff x a maxScaled → IsDiff y b maxMultiplier → IsDiff z c maxMultiplier
     → IsDiff ((x +ℤ y) +ℤ z) (a + b + c + 1) offset
 raise-three x y z a b c h k l = omega (arith, add-parts x y, add-parts (x +ℤ y) z)
 
@@ -50,27 +53,27 @@ raise-three x y z a b c h k l = omega (arith, add-parts x y, add-parts (x +ℤ y
 abbrev pub Chargeable : ℕ → ℕ → ℕ → ℤ → Type 0
 Chargeable n a b cost = (1 ≤ a) × (a ≤ n) × (1 ≤ b) × (b ≤ n) × InRange maxCost cost
 
--- x is the charge at ends a, b
-abbrev pub ChargeOf : ℕ → ℕ → ℤ → List ℤ → ℕ → Type 0
-ChargeOf a b cost d x = IsDiff ((cost +ℤ multiplier d a) +ℤ multiplier d b) x offset × (1 ≤ x) × (x ≤ maxCharge)
+-- x is the charge at ends a, b where multipliers count in q-ths
+abbrev pub ChargeOf : ℕ → ℕ → ℕ → ℤ → List ℤ → ℕ → Type 0
+ChargeOf q a b cost d x = IsDiff ((q times cost +ℤ multiplier d a) +ℤ multiplier d b) x offset × (1 ≤ x) × (x ≤ maxCharge)
 
 -- the first n places of c have the charges of the edges with those ends and costs
-abbrev pub ChargesOf : List ℕ → List ℕ → List ℤ → List ℤ → List ℕ → ℕ → Type 0
-ChargesOf a b cost d c n = (k : ℕ) → k < n → ChargeOf (getD a k 0) (getD b k 0) (getD cost k (pos 0)) d (getD c k 0)
+abbrev pub ChargesOf : ℕ → List ℕ → List ℕ → List ℤ → List ℤ → List ℕ → ℕ → Type 0
+ChargesOf q a b cost d c n = (k : ℕ) → k < n → ChargeOf q (getD a k 0) (getD b k 0) (getD cost k (pos 0)) d (getD c k 0)
 
 -- one more place
-pub charges-more : (a b : List ℕ) (cost d : List ℤ) (c : List ℕ) (n x : ℕ) → n < length c → ChargesOf a b cost d c n
-    → ChargeOf (getD a n 0) (getD b n 0) (getD cost n (pos 0)) d x → ChargesOf a b cost d (set c n x) (n + 1)
-charges-more a b cost d c n x room t new k l = at (ℕ-discrete k n)
+pub charges-more : (q : ℕ) (a b : List ℕ) (cost d : List ℤ) (c : List ℕ) (n x : ℕ) → n < length c → ChargesOf q a b cost d c n
+    → ChargeOf q (getD a n 0) (getD b n 0) (getD cost n (pos 0)) d x → ChargesOf q a b cost d (set c n x) (n + 1)
+charges-more q a b cost d c n x room t new k l = at (ℕ-discrete k n)
   where
-    at : Dec (k ≡ n) → ChargeOf (getD a k 0) (getD b k 0) (getD cost k (pos 0)) d (getD (set c n x) k 0)
+    at : Dec (k ≡ n) → ChargeOf q (getD a k 0) (getD b k 0) (getD cost k (pos 0)) d (getD (set c n x) k 0)
     at (yes e) = rw (e, getD-set-same c n x 0 room) new
     at (no e) = rw (getD-set-other c n k x 0 e) (t k (omega arith))
 
 -- of a graph's edges
-pub charged-of : (g : Graph) (d : List ℤ) (c : List ℕ) → ChargesOf (g .a) (g .b) (g .cost) d c (g .m) → Charged g d c
+pub charged-of : (q : ℕ) (g : Graph) (d : List ℤ) (c : List ℕ) → ChargesOf q (g .a) (g .b) (g .cost) d c (g .m) → Charged q g d c
 unfolding charge
-charged-of g d c t k h =
+charged-of q g d c t k h =
     let x = t k h in
     record { is = rw (network-a g k h, network-b g k h, network-cost g k h) (x .0); low = x .1; high = x .2 }
 
@@ -97,14 +100,15 @@ raised-more d k x s h r l = rw add-one (omega (arith, add-parts (getD d k (pos 0
 
 -- ---- the bound
 
-pub bound-is : (g : Graph) → value.Valid g → (d : List ℤ) (c w : List ℕ) (b : ℤ) (sum t : ℕ) → Charged g d c → OneTree (network g) (bytes w)
+pub bound-is : (q : ℕ) (g : Graph) → value.Valid g → (d : List ℤ) (c w : List ℕ) (b : ℤ) (sum t : ℕ) → Charged q g d c
+    → OneTree (scaledBy q (network g)) (bytes w)
     → sum ≡ weight (entry c) (select (bytes w) (upTo (g .m))) → Raised d (g .n) t
-    → IsDiff b sum (2 * t + (maxCost + 1) * g .n) → b ≡ bound (network g) (multiplier d) (bytes w)
+    → IsDiff b sum (2 * t + (maxScaled + 1) * g .n) → b ≡ bound (scaledBy q (network g)) (multiplier d) (bytes w)
 unfolding network
-bound-is g v d c w b sum t ch o es et eb =
-    diff-one b (bound (network g) (multiplier d) (bytes w)) _ _ mine
-    (bound-diff (network g) (multiplier d) offset (entry c) (offs g d c ch) (bytes w)
-    (to-parts (network g) (network-valid g v) (bytes w) o))
+bound-is q g v d c w b sum t ch o es et eb =
+    diff-one b (bound (scaledBy q (network g)) (multiplier d) (bytes w)) _ _ mine
+    (bound-diff (scaledBy q (network g)) (multiplier d) offset (entry c) (offs q g d c ch) (bytes w)
+    (to-parts (scaledBy q (network g)) (valid-scaled q (network g) (network-valid g v)) (bytes w) o))
   where
     half : ℤ
     half = sumZ (multiplier d) (upTo (g .n))

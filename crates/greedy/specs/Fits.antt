@@ -1,20 +1,39 @@
--- Every number that code makes of costs, multipliers and ceilings fits its word, and 'there is none' is more than it is compared with. These
--- follow from the limits by computation; code whose sums and keys must fit cites them. Assumes nothing.
+-- Every number that code makes of costs, multipliers, ceilings and a denominator fits its word, and 'there is none' is more than it is compared
+-- with, for every denominator. These follow from the limits; code whose sums and keys must fit cites them. Assumes nothing.
 use Prim.Native.Nat.{ℕ, _+_, _*_, _<_, _≤_}
 use native.Mathlib.Omega.{arith}
-use Rattle.graph.specs.Limits.{maxVertices, maxEdges, maxCost, maxMultiplier}
+use native.Mathlib.Nat.{mul-le-mul-right}
+use lib.IntN.{ℤ}
+use Rattle.integers.specs.Range.{InRange}
+use Rattle.integers.specs.Multiples.{_times_, times-range}
+use Rattle.graph.specs.Limits.{maxVertices, maxEdges, maxCost, maxMultiplier, maxCeiling, maxDenominator}
 use Rattle.greedy.specs.Keys.{farCharge, farKeys}
-use Rattle.greedy.specs.Charged.{maxCharge, highBound, lowBound, maxSlack, noCharge}
+use Rattle.greedy.specs.Charged.{maxScaled, maxScaledCeiling, maxCharge, highBound, lowBound, maxSlack, noCharge}
 
 -- words of 64 bits, unsigned and signed
 abbrev word : ℕ
 word = 18446744073709551616
 
-abbrev signedWord : ℕ
+abbrev pub signedWord : ℕ
 signedWord = 9223372036854775808
 
--- a cost or a multiplier, moved up by its limit, is still a signed number of 32 bits
-pub raised-cost-fits : 2 * maxCost < 2147483648
+-- q times a cost and q times a ceiling, for every q
+module _ (q : ℕ) (few : q ≤ maxDenominator) (z : ℤ) where
+  pub scaled-range : InRange maxCost z → InRange maxScaled (q times z)
+  scaled-range r =
+      let s = times-range q maxCost z r in
+      record { high = omega (arith, s .high, mul-le-mul-right maxCost few); low = omega (arith, s .low, mul-le-mul-right maxCost few) }
+
+  pub scaled-ceiling-range : InRange maxCeiling z → InRange maxScaledCeiling (q times z)
+  scaled-ceiling-range r =
+      let s = times-range q maxCeiling z r in
+      record { high = omega (arith, s .high, mul-le-mul-right maxCeiling few); low = omega (arith, s .low, mul-le-mul-right maxCeiling few) }
+
+pub scaled-ceiling-fits : maxScaledCeiling < signedWord
+scaled-ceiling-fits = omega arith
+
+-- a cost so multiplied, moved up by its limit, is still a signed number of 64 bits; a multiplier one of 32
+pub raised-cost-fits : 2 * maxScaled < signedWord
 raised-cost-fits = omega arith
 
 pub raised-fits : 2 * maxMultiplier < 2147483648

@@ -23,6 +23,8 @@ use Rattle.spanning.specs.Forests.{Forest, greedy, greedy-length}
 use Rattle.spanning.specs.Kruskal.{rank-all}
 use Rattle.tree_theory.specs.OneTree.{Edges, OneTree, Least}
 use Rattle.tree_theory.specs.Inputs.{multiplier}
+use Rattle.tree_theory.specs.Scaled.{scaledBy}
+use Rattle.tree_theory.specs.Scaling.{valid-scaled, tree-scaled, order-scaled, chosen-scaled}
 use Rattle.tree_theory.specs.Valid.{isExcluded, isNear, near, far, near-in, far-in}
 use Rattle.tree_theory.specs.Optimal.Link.{to-parts}
 use Rattle.tree_theory.specs.Optimal.Weight.{oneWeight}
@@ -178,11 +180,12 @@ module _ (g : Graph) (made : Choice g) where
       (made .first, queued-length (made .keys) (made .required))
 
   -- THE LEAST 1-TREE
-  pub found : (d : List ℤ) → Charged g d c → Whole g made → Least (network g) (multiplier d) (bytes w)
-  unfolding Forest
-  found d ch h =
-      chosen-least (network g) (multiplier d) offset (entry c) (offs g d c ch) (network-valid g v) _ _ _ _
-      (q₁ .ordered) (q₂ .ordered) (bytes w) chosen-split (bytes w) tree
+  pub found : (q : ℕ) (d : List ℤ) → Charged q g d c → Whole g made → Least (scaledBy q (network g)) (multiplier d) (bytes w)
+  unfolding Forest near far
+  found q d ch h =
+      chosen-least (scaledBy q (network g)) (multiplier d) offset (entry c) (offs q g d c ch) (valid-scaled q (network g) (network-valid g v))
+      _ _ _ _ (order-scaled q (network g) _ _ _ _ (q₁ .ordered)) (order-scaled q (network g) _ _ _ _ (q₂ .ordered)) (bytes w)
+      (chosen-scaled q (network g) _ _ (bytes w) chosen-split) (bytes w) (tree-scaled q (network g) (bytes w) .1 tree)
     where
       full : made .far + 2 ≡ network g .n
       full = h .1 ∙ sym (network-n g)
@@ -200,12 +203,13 @@ module _ (g : Graph) (made : Choice g) where
           (omega (arith, must₂ .0, must₂ .1, h .3))
 
   -- OR NONE AT ALL
-  pub missing : ¬ Whole g made → (t : Edges) → ¬ OneTree (network g) t
+  pub missing : (q : ℕ) → ¬ Whole g made → (t : Edges) → ¬ OneTree (scaledBy q (network g)) t
   unfolding Forest
-  missing never =
+  missing q never t o =
       chosen-none (network g) (oneWeight (network g .m) (entry c)) _ _ _ _
       (q₁ .ordered) (q₂ .ordered) (bytes w) chosen-split (network-valid g v)
       (λ o. never (enough o, spans o, omega (arith, must₁, must o .0), omega (arith, must₂ .0, must₂ .1, must o .1)))
+      t (tree-scaled q (network g) t .0 o)
     where
       enough : OneTree (network g) (bytes w) → 2 ≤ made .nearCount
       enough o =

@@ -26,6 +26,8 @@ use Rattle.spanning.specs.Connected.{rank-most, rank-inside}
 use Rattle.spanning.specs.Choice.{Listing}
 use Rattle.tree_theory.specs.OneTree.{Edges, others, away}
 use Rattle.tree_theory.specs.Inputs.{multiplier}
+use Rattle.tree_theory.specs.Scaled.{scaledBy}
+use Rattle.tree_theory.specs.Scaling.{valid-scaled}
 use Rattle.tree_theory.specs.Valid.{isFree, isRequired, needed, isNear, far, far-in, in-far, far-within, in-others, distinct-others, length-others, free-not, free-is, required-not}
 use Rattle.tree_theory.specs.Arrays.{network-n, needed-at, network-valid}
 use Rattle.tree_theory.specs.Looked.{requiredAmong, freeAmong, Before, Sorted, InOrder, Looked}
@@ -143,9 +145,13 @@ module _ (g : Graph) (c ks : List ℕ) (f : ℕ) (o : InKeyOrder g (farAt (g .a)
 
   -- ---- at how many free edges it looked
 
-  module _ (r : ℕ) (s : Small ks f r) (d : List ℤ) (ch : Charged g d c) where
+  module _ (r : ℕ) (s : Small ks f r) (den : ℕ) (d : List ℤ) (ch : Charged den g d c) where
+    -- with the costs that charges are made of
+    abbrev H : Network
+    H = scaledBy den G
+
     -- of two turns after the required edges the edge of the first comes before the other's
-    before : (i j : ℕ) → r ≤ i → i < j → j < f → Before G (multiplier d) (turned ks i) (turned ks j)
+    before : (i j : ℕ) → r ≤ i → i < j → j < f → Before H (multiplier d) (turned ks i) (turned ks j)
     before i j a b h = rw (x .3, y .3) (go (decLe (suc (getD c k 0)) (getD c l 0)))
       where
         at-turn : (t : ℕ) → t < f → (k : ℕ) × (k < g .m) × (getD (g .mark) k 0 ≢ 2) × (getD ks t 0 % 256 ≡ k) × (farAt (g .a) k ≡ true)
@@ -186,7 +192,7 @@ module _ (g : Graph) (c ks : List ℕ) (f : ℕ) (o : InKeyOrder g (farAt (g .a)
             at (yes e) = absurd (let z : i ≡ j = o .keyed .once i j (omega arith) h e in omega arith)
             at (no e) = omega (arith, o .ascending i j b h)
 
-        go : Dec (getD c k 0 < getD c l 0) → Before G (multiplier d) (suc k) (suc l)
+        go : Dec (getD c k 0 < getD c l 0) → Before H (multiplier d) (suc k) (suc l)
         go (yes e) = inl (diff-lt _ _ _ _ _ _ (ch k (x .1) .is) (ch l (y .1) .is) .1 (omega arith))
         go (no e) =
             let same : getD c k 0 ≡ getD c l 0 = omega (arith, key-x, key-y, apart, x .1, y .1, v .few) in
@@ -195,7 +201,7 @@ module _ (g : Graph) (c ks : List ℕ) (f : ℕ) (o : InKeyOrder g (farAt (g .a)
               omega (arith, key-x, key-y, apart, x .1, y .1, v .few),
             )
 
-    sorted : (i n : ℕ) → r ≤ i → i + n ≤ f → Sorted G (multiplier d) (ahead ks i n)
+    sorted : (i n : ℕ) → r ≤ i → i + n ≤ f → Sorted H (multiplier d) (ahead ks i n)
     unfolding ahead
     sorted i zero a b = tt
     sorted i (suc n) a b = (
@@ -205,22 +211,22 @@ module _ (g : Graph) (c ks : List ℕ) (f : ℕ) (o : InKeyOrder g (farAt (g .a)
     )
 
     -- the required edges are those of the first turns
-    first-required : (e : ℕ) → e ∈ queued ks r → e ∈ requiredAmong G
+    first-required : (e : ℕ) → e ∈ queued ks r → e ∈ requiredAmong H
     first-required e m =
         let p = of-far g c ks f o r s e m in
         let i = far-in G e (p .0) in
-        in-away G (λ k. isRequired (G .mark k)) e (i .0) (p .1) (i .1)
+        in-away H (λ k. isRequired (G .mark k)) e (i .0) (p .1) (i .1)
 
-    required-first-in : (e : ℕ) → e ∈ requiredAmong G → e ∈ queued ks r
+    required-first-in : (e : ℕ) → e ∈ requiredAmong H → e ∈ queued ks r
     required-first-in e m =
-        let i = away-in G (λ k. isRequired (G .mark k)) e m in
+        let i = away-in H (λ k. isRequired (G .mark k)) e m in
         rw (required-first g (farAt (g .a)) c ks f o r s) at
         (in-select (needed G) (queued ks f) e
         (listing .there e (in-far G e (i .0) (i .2) (required-not (G .mark e) (i .1)))) (i .1))
 
-    ordered : InOrder G (multiplier d) (ahead ks r (f - r))
+    ordered : InOrder H (multiplier d) (ahead ks r (f - r))
     ordered = record {
-      all = λ e m. to e (away-in G (λ k. isFree (G .mark k)) e m);
+      all = λ e m. to e (away-in H (λ k. isFree (G .mark k)) e m);
       only = λ e m. of e (ahead-in ks r (f - r) e m);
       sorted = sorted r (f - r) (omega arith) (omega (arith, s .0));
     }
@@ -237,42 +243,42 @@ module _ (g : Graph) (c ks : List ℕ) (f : ℕ) (o : InKeyOrder g (farAt (g .a)
                     (sym (subst (λ (x : ℕ). needed G x ≡ true) (sym (p .2)) (on g (farAt (g .a)) c ks f o r s (p .0) (omega arith)))
                     ∙ free-not (G .mark e) (i .1) .0))
 
-        of : (e : ℕ) → (j : ℕ) × (r ≤ j) × (j < r + (f - r)) × (e ≡ turned ks j) → e ∈ freeAmong G
+        of : (e : ℕ) → (j : ℕ) × (r ≤ j) × (j < r + (f - r)) × (e ≡ turned ks j) → e ∈ freeAmong H
         of e p =
             let h : p .0 < f = omega (arith, p .2, s .0) in
             let i = far-in G (turned ks (p .0)) (turn-far (p .0) h) in
-            rw (p .3) (in-away G (λ k. isFree (G .mark k)) (turned ks (p .0)) (i .0)
+            rw (p .3) (in-away H (λ k. isFree (G .mark k)) (turned ks (p .0)) (i .0)
             (free-is (G .mark (turned ks (p .0))) (off g (farAt (g .a)) c ks f o r s (p .0) (p .1) h) (i .2)) (i .1))
 
     -- what the first q free edges and the required ones connect, the first r + q turns do
-    same : (q : ℕ) → q ≤ f - r → rankAt G (network-valid g v) (ahead ks r (f - r)) q ≡ rank (G .a) (G .b) (queued ks (r + q))
-    same q h = rw (ahead-take ks r q (f - r) h) (same-rank (G .a) (G .b) (ahead ks r q ++ requiredAmong G) (queued ks (r + q)) there back)
+    same : (q : ℕ) → q ≤ f - r → rankAt H (valid-scaled den G (network-valid g v)) (ahead ks r (f - r)) q ≡ rank (G .a) (G .b) (queued ks (r + q))
+    same q h = rw (ahead-take ks r q (f - r) h) (same-rank (G .a) (G .b) (ahead ks r q ++ requiredAmong H) (queued ks (r + q)) there back)
       where
-        there : (e : ℕ) → e ∈ (ahead ks r q ++ requiredAmong G) → e ∈ queued ks (r + q)
-        there e m = at (in-either e (ahead ks r q) (requiredAmong G) m)
+        there : (e : ℕ) → e ∈ (ahead ks r q ++ requiredAmong H) → e ∈ queued ks (r + q)
+        there e m = at (in-either e (ahead ks r q) (requiredAmong H) m)
           where
-            at : (e ∈ ahead ks r q) ⊎ (e ∈ requiredAmong G) → e ∈ queued ks (r + q)
+            at : (e ∈ ahead ks r q) ⊎ (e ∈ requiredAmong H) → e ∈ queued ks (r + q)
             at (inl i) = let p = ahead-in ks r q e i in rw (p .3) (in-queued ks (r + q) (p .0) (p .2))
             at (inr i) =
                 let p = queued-in ks r e (required-first-in e i) in
                 rw (p .2) (in-queued ks (r + q) (p .0) (omega (arith, p .1)))
 
-        back : (e : ℕ) → e ∈ queued ks (r + q) → e ∈ (ahead ks r q ++ requiredAmong G)
+        back : (e : ℕ) → e ∈ queued ks (r + q) → e ∈ (ahead ks r q ++ requiredAmong H)
         back e m = at (queued-in ks (r + q) e m)
           where
-            at : (j : ℕ) × (j < r + q) × (e ≡ turned ks j) → e ∈ (ahead ks r q ++ requiredAmong G)
+            at : (j : ℕ) × (j < r + q) × (e ≡ turned ks j) → e ∈ (ahead ks r q ++ requiredAmong H)
             at p = go (decLe r (p .0))
               where
-                go : Dec (r ≤ p .0) → e ∈ (ahead ks r q ++ requiredAmong G)
-                go (yes l) = in-left e (ahead ks r q) (requiredAmong G) (rw (p .2) (in-ahead ks r q (p .0) l (p .1)))
-                go (no l) = in-right e (ahead ks r q) (requiredAmong G)
+                go : Dec (r ≤ p .0) → e ∈ (ahead ks r q ++ requiredAmong H)
+                go (yes l) = in-left e (ahead ks r q) (requiredAmong H) (rw (p .2) (in-ahead ks r q (p .0) l (p .1)))
+                go (no l) = in-right e (ahead ks r q) (requiredAmong H)
                     (first-required e (rw (p .2) (in-queued ks r (p .0) (omega arith))))
 
     -- THE SHORTEST BEGINNING, OR ALL
     pub looked : (i : ℕ) → r ≤ i → i ≤ f → Lacking G ks (g .n - 2) r i → (i < f → g .n ≤ rank (G .a) (G .b) (queued ks i) + 2)
-        → Looked G (multiplier d) (i - r)
+        → Looked H (multiplier d) (i - r)
     looked i a b short full =
-        looked-by-rank G (network-valid g v) (multiplier d) (ahead ks r (f - r)) ordered (i - r)
+        looked-by-rank H (valid-scaled den G (network-valid g v)) (multiplier d) (ahead ks r (f - r)) ordered (i - r)
         (omega (arith, ahead-length ks r (f - r)))
         (λ q l. omega (arith, same q (omega arith), short (r + q) (omega arith) (omega arith), network-n g, v .low))
         (λ l.
@@ -292,8 +298,9 @@ module _ (g : Graph) (c ks : List ℕ) (f : ℕ) (o : InKeyOrder g (farAt (g .a)
 -- free edges as document 02 says
 abbrev pub LooksAsSaid : List ℕ → List ℕ → List ℕ → List ℕ → ℕ → ℕ → ℕ → ℕ → Type 0
 LooksAsSaid a b c ks f enough from i =
-    (n m : ℕ) (cost : List ℤ) (mark : List ℕ) (d : List ℤ) → let g = graphOf n m a b cost mark in
-    InKeyOrder g (farAt a) c ks f → Small ks f from → Charged g d c → n ≡ enough + 2 → Looked (network g) (multiplier d) (i - from)
+    (den n m : ℕ) (cost : List ℤ) (mark : List ℕ) (d : List ℤ) → let g = graphOf n m a b cost mark in
+    InKeyOrder g (farAt a) c ks f → Small ks f from → Charged den g d c → n ≡ enough + 2
+    → Looked (scaledBy den (network g)) (multiplier d) (i - from)
 
 -- the ends of the edges looked at, in the network
 pub reads : (g : Graph) (kind : Kind) (c ks : List ℕ) (f : ℕ) → InKeyOrder g kind c ks f → Reads (network g) (g .a) (g .b) ks f
@@ -305,9 +312,9 @@ reads g kind c ks f o i h =
 pub looks-as-said : (a b c ks : List ℕ) (f enough from i : ℕ) (l w : List ℕ) (far sum : ℕ) → from ≤ i → i ≤ f
     → ChoiceByEnds a b c ks f i l w far sum → LackingByEnds a b ks f enough from i → (i < f → enough ≤ far)
     → LooksAsSaid a b c ks f enough from i
-looks-as-said a b c ks f enough from i l w far sum lo hi choice lacking full n m cost mark d o s ch e =
+looks-as-said a b c ks f enough from i l w far sum lo hi choice lacking full den n m cost mark d o s ch e =
     let g = graphOf n m a b cost mark in
     let ends = reads g (farAt a) c ks f o in
-    looked g c ks f o from s d ch i lo hi
+    looked g c ks f o from s den d ch i lo hi
     (λ q x y. omega (arith, lacking (network g) ends q x y))
     (λ h. omega (arith, full h, choice (network g) ends .grew .joined))

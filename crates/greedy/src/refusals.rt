@@ -1,12 +1,13 @@
-// Refusals 15, 11, 12 and 13: what is wrong with a call's input. A fault is its number, 0 where there is none.
+// Refusals 15, 11, 12, 13 and 32: what is wrong with a call's input. A fault is its number, 0 where there is none.
 ghost use mathlib.Core.Path.{_≡_};
 ghost use mathlib.Core.Bool.{_&&_};
 ghost use lib.Dec.{eqb};
 ghost use Rattle.integers.specs.Range.{within};
 ghost use Rattle.graph.specs.Limits.{maxMultiplier};
 ghost use Rattle.graph.specs.Valid.{graphOf};
-ghost use Rattle.tree_theory.specs.Inputs.{multipliersFit, ceilingFits, inputFault};
+ghost use Rattle.tree_theory.specs.Inputs.{multipliersFit, ceilingFits, denominatorFits, denominatorFault, orElse, inputFault};
 use crate::MAX_CEILING;
+use crate::MAX_DENOMINATOR;
 use crate::MAX_MULTIPLIER;
 use graph::MAX_EDGES;
 
@@ -49,6 +50,38 @@ pub fn ceiling_fits(z: i64) -> bool
         return false;
     }
     z <= MAX_CEILING
+}
+
+// Is the denominator in its range?
+// Ruled out: yes for 0; no for either end of the range.
+pub fn denominator_fits(q: u64) -> bool
+    ensures { λ r. ⌜ r ≡ denominatorFits q ⌝ }
+{
+    if q < 1 {
+        return false;
+    }
+    q <= MAX_DENOMINATOR
+}
+
+// Refusal 32, 0 where the denominator fits.
+// Ruled out: 32 at either end of the range; 0 past it.
+pub fn denominator_fault(q: u64) -> u32
+    ensures { λ r. ⌜ r ≡ denominatorFault q ⌝ }
+{
+    if denominator_fits(q) {
+        return 0;
+    }
+    32
+}
+
+// A fault, or where there is none the next.
+pub(crate) fn or_else(fault: u32, next: u32) -> u32
+    ensures { λ r. ⌜ r ≡ orElse fault next ⌝ }
+{
+    if fault != 0 {
+        return fault;
+    }
+    next
 }
 
 fn lengths_fit(n: usize, m: usize, multipliers: usize, len: usize) -> bool

@@ -4,3 +4,4 @@ pub mod Words
 pub mod Range
 pub mod Order
 pub mod Sums
+pub mod Multiples

@@ -38,6 +38,9 @@ below-less-one x y h = parts-lt x y (omega (arith, le-parts x (y -ℤ pos 1) h, 
 pub less-one-below : (x y : ℤ) → (y -ℤ pos 1) <ℤ x → y ≤ℤ x
 less-one-below x y h = parts-le y x (omega (arith, lt-parts (y -ℤ pos 1) x h, add-parts y (negsuc 0)))
 
+pub lt-le-less-one : (x y : ℤ) → x <ℤ y → x ≤ℤ (y -ℤ pos 1)
+lt-le-less-one x y h = parts-le x (y -ℤ pos 1) (omega (arith, lt-parts x y h, add-parts y (negsuc 0)))
+
 pub less-one-le : (y : ℤ) → (y -ℤ pos 1) ≤ℤ y
 less-one-le y = parts-le (y -ℤ pos 1) y (omega (arith, add-parts y (negsuc 0)))
 

@@ -10,7 +10,7 @@ use Rattle.lists.specs.Bools.{bit}
 use Rattle.graph.specs.Limits.{maxSweeps, maxStep}
 use Rattle.graph.specs.Valid.{valid}
 use Rattle.graph.specs.Network.{Network, network}
-use Rattle.tree_theory.specs.Inputs.{multipliersFit, ceilingFits}
+use Rattle.tree_theory.specs.Inputs.{multipliersFit, ceilingFits, denominatorFault}
 use Rattle.machine.specs.Outcomes.{Incumbent, noTour, aTour}
 use Rattle.machine.specs.Machine.{marksOf, frees, Opening, Progress, State, noSearch, searching, held, begin, costOf, finished, ran}
 
@@ -60,16 +60,16 @@ abbrev pub accepts : State → Answer → Reply
 accepts s a = record { state = s; answer = a; lent = [] }
 
 -- "15 a chart value that breaks 'Legs and marks'; 11 a list of wrong length (dues n, ..); 12 a due out of range or d(1) not 0; 13 ceiling;
--- 14 sweeps or step": the first that applies to an opening, or 0
+-- 14 sweeps or step"; document 02, C-17: "32 when q is out of range, tested after 14": the first that applies to an opening, or 0
 unfoldable pub fault : Opening → ℕ
-unfolding valid multipliersFit ceilingFits
+unfolding valid multipliersFit ceilingFits denominatorFault
 fault o =
     cond (not (valid (o .graph))) 15
     (cond (not (eqb (length (o .multipliers)) (o .graph .n))) 11
     (cond (not (multipliersFit (o .multipliers))) 12
     (cond (not (ceilingFits (o .settings .ceiling))) 13
     (cond (not (leb (o .settings .sweeps) maxSweeps && leb (o .settings .step) maxStep)) 14
-    0))))
+    (denominatorFault (o .settings .denominator))))))
 
 -- ---- the calls
 

@@ -109,7 +109,7 @@ pub record Demand3 (i : Interface) : Type 0 where
   -- "For every list of opening, run, tell, show and close calls on one record, refused ones included, from a fresh record"
   pub equal : (cs : List Call) → AsTheMachine i cs
   -- "Take two such lists that each leave a finished hunt, both of one sea (its legs in any order) and opened with one ceiling, whatever
-  -- dues, sweeps and steps the two have. Tell gives both the same verdict: .."
+  -- dues, sweeps and steps the two have. Tell gives both the same verdict: .."; so whatever denominators (document 02, C-17)
   pub agree : (cs ds : List Call) (o p : Opening) → LeavesFinished cs o → LeavesFinished ds p
       → OneNetwork (network (o .graph)) (network (p .graph)) → o .settings .ceiling ≡ p .settings .ceiling
       → (v : Verdict) × SaysAfter i cs o v × SaysAfter i ds p v

@@ -20,6 +20,8 @@ use Rattle.graph.specs.Limits.{maxCount}
 use Rattle.graph.specs.Network.{Network, network}
 use Rattle.tree_theory.specs.OneTree.{Edges}
 use Rattle.tree_theory.specs.Inputs.{multiplier}
+use Rattle.tree_theory.specs.Scaled.{scaledBy}
+use Rattle.integers.specs.Multiples.{_times_}
 use Rattle.machine.specs.Outcomes.{closes, finds, splits}
 use Rattle.machine.specs.Machine.{Marks, Node, withMarks, Pass, shut, found, unclosed, pass, gained, Opened, firstFree, branch, concluded}
 use Rattle.machine.specs.Machine.{passes, Opening, Progress, openNode, settled, openTop, begin, ran}
@@ -64,7 +66,8 @@ pub siblings : (o : Opening) (upper : ℤ) (x out into : Node) → openNode o up
 unfolding openNode
 siblings o upper x out into e =
     subst (Halves (λ d. Unit {0})) e
-    (passes-halves (network (o .graph)) (o .settings .step) upper (o .settings .sweeps) (x .multipliers) (x .marks)) .1
+    (passes-halves (scaledBy (o .settings .denominator) (network (o .graph))) (o .settings .step) (o .settings .denominator times upper)
+    (o .settings .sweeps) (x .multipliers) (x .marks)) .1
 
 -- ---- what waits below
 
@@ -139,10 +142,11 @@ top-unmoved : (s : Progress) (x : Node) (rest : List Node) → s .stack ≡ x �
     → Unmoved (openTop s (x ∷ rest))
 unfolding openTop settled openNode
 top-unmoved s x rest e l h =
+    let scaled = scaledBy (s .opening .settings .denominator) (network (s .opening .graph)) in
+    let upper = s .opening .settings .denominator times s .upper in
     go (openNode (s .opening) (s .upper) x)
-    (subst (λ (k : ℕ). Halves (λ d. d ≡ x .multipliers)
-    (passes (network (s .opening .graph)) (s .opening .settings .step) (s .upper) k (x .multipliers) (x .marks))) (sym (h .sweeps))
-    (pass-halves (network (s .opening .graph)) (s .opening .settings .step) (s .upper) (x .multipliers) (x .marks)))
+    (subst (λ (k : ℕ). Halves (λ d. d ≡ x .multipliers) (passes scaled (s .opening .settings .step) upper k (x .multipliers) (x .marks)))
+    (sym (h .sweeps)) (pass-halves scaled (s .opening .settings .step) upper (x .multipliers) (x .marks)))
   where
     waits : (y : Node) → y ∈ (x ∷ rest) → y .multipliers ≡ s .opening .multipliers
     waits y m = h .each y (subst (λ (st : List Node). y ∈ st) (sym e) m)

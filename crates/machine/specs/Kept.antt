@@ -10,7 +10,7 @@ use native.Mathlib.Omega.{arith}
 use lib.ListN.{length}
 use lib.IntN.{ℤ}
 use Rattle.integers.specs.Range.{InRange}
-use Rattle.graph.specs.Limits.{maxVertices, maxCeiling, maxSweeps, maxStep, maxCount}
+use Rattle.graph.specs.Limits.{maxVertices, maxCeiling, maxSweeps, maxStep, maxDenominator, maxCount}
 use Rattle.graph.specs.Valid.{Valid}
 use Rattle.tree_theory.specs.Inputs.{multipliersFit}
 use Rattle.machine.specs.Outcomes.{Incumbent, noTour, aTour}
@@ -26,6 +26,7 @@ pub record Accepted (o : Opening) : Type 0 where
   pub ceiling : InRange maxCeiling (o .settings .ceiling)
   pub sweeps : o .settings .sweeps ≤ maxSweeps
   pub step : o .settings .step ≤ maxStep
+  pub denominator : (1 ≤ o .settings .denominator) × (o .settings .denominator ≤ maxDenominator)
 
 -- multipliers such as an opening accepts, of n vertices
 pub record FitFor (n : ℕ) (d : List ℤ) : Type 0 where

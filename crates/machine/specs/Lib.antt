@@ -12,6 +12,7 @@ pub mod Branching
 pub mod Requireds
 pub mod NodeTours
 pub mod OpeningLaws
+pub mod ScaledLaws
 -- what every state keeps
 pub mod Depth
 pub mod Trimmed

@@ -14,11 +14,13 @@ use Rattle.lists.specs.Select.{select}
 use Rattle.lists.specs.Numbers.{upTo}
 use Rattle.lists.specs.Rows.{row}
 use Rattle.integers.specs.Range.{clamp}
+use Rattle.integers.specs.Multiples.{_times_}
 use Rattle.graph.specs.declared.Graph.{Graph}
 use Rattle.graph.specs.Limits.{maxEdges, maxMultiplier, maxCount}
 use Rattle.graph.specs.Network.{Network, Mark, free, required, excluded, place, network}
 use Rattle.tree_theory.specs.OneTree.{Edges}
 use Rattle.tree_theory.specs.Inputs.{multiplier}
+use Rattle.tree_theory.specs.Scaled.{scaledBy}
 use Rattle.tree_theory.specs.Enumeration.{Tree, noTree, aTree, leastTree, Ruling, keeps, forces, bars, wasRequired, wasExcluded, ruling}
 use Rattle.machine.specs.declared.Settings.{Settings}
 use Rattle.tours.specs.Tours.{degree, cost, isTour}
@@ -141,7 +143,8 @@ passes g step upper (suc left) d x =
 
 -- ---- the state
 
--- "Opening takes a chart, dues, a ceiling, sweeps (0 to 15) and a step (0 to 10,000).": the last three are the settings
+-- "Opening takes a chart, dues, a ceiling, sweeps (0 to 15) and a step (0 to 10,000)."; document 02, C-17: "Opening .. take[s] a denominator q": the
+-- last four are the settings
 pub record Opening : Type 0 where
   pub graph : Graph
   pub multipliers : List ℤ
@@ -208,10 +211,13 @@ unfoldable pub lowered : Network → List Bool → ℤ
 unfolding costOf
 lowered g r = costOf g r -ℤ pos 1
 
--- "then passes 0 to 'sweeps'", from the node's own multipliers on (document 02, C-16; they were the opening ones)
+-- "then passes 0 to 'sweeps'", from the node's own multipliers on (document 02, C-16; they were the opening ones). C-17: "The charged cost becomes
+-- q × cost plus the two dues, the bound is scaled likewise, and it is compared with q × ceiling", here with q × U
 unfoldable pub openNode : Opening → ℤ → Node → Opened
 unfolding network passes
-openNode o upper x = passes (network (o .graph)) (o .settings .step) upper (o .settings .sweeps) (x .multipliers) (x .marks)
+openNode o upper x =
+    let q = o .settings .denominator in
+    passes (scaledBy q (network (o .graph))) (o .settings .step) (q times upper) (o .settings .sweeps) (x .multipliers) (x .marks)
 
 -- what the opening of the top node makes of a search; rest are the nodes below it
 unfoldable pub settled : Progress → List Node → Opened → Progress

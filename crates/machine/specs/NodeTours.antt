@@ -87,7 +87,7 @@ module _ (g h : Network) (t : Edges) (m : h .m ≡ g .m) (a : h .a ≡ g .a) (b 
   trip-other u [] w j = joined-other u w j
   trip-other u (v ∷ vs) w j = (joined-other u v (j .0), trip-other v vs w (j .1))
 
-  tour-other : h .n ≡ g .n → Tour g t → Tour h t
+  pub tour-other : h .n ≡ g .n → Tour g t → Tour h t
   unfolding others
   tour-other n o = record {
     number = rw (m, n) (o .number);

@@ -16,6 +16,7 @@ use Rattle.lists.specs.Select.{select, select-in}
 use Rattle.lists.specs.Numbers.{upTo}
 use Rattle.lists.specs.Rows.{row-size}
 use Rattle.integers.specs.Parts.{up, dn, add-up, add-dn}
+use Rattle.integers.specs.Multiples.{_times_}
 use Rattle.integers.specs.Range.{InRange, within-range}
 use Rattle.integers.specs.Sums.{sumZ}
 use Rattle.graph.specs.declared.Graph.{Graph}
@@ -27,6 +28,9 @@ use Rattle.graph.specs.Valid as value
 use Rattle.graph.specs.Meaning.{valid-true}
 use Rattle.tree_theory.specs.OneTree.{Edges}
 use Rattle.tree_theory.specs.Inputs.{multiplier, multipliersFit, ceilingFits}
+use Rattle.tree_theory.specs.Scaled.{scaledBy}
+use Rattle.tree_theory.specs.Scaling.{valid-scaled}
+use Rattle.tree_theory.specs.Accepted.{denominator-range}
 use Rattle.tree_theory.specs.Enumeration.{Tree, noTree, aTree, leastTree}
 use Rattle.tree_theory.specs.Arrays.{edge-of, network-valid}
 use Rattle.tours.specs.Tours.{Tour, cost, isTour}
@@ -41,6 +45,7 @@ use Rattle.machine.specs.Runs.{ran-keeps}
 use Rattle.machine.specs.Trimmed.{trimmed-trim, trimmed-valid}
 use Rattle.machine.specs.NodeTours.{applied-length}
 use Rattle.machine.specs.OpeningLaws.{Law, passes-law}
+use Rattle.machine.specs.ScaledLaws.{law-scaled}
 use Rattle.machine.specs.Depth.{Shallow, passes-shallow}
 use Rattle.machine.specs.Gained.{gained-fits}
 use Rattle.machine.specs.Kept.{Accepted, FitFor, Waits, Nodes, Kept, KeptState}
@@ -138,6 +143,15 @@ passes-long g low stride upper (suc left) d f x =
     (λ t y. passes g stride upper left (gained g stride t d) y)
     (λ t y e. passes-long g low stride upper left (gained g stride t d) (gained-fits g low stride t d f) y)
 
+-- lengths do not go by costs
+long-scaled : (q : ℕ) (g : Network) (out : Opened) → Long (scaledBy q g) out → Long g out
+long-scaled q g closes h = tt
+long-scaled q g (finds r) h = h
+long-scaled q g (splits out into) h = (
+  record { long = h .0 .long; multipliers = h .0 .multipliers },
+  record { long = h .1 .long; multipliers = h .1 .multipliers },
+)
+
 -- ---- one node more
 
 module _ (s : Progress) (h : Kept s) (x : Node) (rest : List Node) (e : s .stack ≡ x ∷ rest) (l : s .count < maxCount) where
@@ -152,20 +166,28 @@ module _ (s : Progress) (h : Kept s) (x : Node) (rest : List Node) (e : s .stack
       (openNode (s .opening) (s .upper) x)
   unfolding openNode
   top-law =
-      passes-law (network (s .opening .graph)) (network-valid (s .opening .graph) (h .opening .valid)) (s .upper) (s .opening .settings .step)
-      (s .opening .settings .sweeps) (x .multipliers) (x .marks) (unfold network in waiting .0 .long)
+      let q = s .opening .settings .denominator in
+      let v = network-valid (s .opening .graph) (h .opening .valid) in
+      law-scaled q (network (s .opening .graph)) (h .opening .denominator .0) v (s .upper) (x .marks)
+      (openNode (s .opening) (s .upper) x)
+      (passes-law (scaledBy q (network (s .opening .graph))) (valid-scaled q (network (s .opening .graph)) v) (q times s .upper)
+      (s .opening .settings .step) (s .opening .settings .sweeps) (x .multipliers) (x .marks) (unfold network in waiting .0 .long))
 
   top-long : Long (network (s .opening .graph)) (openNode (s .opening) (s .upper) x)
   unfolding openNode network
   top-long =
-      passes-long (network (s .opening .graph)) (omega (arith, h .opening .valid .low)) (s .opening .settings .step) (s .upper)
-      (s .opening .settings .sweeps) (x .multipliers) (waiting .0 .multipliers) (x .marks)
+      let q = s .opening .settings .denominator in
+      long-scaled q (network (s .opening .graph)) (openNode (s .opening) (s .upper) x)
+      (passes-long (scaledBy q (network (s .opening .graph))) (omega (arith, h .opening .valid .low)) (s .opening .settings .step) (q times s .upper)
+      (s .opening .settings .sweeps) (x .multipliers) (waiting .0 .multipliers) (x .marks))
 
   -- and it splits only where there is room for both halves
   top-shallow : Shallow (s .opening .graph .n) (x .marks) (openNode (s .opening) (s .upper) x)
   unfolding openNode network
   top-shallow =
-      passes-shallow (network (s .opening .graph)) (network-valid (s .opening .graph) (h .opening .valid)) (s .upper) (s .opening .settings .step)
+      let q = s .opening .settings .denominator in
+      passes-shallow (scaledBy q (network (s .opening .graph)))
+      (valid-scaled q (network (s .opening .graph)) (network-valid (s .opening .graph) (h .opening .valid))) (q times s .upper) (s .opening .settings .step)
       (s .opening .settings .sweeps) (x .multipliers) (x .marks) (waiting .0 .long)
 
   below : suc (length rest) ≤ s .opening .graph .n + 2
@@ -234,7 +256,7 @@ accepts-held o h =
     let e11 = cond-zero (not (eqb (length (o .multipliers)) (o .graph .n))) 11 _ (omega arith) (e15 .1) in
     let e12 = cond-zero (not (multipliersFit (o .multipliers))) 12 _ (omega arith) (e11 .1) in
     let e13 = cond-zero (not (ceilingFits (o .settings .ceiling))) 13 _ (omega arith) (e12 .1) in
-    let e14 = cond-zero (not (leb (o .settings .sweeps) maxSweeps && leb (o .settings .step) maxStep)) 14 0 (omega arith) (e13 .1) in
+    let e14 = cond-zero (not (leb (o .settings .sweeps) maxSweeps && leb (o .settings .step) maxStep)) 14 _ (omega arith) (e13 .1) in
     let both = and-both (leb (o .settings .sweeps) maxSweeps) (leb (o .settings .step) maxStep) (not-false _ (e14 .0)) in
     record {
       trim = trimmed-trim (o .graph);
@@ -244,6 +266,7 @@ accepts-held o h =
       ceiling = within-range maxCeiling (o .settings .ceiling) (not-false _ (e13 .0));
       sweeps = leb-true (o .settings .sweeps) maxSweeps (both .0);
       step = leb-true (o .settings .step) maxStep (both .1);
+      denominator = denominator-range (o .settings .denominator) (e14 .1);
     }
 
 pub begin-kept : (o : Opening) → Accepted o → Kept (begin o)

@@ -11,7 +11,7 @@ use lib.ListN.{length}
 use Rattle.lists.specs.Members.{_∈_, in-right}
 use Rattle.graph.specs.Limits.{maxSweeps, maxStep}
 use Rattle.graph.specs.Valid.{valid}
-use Rattle.tree_theory.specs.Inputs.{multipliersFit, ceilingFits}
+use Rattle.tree_theory.specs.Inputs.{multipliersFit, ceilingFits, denominatorFits, denominatorFault}
 use Rattle.machine.specs.Outcomes.{Incumbent, noTour, aTour}
 use Rattle.machine.specs.Machine.{Opening, Progress, State, noSearch, searching, finished}
 use Rattle.machine.specs.Calls.{Call, opens, run, tell, show, close, refused, accepted, Reply, lentBy, refuses, fault, openedBy}
@@ -21,9 +21,9 @@ use Rattle.machine.specs.Calls.{runBy, tourBytes, shownBy, step}
 abbrev pub unfit : List ℕ
 unfit = 20 ∷ 21 ∷ 22 ∷ 23 ∷ []
 
--- "in this order: 15 .. 11 .. 12 .. 13 .. 14"
+-- "in this order: 15 .. 11 .. 12 .. 13 .. 14"; document 02, C-17: 32 "after 14"
 abbrev pub faults : List ℕ
-faults = 15 ∷ 11 ∷ 12 ∷ 13 ∷ 14 ∷ []
+faults = 15 ∷ 11 ∷ 12 ∷ 13 ∷ 14 ∷ 32 ∷ []
 
 pub record Refusal (s : State) (c : Call) (r : Reply) (number place : ℕ) : Type 0 where
   pub state : r .state ≡ s
@@ -45,14 +45,15 @@ number-in true number rest l f k e = inl (sym e)
 number-in false number rest l f k e = inr (f k e)
 
 fault-known : (o : Opening) (k : ℕ) → fault o ≡ suc k → suc k ∈ faults
-unfolding fault
+unfolding fault denominatorFault
 fault-known o =
-    number-in (not (valid (o .graph))) 15 _ (11 ∷ 12 ∷ 13 ∷ 14 ∷ [])
-    (number-in (not (eqb (length (o .multipliers)) (o .graph .n))) 11 _ (12 ∷ 13 ∷ 14 ∷ [])
-    (number-in (not (multipliersFit (o .multipliers))) 12 _ (13 ∷ 14 ∷ [])
-    (number-in (not (ceilingFits (o .settings .ceiling))) 13 _ (14 ∷ [])
-    (number-in (not (leb (o .settings .sweeps) maxSweeps && leb (o .settings .step) maxStep)) 14 0 []
-    (λ k e. absurd (let z : 0 ≡ suc k = e in omega arith))))))
+    number-in (not (valid (o .graph))) 15 _ (11 ∷ 12 ∷ 13 ∷ 14 ∷ 32 ∷ [])
+    (number-in (not (eqb (length (o .multipliers)) (o .graph .n))) 11 _ (12 ∷ 13 ∷ 14 ∷ 32 ∷ [])
+    (number-in (not (multipliersFit (o .multipliers))) 12 _ (13 ∷ 14 ∷ 32 ∷ [])
+    (number-in (not (ceilingFits (o .settings .ceiling))) 13 _ (14 ∷ 32 ∷ [])
+    (number-in (not (leb (o .settings .sweeps) maxSweeps && leb (o .settings .step) maxStep)) 14 _ (32 ∷ [])
+    (number-in (not (denominatorFits (o .settings .denominator))) 32 0 []
+    (λ k e. absurd (let z : 0 ≡ suc k = e in omega arith)))))))
 
 open-refused : (o : Opening) (k : ℕ) → fault o ≡ k → (number place : ℕ) → openedBy o k .answer ≡ refused number place
     → Refusal noSearch (opens o) (openedBy o k) number place

@@ -19,6 +19,7 @@ use Rattle.graph.specs.Network.{Network, free, excluded, markOf, place, network
 use Rattle.graph.specs.Places.{place-at, place-zero, place-past}
 use Rattle.graph.specs.Valid.{Valid, graphOf}
 use Rattle.tree_theory.specs.OneTree.{Edges}
+use Rattle.tree_theory.specs.Scaled.{scaledBy}
 use Rattle.machine.specs.Machine.{Marks, passes}
 use Rattle.compaction.specs.Ranks.{rank, nth, rank-yes, rank-most, rank-mono, rank-less, nth-rank, nth-zero, nth-past}
 use Rattle.compaction.specs.Thinned.{thin}
@@ -152,14 +153,14 @@ module _ (g : Graph) where
         not-false false e = sym e
 
     -- WHAT THE PASSES COME TO
-    pub left-passes : (d : List ℤ) (step : ℕ) (upper : ℤ) (k : ℕ)
-        → spreadOpened e (g .m) (passes (network (left g)) step upper k d (marksIn (left g .m) (left g .mark)))
-        ≡ passes (network g) step upper k d (marksIn (g .m) (g .mark))
+    pub left-passes : (den : ℕ) (d : List ℤ) (step : ℕ) (upper : ℤ) (k : ℕ)
+        → spreadOpened e (g .m) (passes (scaledBy den (network (left g))) step upper k d (marksIn (left g .m) (left g .mark)))
+        ≡ passes (scaledBy den (network g)) step upper k d (marksIn (g .m) (g .mark))
     unfolding network
-    left-passes d step upper k =
-        ap (λ (f : Network). spreadOpened e (g .m) (passes f step upper k d y)) network-thin
-        ∙ sym (passes-thin e (network g) step upper k d y (marks-size (left g .m) (left g .mark)))
-        ∙ ap (λ (x : Marks). passes (network g) step upper k d x) (sym marks-spread)
+    left-passes den d step upper k =
+        ap (λ (f : Network). spreadOpened e (g .m) (passes (scaledBy den f) step upper k d y)) network-thin
+        ∙ sym (passes-thin e (scaledBy den (network g)) step upper k d y (marks-size (left g .m) (left g .mark)))
+        ∙ ap (λ (x : Marks). passes (scaledBy den (network g)) step upper k d x) (sym marks-spread)
       where
         y : Marks
         y = marksIn (left g .m) (left g .mark)

@@ -13,6 +13,7 @@ use Rattle.graph.specs.Limits.{maxEdges}
 use Rattle.graph.specs.Network.{network}
 use Rattle.graph.specs.Valid.{Valid}
 use Rattle.graph.specs.Meaning.{not-valid}
+use Rattle.tree_theory.specs.Scaled.{scaledBy}
 use Rattle.machine.specs.Machine.{Opening, passes}
 use Rattle.machine.specs.Calls.{fault}
 use Rattle.compaction.specs.Spread.{spreadOpened}
@@ -20,6 +21,7 @@ use Rattle.node.specs.declared.Fate.the-variants as fate
 use Rattle.node.specs.Marks.{marksIn, bytesOf}
 use Rattle.node.specs.Opened.{Opened, opened, openedAs, kept, left, leftIn, nodeFault, opensBy, opens}
 use Rattle.node.specs.Faults.{Fit, fault-15, fit-fault}
+use Rattle.node.specs.OnePass.{topOf}
 use Rattle.node.specs.Passes.{withBytes, valid-bytes, passes-from}
 use Rattle.node.specs.Refusing.{outcome, isRefused, never-refused, opens-refused, opens-accepted}
 use Rattle.node.specs.CompactGraph.{left-few, left-valid, left-passes}
@@ -73,15 +75,15 @@ module _ (o : Opening) (top : List ℕ) (last : List ℤ) where
             → w ≡ opens o top last
         left-opens w i =
             i
-            ∙ ap openedAs (left-passes (o .graph) (left-few (o .graph) few) (o .multipliers) (o .settings .step) (o .settings .ceiling)
+            ∙ ap openedAs (left-passes (o .graph) (left-few (o .graph) few) (o .settings .denominator) (o .multipliers) (o .settings .step) (topOf o)
             (o .settings .sweeps))
             ∙ sym (opens-valid left-fault)
 
 -- A NODE OF A SEARCH, on the graph of its opening: nothing is refused, whatever marks that graph had
 pub opens-node : (o : Opening) → Fit o → (x : List ℕ) → x ≡ bytesOf (marksIn (o .graph .m) x) → (top : List ℕ) (last : List ℤ)
     → opens (record { graph = withBytes (o .graph) x; multipliers = o .multipliers; settings = o .settings }) top last
-    ≡ openedAs (passes (network (o .graph)) (o .settings .step) (o .settings .ceiling) (o .settings .sweeps) (o .multipliers)
-    (marksIn (o .graph .m) x))
+    ≡ openedAs (passes (scaledBy (o .settings .denominator) (network (o .graph))) (o .settings .step) (topOf o) (o .settings .sweeps)
+    (o .multipliers) (marksIn (o .graph .m) x))
 opens-node o f x canonical top last =
     opens-valid node top last (f .valid .few) (fit-fault (leftIn node) (record {
       valid = left-valid (withBytes (o .graph) x) valid;
@@ -90,8 +92,9 @@ opens-node o f x canonical top last =
       ceiling = f .ceiling;
       sweeps = f .sweeps;
       step = f .step;
+      denominator = f .denominator;
     }))
-    ∙ ap openedAs (passes-from (o .graph) x (o .multipliers) (o .settings .step) (o .settings .ceiling) (o .settings .sweeps)
+    ∙ ap openedAs (passes-from (o .settings .denominator) (o .graph) x (o .multipliers) (o .settings .step) (topOf o) (o .settings .sweeps)
     (f .valid .few) canonical)
   where
     node : Opening

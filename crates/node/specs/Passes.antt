@@ -15,6 +15,7 @@ use Rattle.graph.specs.Network.{Network, free, markOf, place, network}
 use Rattle.graph.specs.Places.{place-at, place-zero, place-past}
 use Rattle.graph.specs.Valid.{Valid}
 use Rattle.tree_theory.specs.OneTree.{Edges}
+use Rattle.tree_theory.specs.Scaled.{scaledBy}
 use Rattle.tree_theory.specs.Inputs.{multiplier, multipliersFit}
 use Rattle.machine.specs.Outcomes.{closes}
 use Rattle.tours.specs.Tours as T
@@ -85,20 +86,20 @@ turn g step upper zero d x = refl
 turn g step upper (suc left) d x = refl
 
 -- the passes that are left, of a node with the marks' bytes x and the multipliers d, come to `out`
-pub record AtPass (g : Graph) (step : ℕ) (upper : ℤ) (out : M.Opened) (left : ℕ) (x : List ℕ) (d : List ℤ) : Type 0 where
+pub record AtPass (den : ℕ) (g : Graph) (step : ℕ) (upper : ℤ) (out : M.Opened) (left : ℕ) (x : List ℕ) (d : List ℤ) : Type 0 where
   pub marks : Marks
   pub long : length marks ≡ g .m
   pub bytes : x ≡ bytesOf marks
   pub fits : multipliersFit (fit (g .n) (pos 0) d) ≡ true
-  pub comes : passes (network g) step upper left (fit (g .n) (pos 0) d) marks ≡ out
+  pub comes : passes (scaledBy den (network g)) step upper left (fit (g .n) (pos 0) d) marks ≡ out
 
 -- the passes of a node whose marks are those of the graph h
-abbrev pub passesFrom : Graph → List ℤ → ℕ → ℤ → ℕ → M.Opened
-passesFrom h d step upper left = passes (network h) step upper left (fit (h .n) (pos 0) d) (marksIn (h .m) (h .mark))
+abbrev pub passesFrom : ℕ → Graph → List ℤ → ℕ → ℤ → ℕ → M.Opened
+passesFrom den h d step upper left = passes (scaledBy den (network h)) step upper left (fit (h .n) (pos 0) d) (marksIn (h .m) (h .mark))
 
-pub at-first : (h : Graph) (d : List ℤ) (step : ℕ) (upper : ℤ) (left : ℕ) → h .mark ≡ bytesOf (marksIn (h .m) (h .mark))
-    → multipliersFit (fit (h .n) (pos 0) d) ≡ true → AtPass h step upper (passesFrom h d step upper left) left (h .mark) d
-at-first h d step upper left e fits = record {
+pub at-first : (den : ℕ) (h : Graph) (d : List ℤ) (step : ℕ) (upper : ℤ) (left : ℕ) → h .mark ≡ bytesOf (marksIn (h .m) (h .mark))
+    → multipliersFit (fit (h .n) (pos 0) d) ≡ true → AtPass den h step upper (passesFrom den h d step upper left) left (h .mark) d
+at-first den h d step upper left e fits = record {
   marks = marksIn (h .m) (h .mark);
   long = marks-size (h .m) (h .mark);
   bytes = e;
@@ -114,16 +115,18 @@ passes-marks g y step upper zero d x = refl
 passes-marks g y step upper (suc left) d x =
     λ i. concluded (g .m) (pass (withMarks g x) (multiplier d) upper) (λ t z. passes-marks g y step upper left (gained g step t d) z i)
 
-pub passes-from : (g : Graph) (x : List ℕ) (d : List ℤ) (step : ℕ) (upper : ℤ) (left : ℕ) → g .m ≤ maxEdges
+pub passes-from : (den : ℕ) (g : Graph) (x : List ℕ) (d : List ℤ) (step : ℕ) (upper : ℤ) (left : ℕ) → g .m ≤ maxEdges
     → x ≡ bytesOf (marksIn (g .m) x)
-    → passes (network (withBytes g x)) step upper left d (marksIn (g .m) x) ≡ passes (network g) step upper left d (marksIn (g .m) x)
-passes-from g x d step upper left few e =
-    ap (λ (f : Network). passes f step upper left d (marksIn (g .m) x))
+    → passes (scaledBy den (network (withBytes g x))) step upper left d (marksIn (g .m) x)
+    ≡ passes (scaledBy den (network g)) step upper left d (marksIn (g .m) x)
+unfolding withMarks
+passes-from den g x d step upper left few e =
+    ap (λ (f : Network). passes (scaledBy den f) step upper left d (marksIn (g .m) x))
     (ap (λ (y : List ℕ). network (withBytes g y)) e ∙ network-marks g (marksIn (g .m) x) few (marks-size (g .m) x))
-    ∙ passes-marks (network g) (marksIn (g .m) x) step upper left d (marksIn (g .m) x)
+    ∙ passes-marks (scaledBy den (network g)) (marksIn (g .m) x) step upper left d (marksIn (g .m) x)
 
-module _ (g : Graph) (valid : Valid g) (step : ℕ) (upper : ℤ) (out : M.Opened) (left : ℕ) (x : List ℕ) (d : List ℤ)
-    (s : AtPass g step upper out left x d) where
+module _ (den : ℕ) (g : Graph) (valid : Valid g) (step : ℕ) (upper : ℤ) (out : M.Opened) (left : ℕ) (x : List ℕ) (d : List ℤ)
+    (s : AtPass den g step upper out left x d) where
   abbrev h : Graph
   h = withBytes g x
 
@@ -136,32 +139,32 @@ module _ (g : Graph) (valid : Valid g) (step : ℕ) (upper : ℤ) (out : M.Opene
       ∙ ap bytesOf (sym (ap (marksIn (g .m)) (s .bytes) ∙ bytes-back (g .m) (s .marks) (valid .few) (s .long)))
 
   -- the machine's pass is the one that the code makes
-  pass-is : (p : Pass) → pass (network h) (multiplier (fit (g .n) (pos 0) d)) upper ≡ p
-      → out ≡ concluded (g .m) p (later (network g) step upper left (fit (g .n) (pos 0) d))
-  unfolding network
+  pass-is : (p : Pass) → pass (scaledBy den (network h)) (multiplier (fit (g .n) (pos 0) d)) upper ≡ p
+      → out ≡ concluded (g .m) p (later (scaledBy den (network g)) step upper left (fit (g .n) (pos 0) d))
+  unfolding network withMarks
   pass-is p e =
       sym (s .comes)
-      ∙ turn (network g) step upper left (fit (g .n) (pos 0) d) (s .marks)
-      ∙ ap (λ (q : Pass). concluded (g .m) q (later (network g) step upper left (fit (g .n) (pos 0) d))) same
+      ∙ turn (scaledBy den (network g)) step upper left (fit (g .n) (pos 0) d) (s .marks)
+      ∙ ap (λ (q : Pass). concluded (g .m) q (later (scaledBy den (network g)) step upper left (fit (g .n) (pos 0) d))) same
     where
-      same : pass (withMarks (network g) (s .marks)) (multiplier (fit (g .n) (pos 0) d)) upper ≡ p
+      same : pass (withMarks (scaledBy den (network g)) (s .marks)) (multiplier (fit (g .n) (pos 0) d)) upper ≡ p
       same =
-          ap (λ (f : Network). pass f (multiplier (fit (g .n) (pos 0) d)) upper)
+          ap (λ (f : Network). pass (scaledBy den f) (multiplier (fit (g .n) (pos 0) d)) upper)
           (sym (network-marks g (s .marks) (valid .few) (s .long)) ∙ ap (λ (y : List ℕ). network (withBytes g y)) (sym (s .bytes)))
           ∙ e
 
-  pub turn-shut : pass (network h) (multiplier (fit (g .n) (pos 0) d)) upper ≡ shut → openedAs closes ≡ openedAs out
+  pub turn-shut : pass (scaledBy den (network h)) (multiplier (fit (g .n) (pos 0) d)) upper ≡ shut → openedAs closes ≡ openedAs out
   turn-shut e = ap openedAs (sym (pass-is shut e))
 
-  pub turn-found : (w : List ℕ) → FoundAs h (fit (g .n) (pos 0) d) upper w
+  pub turn-found : (w : List ℕ) → FoundAs den h (fit (g .n) (pos 0) d) upper w
       → foundAs w ≡ openedAs out
   unfolding openedAs treeBytes
   turn-found w f =
       ap foundAs (f .bytes)
       ∙ ap openedAs (sym (pass-is (found (f .tour)) (f .is)))
 
-  module _ (w degrees : List ℕ) (r : RuledAs h (fit (g .n) (pos 0) d) upper w degrees) where
-    goes-on : out ≡ later (network g) step upper left (fit (g .n) (pos 0) d) (r .tree) (r .marks)
+  module _ (w degrees : List ℕ) (r : RuledAs den h (fit (g .n) (pos 0) d) upper w degrees) where
+    goes-on : out ≡ later (scaledBy den (network g)) step upper left (fit (g .n) (pos 0) d) (r .tree) (r .marks)
     goes-on = pass-is (unclosed (r .tree) (r .marks)) (r .is)
 
     -- the marks that the code now has
@@ -174,28 +177,28 @@ module _ (g : Graph) (valid : Valid g) (step : ℕ) (upper : ℤ) (out : M.Opene
     pub turn-last : left ≡ 0 → openedAs (branch (fit (g .n) (pos 0) d) (marksIn (g .m) w)) ≡ openedAs out
     turn-last z =
         ap (λ (y : Marks). openedAs (branch (fit (g .n) (pos 0) d) y)) marks-now
-        ∙ ap openedAs (sym (goes-on ∙ ap (λ (i : ℕ). later (network g) step upper i (fit (g .n) (pos 0) d) (r .tree) (r .marks)) z))
+        ∙ ap openedAs (sym (goes-on ∙ ap (λ (i : ℕ). later (scaledBy den (network g)) step upper i (fit (g .n) (pos 0) d) (r .tree) (r .marks)) z))
 
     module _ (next : List ℤ) (gains : GainsTo (g .n) step degrees d next) (less : ℕ) (e : left ≡ suc less) where
-      degree-now : (v : ℕ) → 1 ≤ v → v ≤ g .n → getD degrees v 0 ≡ T.degree (network g) (r .tree) v
+      degree-now : (v : ℕ) → 1 ≤ v → v ≤ g .n → getD degrees v 0 ≡ T.degree (scaledBy den (network g)) (r .tree) v
       unfolding T.degree network
       degree-now v a b = r .degree v a b
 
-      pub turn-next : AtPass g step upper out less w next
+      pub turn-next : AtPass den g step upper out less w next
       turn-next = record {
         marks = r .marks;
         long = r .long;
         bytes = r .bytes;
         fits = ap multipliersFit gained-now ∙ again .fits;
         comes =
-            ap (λ (l : List ℤ). passes (network g) step upper less l (r .marks)) gained-now
-            ∙ sym (goes-on ∙ ap (λ (i : ℕ). later (network g) step upper i (fit (g .n) (pos 0) d) (r .tree) (r .marks)) e);
+            ap (λ (l : List ℤ). passes (scaledBy den (network g)) step upper less l (r .marks)) gained-now
+            ∙ sym (goes-on ∙ ap (λ (i : ℕ). later (scaledBy den (network g)) step upper i (fit (g .n) (pos 0) d) (r .tree) (r .marks)) e);
       }
         where
-          gained-now : fit (g .n) (pos 0) next ≡ gained (network g) step (r .tree) (fit (g .n) (pos 0) d)
-          gained-now = unfold network in gains-is (network g) step (r .tree) degrees d next gains degree-now
+          gained-now : fit (g .n) (pos 0) next ≡ gained (scaledBy den (network g)) step (r .tree) (fit (g .n) (pos 0) d)
+          gained-now = unfold network in gains-is (scaledBy den (network g)) step (r .tree) degrees d next gains degree-now
 
-          again : FitFor (g .n) (gained (network g) step (r .tree) (fit (g .n) (pos 0) d))
+          again : FitFor (g .n) (gained (scaledBy den (network g)) step (r .tree) (fit (g .n) (pos 0) d))
           again =
-              unfold network in gained-fits (network g) (omega (arith, valid .low)) step (r .tree) (fit (g .n) (pos 0) d)
+              unfold network in gained-fits (scaledBy den (network g)) (omega (arith, valid .low)) step (r .tree) (fit (g .n) (pos 0) d)
               (record { long = fit-size (g .n) (pos 0) d; fits = s .fits })

@@ -14,13 +14,15 @@ use borrow.Author.Tests.{eq-eqb, le-leb, lt-leb}
 use Rattle.lists.specs.Bools.{bit}
 use Rattle.lists.specs.Rows.{row, row-size, row-at}
 use Rattle.lists.specs.Fill.{fill-is}
+use Rattle.integers.specs.Multiples.{_times_}
 use Rattle.graph.specs.declared.Graph.{Graph}
 use Rattle.graph.specs.Limits.{maxEdges}
 use Rattle.graph.specs.Network.{network}
 use Rattle.graph.specs.Valid as value
 use Rattle.graph.specs.Meaning.{true-valid}
 use Rattle.tree_theory.specs.OneTree.{Edges}
-use Rattle.tree_theory.specs.Inputs.{inputFault, multiplier, multipliersFit, ceilingFits, inputFault}
+use Rattle.tree_theory.specs.Inputs.{inputFault, multiplier, multipliersFit, ceilingFits, denominatorFault}
+use Rattle.tree_theory.specs.Scaled.{scaledBy}
 use Rattle.tree_theory.specs.Enumeration.{Tree, noTree, aTree, leastTree, ruling}
 use Rattle.onetree.specs.declared.RuleAnswer.{RuleAnswer}
 use Rattle.onetree.specs.declared.RuleAnswer.the-variants as answer
@@ -28,7 +30,7 @@ use Rattle.onetree.specs.Answers.{HintAfter, Reply, refused, none, bounded, rul
 use Rattle.machine.specs.Machine.{Opening, shut, pass}
 use Rattle.machine.specs.Calls.{fault}
 use Rattle.node.specs.Marks.{bytesOfTour}
-use Rattle.node.specs.Faults.{settingsFault, orElse, fault-rule}
+use Rattle.node.specs.Faults.{settingsFault, lastly, fault-rule}
 use Rattle.node.specs.OnePass.{treeBytes, pass-none, pass-above}
 
 -- is there a tree within the ceiling?
@@ -43,7 +45,7 @@ isBound (answer.Refused n p) = false
 unfoldable pub refusal : RuleAnswer → ℕ → ℕ → ℕ
 refusal answer.Infeasible sweeps step = settingsFault sweeps step
 refusal (answer.Bound b) sweeps step = settingsFault sweeps step
-refusal (answer.Refused number place) sweeps step = number
+refusal (answer.Refused number place) sweeps step = lastly number sweeps step
 
 says-no-number : (n p : ℕ) (upper : ℤ) (t : Tree) → refused n p ≡ ruleSays upper t → ⊥
 says-no-number n p upper noTree h = let z : _≡_ {A = ℕ} 0 1 = cc in omega arith
@@ -55,23 +57,27 @@ says-no-number n p upper (aTree b t) h = go (ltZ upper b) h
 
 -- it is the fault of the opening
 pub refusal-fault : (o : Opening) (a : RuleAnswer)
-    → ruleMeaning a ≡ ruleReply (o .graph) (o .multipliers) (o .settings .ceiling) (o .graph .m)
+    → ruleMeaning a ≡ ruleReply (o .graph) (o .multipliers) (o .settings .ceiling) (o .settings .denominator) (o .graph .m)
     → fault o ≡ refusal a (o .settings .sweeps) (o .settings .step)
 unfolding ruleReply refusal ruleMeaning
 refusal-fault o a e =
     fault-rule o
-    ∙ go a (ruleFault (o .graph) (o .multipliers) (o .settings .ceiling) (o .graph .m)) e
+    ∙ go a (ruleFault (o .graph) (o .multipliers) (o .settings .ceiling) (o .settings .denominator) (o .graph .m)) e
   where
     go : (a : RuleAnswer) (f : ℕ)
-        → ruleMeaning a ≡ unlessFault f (ruleSays (o .settings .ceiling) (leastTree (network (o .graph)) (multiplier (o .multipliers))))
-        → orElse f (settingsFault (o .settings .sweeps) (o .settings .step)) ≡ refusal a (o .settings .sweeps) (o .settings .step)
+        → ruleMeaning a
+        ≡ unlessFault f (ruleSays (o .settings .denominator times o .settings .ceiling)
+        (leastTree (scaledBy (o .settings .denominator) (network (o .graph))) (multiplier (o .multipliers))))
+        → lastly f (o .settings .sweeps) (o .settings .step) ≡ refusal a (o .settings .sweeps) (o .settings .step)
     go answer.Infeasible zero h = refl
     go (answer.Bound b) zero h = refl
     go (answer.Refused n p) zero h =
-        absurd (says-no-number n p (o .settings .ceiling) (leastTree (network (o .graph)) (multiplier (o .multipliers))) h)
+        absurd (says-no-number n p (o .settings .denominator times o .settings .ceiling)
+        (leastTree (scaledBy (o .settings .denominator) (network (o .graph))) (multiplier (o .multipliers))) h)
     go answer.Infeasible (suc f) h = absurd (let z : _≡_ {A = ℕ} 0 1 = cc in omega arith)
     go (answer.Bound b) (suc f) h = absurd (let z : _≡_ {A = ℕ} 0 1 = cc in omega arith)
-    go (answer.Refused n p) (suc f) h = let s : n ≡ suc f = cc in sym s
+    go (answer.Refused n p) (suc f) h =
+        let s : n ≡ suc f = cc in ap (λ (k : ℕ). lastly k (o .settings .sweeps) (o .settings .step)) (sym s)
 
 -- a hint is never longer than its array
 pub hint-fits : (r : Reply) (marks : List ℕ) (m : ℕ) (out order : List ℕ) (live : ℕ) → HintAfter r marks m out order live
@@ -82,67 +88,71 @@ hint-fits none marks m out order live h long =
 hint-fits (bounded b) marks m out order live h long = (h .looks .few, h .long)
 
 -- a tree within the ceiling
-pub record Within (g : Graph) (d : List ℤ) (upper b : ℤ) : Type 0 where
+pub record Within (den : ℕ) (g : Graph) (d : List ℤ) (upper b : ℤ) : Type 0 where
   pub tree : Edges
-  pub least : leastTree (network g) (multiplier d) ≡ aTree b tree
+  pub least : leastTree (scaledBy den (network g)) (multiplier d) ≡ aTree b tree
   pub low : ltZ upper b ≡ false
 
-module _ (g : Graph) (d : List ℤ) (upper : ℤ) (valid : value.Valid g) (long : length d ≡ g .n) (fits : multipliersFit d ≡ true)
-    (ceiling : ceilingFits upper ≡ true) where
-  -- nothing is refused
-  no-fault : ruleFault g d upper (g .m) ≡ 0
-  unfolding ruleFault inputFault
-  no-fault = rw (true-valid g valid, eq-eqb (length d) (g .n) long, eq-eqb (g .m) (g .m) refl, fits, ceiling)
+module _ (den : ℕ) (g : Graph) (d : List ℤ) (upper : ℤ) (valid : value.Valid g) (long : length d ≡ g .n) (fits : multipliersFit d ≡ true)
+    (ceiling : ceilingFits upper ≡ true) (counts : denominatorFault den ≡ 0) where
+  -- the upper bound in units of the multipliers
+  abbrev top : ℤ
+  top = den times upper
 
-  says : ruleReply g d upper (g .m) ≡ ruleSays upper (leastTree (network g) (multiplier d))
+  -- nothing is refused
+  no-fault : ruleFault g d upper den (g .m) ≡ 0
+  unfolding ruleFault inputFault
+  no-fault = rw (true-valid g valid, eq-eqb (length d) (g .n) long, eq-eqb (g .m) (g .m) refl, fits, ceiling, counts)
+
+  says : ruleReply g d upper den (g .m) ≡ ruleSays top (leastTree (scaledBy den (network g)) (multiplier d))
   unfolding ruleReply
   says = rw no-fault
 
-  not-refused : (n p : ℕ) → refused n p ≡ ruleReply g d upper (g .m) → ⊥
-  not-refused n p e = says-no-number n p upper (leastTree (network g) (multiplier d)) (e ∙ says)
+  not-refused : (n p : ℕ) → refused n p ≡ ruleReply g d upper den (g .m) → ⊥
+  not-refused n p e = says-no-number n p top (leastTree (scaledBy den (network g)) (multiplier d)) (e ∙ says)
 
-  none-shut : none ≡ ruleReply g d upper (g .m) → pass (network g) (multiplier d) upper ≡ shut
-  none-shut e = go (leastTree (network g) (multiplier d)) refl (e ∙ says)
+  none-shut : none ≡ ruleReply g d upper den (g .m) → pass (scaledBy den (network g)) (multiplier d) top ≡ shut
+  none-shut e = go (leastTree (scaledBy den (network g)) (multiplier d)) refl (e ∙ says)
     where
-      second : (b : ℤ) (t : Edges) → leastTree (network g) (multiplier d) ≡ aTree b t → (x : Bool) → ltZ upper b ≡ x
-          → none ≡ cond x none (bounded b) → pass (network g) (multiplier d) upper ≡ shut
-      second b t q true i h = pass-above (network g) (multiplier d) upper b t q i
+      second : (b : ℤ) (t : Edges) → leastTree (scaledBy den (network g)) (multiplier d) ≡ aTree b t → (x : Bool) → ltZ top b ≡ x
+          → none ≡ cond x none (bounded b) → pass (scaledBy den (network g)) (multiplier d) top ≡ shut
+      second b t q true i h = pass-above (scaledBy den (network g)) (multiplier d) top b t q i
       second b t q false i h = absurd (let z : _≡_ {A = ℕ} 0 1 = cc in omega arith)
 
-      go : (t : Tree) → leastTree (network g) (multiplier d) ≡ t → none ≡ ruleSays upper t → pass (network g) (multiplier d) upper ≡ shut
-      go noTree q h = pass-none (network g) (multiplier d) upper q
-      go (aTree b t) q h = second b t q (ltZ upper b) refl h
+      go : (t : Tree) → leastTree (scaledBy den (network g)) (multiplier d) ≡ t → none ≡ ruleSays top t → pass (scaledBy den (network g)) (multiplier d) top ≡ shut
+      go noTree q h = pass-none (scaledBy den (network g)) (multiplier d) top q
+      go (aTree b t) q h = second b t q (ltZ top b) refl h
 
-  bounded-within : (b : ℤ) → bounded b ≡ ruleReply g d upper (g .m) → Within g d upper b
-  bounded-within b e = go (leastTree (network g) (multiplier d)) refl (e ∙ says)
+  bounded-within : (b : ℤ) → bounded b ≡ ruleReply g d upper den (g .m) → Within den g d top b
+  bounded-within b e = go (leastTree (scaledBy den (network g)) (multiplier d)) refl (e ∙ says)
     where
-      second : (c : ℤ) (t : Edges) → leastTree (network g) (multiplier d) ≡ aTree c t → (x : Bool) → ltZ upper c ≡ x
-          → bounded b ≡ cond x none (bounded c) → Within g d upper b
+      second : (c : ℤ) (t : Edges) → leastTree (scaledBy den (network g)) (multiplier d) ≡ aTree c t → (x : Bool) → ltZ top c ≡ x
+          → bounded b ≡ cond x none (bounded c) → Within den g d top b
       second c t q true i h = absurd (let z : _≡_ {A = ℕ} 0 1 = cc in omega arith)
       second c t q false i h =
           let s : b ≡ c = cc in
           record { tree = t; least = q ∙ ap (λ (z : ℤ). aTree z t) (sym s); low = rw s i }
 
-      go : (t : Tree) → leastTree (network g) (multiplier d) ≡ t → bounded b ≡ ruleSays upper t → Within g d upper b
+      go : (t : Tree) → leastTree (scaledBy den (network g)) (multiplier d) ≡ t → bounded b ≡ ruleSays top t → Within den g d top b
       go noTree q h = absurd (let z : _≡_ {A = ℕ} 0 1 = cc in omega arith)
-      go (aTree c t) q h = second c t q (ltZ upper c) refl h
+      go (aTree c t) q h = second c t q (ltZ top c) refl h
 
   -- by the answer
-  pub answer-shut : (a : RuleAnswer) → isBound a ≡ false → ruleMeaning a ≡ ruleReply g d upper (g .m)
-      → pass (network g) (multiplier d) upper ≡ shut
+  pub answer-shut : (a : RuleAnswer) → isBound a ≡ false → ruleMeaning a ≡ ruleReply g d upper den (g .m)
+      → pass (scaledBy den (network g)) (multiplier d) top ≡ shut
   unfolding isBound ruleMeaning
   answer-shut answer.Infeasible i e = none-shut e
   answer-shut (answer.Bound b) i e = absurd (true≢false i)
   answer-shut (answer.Refused n p) i e = absurd (not-refused n p e)
 
-  pub answer-within : (a : RuleAnswer) → isBound a ≡ true → ruleMeaning a ≡ ruleReply g d upper (g .m) → (b : ℤ) × Within g d upper b
+  pub answer-within : (a : RuleAnswer) → isBound a ≡ true → ruleMeaning a ≡ ruleReply g d upper den (g .m) → (b : ℤ) × Within den g d top b
   unfolding isBound ruleMeaning
   answer-within answer.Infeasible i e = absurd (false≢true i)
   answer-within (answer.Bound b) i e = (b, bounded-within b e)
   answer-within (answer.Refused n p) i e = absurd (false≢true i)
 
   -- the bytes of the tree and of the rulings
-  pub pass-tree : (out : List ℕ) (b : ℤ) (w : Within g d upper b) → passTree g d upper out ≡ treeBytes (g .m) (w .tree)
+  pub pass-tree : (out : List ℕ) (b : ℤ) (w : Within den g d top b) → passTree g d upper den out ≡ treeBytes (g .m) (w .tree)
   unfolding passTree treeBytes bytesOfTour padded
   pass-tree out b w =
       rw (no-fault, w .least, w .low)
@@ -163,10 +173,10 @@ module _ (g : Graph) (d : List ℤ) (upper : ℤ) (valid : value.Valid g) (long 
               ap bit (List·getD-eq-default (row (g .m) t) false (omega (arith, row-size (g .m) t)))
               ∙ sym (row-at maxEdges f i 0 b ∙ rw (lt-leb (suc i) (g .m) (omega arith)))
 
-  pub pass-rulings : (out : List ℕ) (b : ℤ) (w : Within g d upper b) (k : ℕ) → k < g .m
-      → getD (passRulings g d upper out) k 0 ≡ rulingByte (ruling (network g) (multiplier d) upper (suc k))
+  pub pass-rulings : (out : List ℕ) (b : ℤ) (w : Within den g d top b) (k : ℕ) → k < g .m
+      → getD (passRulings g d upper den out) k 0 ≡ rulingByte (ruling (scaledBy den (network g)) (multiplier d) top (suc k))
   unfolding passRulings padded
   pass-rulings out b w k h =
       rw (no-fault, w .least, w .low)
-      (row-at maxEdges (λ j. cond (leb j (g .m)) (rulingByte (ruling (network g) (multiplier d) upper j)) 0) k 0 (omega (arith, valid .few))
+      (row-at maxEdges (λ j. cond (leb j (g .m)) (rulingByte (ruling (scaledBy den (network g)) (multiplier d) top j)) 0) k 0 (omega (arith, valid .few))
       ∙ rw (le-leb (suc k) (g .m) h))

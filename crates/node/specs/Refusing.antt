@@ -10,6 +10,7 @@ use lib.IntN.{ℤ, pos}
 use Rattle.lists.specs.Fill.{fit, fit-size}
 use Rattle.graph.specs.declared.Graph.{Graph}
 use Rattle.graph.specs.Network.{network}
+use Rattle.tree_theory.specs.Scaled.{scaledBy}
 use Rattle.machine.specs.Outcomes.{closes, finds, splits}
 use Rattle.machine.specs.Machine as M
 use Rattle.machine.specs.Machine.{Opening, openNode, passes}
@@ -20,12 +21,13 @@ use Rattle.node.specs.declared.Subproblem.{Subproblem}
 use Rattle.node.specs.Marks.{marksIn, Padded, bytes-padded, marks-back}
 use Rattle.node.specs.Opened.{opened, openedAs, taken, opensBy}
 use Rattle.node.specs.Faults.{fault-fit, fit-fault}
+use Rattle.node.specs.OnePass.{topOf}
 use Rattle.node.specs.Passes.{AtPass, withBytes, at-first, at-valid}
 
 -- what the node comes to, where it has no fault
 abbrev pub outcome : Opening → M.Opened
 outcome o =
-    passes (network (o .graph)) (o .settings .step) (o .settings .ceiling) (o .settings .sweeps) (o .multipliers)
+    passes (scaledBy (o .settings .denominator) (network (o .graph))) (o .settings .step) (topOf o) (o .settings .sweeps) (o .multipliers)
     (marksIn (o .graph .m) (o .graph .mark))
 
 abbrev pub isRefused : Fate → Bool
@@ -56,7 +58,8 @@ opens-accepted (suc k) o top last e = absurd (omega arith)
 
 -- its passes, in a turn of the loop
 abbrev pub AtPassOf : Subproblem → Graph → ℕ → List ℕ → List ℤ → Type 0
-AtPassOf p g left x d = AtPass g (p .settings .step) (p .settings .ceiling) (outcome (taken p g)) left x d
+AtPassOf p g left x d =
+    AtPass (p .settings .denominator) g (p .settings .step) (topOf (taken p g)) (outcome (taken p g)) left x d
 
 -- nothing is done yet, or the node has no fault
 abbrev pub AtTurn : Subproblem → Graph → ℕ → List ℕ → List ℤ → Type 0
@@ -82,12 +85,13 @@ module _ (p : Subproblem) (g : Graph) (padded : Padded (g .m) (g .mark)) (left :
   later-fit z t =
       let f = fault-fit (taken p g) z in
       fit-fault (takenAt p g x d) (record {
-        valid = at-valid g (f .valid) (p .settings .step) (p .settings .ceiling) (outcome (taken p g)) left x d t;
+        valid = at-valid (p .settings .denominator) g (f .valid) (p .settings .step) (topOf (taken p g)) (outcome (taken p g)) left x d t;
         long = fit-size (g .n) (pos 0) d;
         multipliers = t .fits;
         ceiling = f .ceiling;
         sweeps = f .sweeps;
         step = f .step;
+        denominator = f .denominator;
       })
 
   pub turn-refused : (k : ℕ) (w top : List ℕ) (last : List ℤ) → fault (takenAt p g x d) ≡ k → k ≢ 0 → w ≡ x
@@ -106,7 +110,8 @@ module _ (p : Subproblem) (g : Graph) (padded : Padded (g .m) (g .mark)) (left :
       let z : fault (taken p g) ≡ 0 = sym (ap fault (first-taken (r .1) (r .2))) ∙ e in
       let f = fault-fit (taken p g) z in
       let start =
-      at-first g (p .multipliers) (p .settings .step) (p .settings .ceiling) (p .settings .sweeps) (marks-back g (f .valid) padded) (f .multipliers)
+      at-first (p .settings .denominator) g (p .multipliers) (p .settings .step) (topOf (taken p g)) (p .settings .sweeps)
+      (marks-back g (f .valid) padded) (f .multipliers)
       in
       (z, first r start))
       (λ r. r) s

@@ -13,7 +13,7 @@ ghost use Rattle.machine.specs.Machine.{branch};
 ghost use Rattle.machine.specs.Calls.{fault};
 ghost use Rattle.node.specs.Marks.{marksIn, bytesOf, Padded};
 ghost use Rattle.node.specs.Opened.{opened, places, openedAs, taken, opensBy};
-ghost use Rattle.node.specs.Faults.{settingsFault};
+ghost use Rattle.node.specs.Faults.{settingsFault, lastly};
 ghost use Rattle.node.specs.Counting.{Ends, edged, DegreesTo, allTwo};
 ghost use Rattle.node.specs.Gains.{gainOf, maxGain, GainsTo};
 ghost use Rattle.node.specs.Marking.{markByte, FirstFree};
@@ -225,14 +225,31 @@ fn settings_fault(sweeps: u32, step: u32) -> u32
     0
 }
 
-// What is refused, or 0: what the tree part refuses comes first.
+// What the tree part refuses comes first, but 32 after 14.
+fn lastly(number: u32, sweeps: u32, step: u32) -> u32
+    ensures { λ r. ⌜ r ≡ lastly number sweeps step ⌝ }
+{
+    let fault = settings_fault(sweeps, step);
+    if number == 32 {
+        if fault == 0 {
+            return 32;
+        }
+        return fault;
+    }
+    if number == 0 {
+        return fault;
+    }
+    number
+}
+
+// What is refused, or 0.
 fn refusal(answer: RuleAnswer, sweeps: u32, step: u32) -> u32
     ensures { λ r. ⌜ r ≡ refusal answer sweeps step ⌝ }
 {
     match answer {
         RuleAnswer::Infeasible => settings_fault(sweeps, step),
         RuleAnswer::Bound(_) => settings_fault(sweeps, step),
-        RuleAnswer::Refused(number, _) => number,
+        RuleAnswer::Refused(number, _) => lastly(number, sweeps, step),
     }
 }
 
@@ -280,6 +297,7 @@ fn judge<'a>(
         row,
         &d[..n],
         settings.ceiling,
+        settings.denominator,
         hint,
         &mut tree,
         &mut rulings,

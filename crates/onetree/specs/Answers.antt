@@ -1,5 +1,6 @@
 -- What the tree call and the rule call answer, and what they leave in the lent list, for every input: refusals first, in document 01's
--- order, then by the least 1-tree. The contracts cite these. Definitions only.
+-- order, then by the least 1-tree. Multipliers and bounds count in q-ths of a minute, ceilings in minutes (document 02, C-17). The contracts cite
+-- these. Definitions only.
 use mathlib.Core.Path.{_≡_}
 use mathlib.Core.Bool.{not, cond}
 use mathlib.Core.List.{List}
@@ -10,11 +11,13 @@ use lib.IntN.{ℤ}
 use lib.Signed.{ltZ}
 use Rattle.lists.specs.Bools.{bit}
 use Rattle.lists.specs.Rows.{row}
+use Rattle.integers.specs.Multiples.{_times_}
 use Rattle.graph.specs.declared.Graph.{Graph}
 use Rattle.graph.specs.Limits.{maxEdges}
 use Rattle.graph.specs.Network.{network}
 use Rattle.tree_theory.specs.OneTree.{Edges}
-use Rattle.tree_theory.specs.Inputs.{multiplier, ceilingFits, inputFault}
+use Rattle.tree_theory.specs.Scaled.{scaledBy}
+use Rattle.tree_theory.specs.Inputs.{multiplier, ceilingFits, denominatorFault, inputFault}
 use Rattle.tree_theory.specs.Arrays.{blank}
 use Rattle.tree_theory.specs.Enumeration.{Tree, noTree, aTree, leastTree, Ruling, keeps, forces, bars, wasRequired, wasExcluded, ruling}
 use Rattle.greedy.specs.Hint.{Hinted}
@@ -43,14 +46,15 @@ ruleMeaning (rule.Refused number place) = refused number place
 
 -- ---- refusals
 
-unfoldable pub treeFault : Graph → List ℤ → ℕ → ℕ
+-- C-17: "32 when q is out of range", the last
+unfoldable pub treeFault : Graph → List ℤ → ℕ → ℕ → ℕ
 unfolding inputFault
-treeFault g d len = inputFault g d len 0
+treeFault g d q len = inputFault g d len (denominatorFault q)
 
 -- "13 ceiling"
-unfoldable pub ruleFault : Graph → List ℤ → ℤ → ℕ → ℕ
+unfoldable pub ruleFault : Graph → List ℤ → ℤ → ℕ → ℕ → ℕ
 unfolding inputFault
-ruleFault g d ceiling len = inputFault g d len (cond (not (ceilingFits ceiling)) 13 0)
+ruleFault g d ceiling q len = inputFault g d len (cond (not (ceilingFits ceiling)) 13 (denominatorFault q))
 
 -- a fault is refused, with place 0 ("otherwise 0"); without one the reply is r
 abbrev pub unlessFault : ℕ → Reply → Reply
@@ -74,13 +78,13 @@ treeWrites m out noTree = out
 treeWrites m out (aTree b t) = row m (λ k. bit (t k))
 
 -- "The tree call gives the 1-tree of least bound"; "'No tree' is given exactly when none exists."
-unfoldable pub treeReply : Graph → List ℤ → ℕ → Reply
+unfoldable pub treeReply : Graph → List ℤ → ℕ → ℕ → Reply
 unfolding treeFault
-treeReply g d len = unlessFault (treeFault g d len) (treeSays (leastTree (network g) (multiplier d)))
+treeReply g d q len = unlessFault (treeFault g d q len) (treeSays (leastTree (scaledBy q (network g)) (multiplier d)))
 
-unfoldable pub treeLeaves : Graph → List ℤ → List ℕ → List ℕ
+unfoldable pub treeLeaves : Graph → List ℤ → ℕ → List ℕ → List ℕ
 unfolding treeFault
-treeLeaves g d out = leaves (treeFault g d (length out)) out (treeWrites (g .m) out (leastTree (network g) (multiplier d)))
+treeLeaves g d q out = leaves (treeFault g d q (length out)) out (treeWrites (g .m) out (leastTree (scaledBy q (network g)) (multiplier d)))
 
 -- ---- the rule call
 
@@ -102,15 +106,18 @@ abbrev pub ruleWrites : ℕ → ℤ → List ℕ → (ℕ → Ruling) → Tree �
 ruleWrites m ceiling out rulings noTree = out
 ruleWrites m ceiling out rulings (aTree b t) = cond (ltZ ceiling b) out (row m (λ k. rulingByte (rulings k)))
 
-unfoldable pub ruleReply : Graph → List ℤ → ℤ → ℕ → Reply
+-- C-17: "the bound is scaled likewise, and it is compared with q × ceiling"
+unfoldable pub ruleReply : Graph → List ℤ → ℤ → ℕ → ℕ → Reply
 unfolding ruleFault
-ruleReply g d ceiling len = unlessFault (ruleFault g d ceiling len) (ruleSays ceiling (leastTree (network g) (multiplier d)))
+ruleReply g d ceiling q len =
+    unlessFault (ruleFault g d ceiling q len) (ruleSays (q times ceiling) (leastTree (scaledBy q (network g)) (multiplier d)))
 
-unfoldable pub ruleLeaves : Graph → List ℤ → ℤ → List ℕ → List ℕ
+unfoldable pub ruleLeaves : Graph → List ℤ → ℤ → ℕ → List ℕ → List ℕ
 unfolding ruleFault
-ruleLeaves g d ceiling out =
-    leaves (ruleFault g d ceiling (length out)) out
-    (ruleWrites (g .m) ceiling out (ruling (network g) (multiplier d) ceiling) (leastTree (network g) (multiplier d)))
+ruleLeaves g d ceiling q out =
+    leaves (ruleFault g d ceiling q (length out)) out
+    (ruleWrites (g .m) (q times ceiling) out (ruling (scaledBy q (network g)) (multiplier d) (q times ceiling))
+    (leastTree (scaledBy q (network g)) (multiplier d)))
 
 -- ---- the combined pass of a search: the tree and the rulings from one 1-tree, in lent arrays
 
@@ -124,18 +131,19 @@ passWrites m ceiling f noTree = blank
 passWrites m ceiling f (aTree b t) = cond (ltZ ceiling b) blank (padded m (f t))
 
 -- the bytes of the tree call; "a refusal leaves each lent list .. unchanged"
-unfoldable pub passTree : Graph → List ℤ → ℤ → List ℕ → List ℕ
+unfoldable pub passTree : Graph → List ℤ → ℤ → ℕ → List ℕ → List ℕ
 unfolding ruleFault
-passTree g d ceiling out =
-    leaves (ruleFault g d ceiling (g .m)) out
-    (passWrites (g .m) ceiling (λ t k. bit (t k)) (leastTree (network g) (multiplier d)))
+passTree g d ceiling q out =
+    leaves (ruleFault g d ceiling q (g .m)) out
+    (passWrites (g .m) (q times ceiling) (λ t k. bit (t k)) (leastTree (scaledBy q (network g)) (multiplier d)))
 
 -- the bytes of the rule call
-unfoldable pub passRulings : Graph → List ℤ → ℤ → List ℕ → List ℕ
+unfoldable pub passRulings : Graph → List ℤ → ℤ → ℕ → List ℕ → List ℕ
 unfolding ruleFault
-passRulings g d ceiling out =
-    leaves (ruleFault g d ceiling (g .m)) out
-    (passWrites (g .m) ceiling (λ t k. rulingByte (ruling (network g) (multiplier d) ceiling k)) (leastTree (network g) (multiplier d)))
+passRulings g d ceiling q out =
+    leaves (ruleFault g d ceiling q (g .m)) out
+    (passWrites (g .m) (q times ceiling) (λ t k. rulingByte (ruling (scaledBy q (network g)) (multiplier d) (q times ceiling) k))
+    (leastTree (scaledBy q (network g)) (multiplier d)))
 
 -- what a pass leaves in the list that it is lent for it: a refusal leaves it as it was
 abbrev pub HintAfter : Reply → List ℕ → ℕ → List ℕ → List ℕ → ℕ → Type 0

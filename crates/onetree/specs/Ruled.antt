@@ -18,6 +18,7 @@ use Rattle.graph.specs.Valid.{Valid}
 use Rattle.tree_theory.specs.OneTree.{OneTree}
 use Rattle.tree_theory.specs.Enumeration.{ruling}
 use Rattle.tree_theory.specs.Rulings.{rules-required, rules-excluded}
+use Rattle.tree_theory.specs.Scaled.{scaledBy}
 use Rattle.tree_theory.specs.Inputs.{multiplier}
 use Rattle.onetree.specs.Answers.{rulingByte}
 use Rattle.tree_theory.specs.Arrays.{bytes, of-edge, mark-required, mark-excluded}
@@ -41,8 +42,8 @@ finalAt mark out k = rulingOf (getD mark k 0) (getD out k 0)
 
 -- every edge's byte is its ruling's, and past the edges there is 0
 pub record RuledBy (g : Graph) (w c : List ℕ) (slack : ℕ) (res : List ℕ) : Type 0 where
-  pub each : (d : List ℤ) (z : ℤ) → Judgement g w c slack d z → (k : ℕ) → k < g .m
-      → getD res k 0 ≡ rulingByte (ruling (network g) (multiplier d) z (suc k))
+  pub each : (den : ℕ) (d : List ℤ) (z : ℤ) → Judgement den g w c slack d z → (k : ℕ) → k < g .m
+      → getD res k 0 ≡ rulingByte (ruling (scaledBy den (network g)) (multiplier d) z (suc k))
   pub past : (k : ℕ) → g .m ≤ k → getD res k 0 ≡ 0
 
 mark-cases : (x : ℕ) → x ≤ 2 → (x ≡ 0) ⊎ ((x ≡ 1) ⊎ (x ≡ 2))
@@ -72,19 +73,19 @@ module _ (g : Graph) (w c rep : List ℕ) (r : Rooting) (weight : List ℕ) (dea
     kept : (k : ℕ) → ((v : ℕ) → Below r v → edgeAt r v ≢ k) → getD mid k 0 ≡ getD out k 0
     kept k none = f .rest k none
 
-    module _ (d : List ℤ) (z : ℤ) (j : Judgement g w c slack d z) (k : ℕ) (hk : k < g .m) where
+    module _ (den : ℕ) (d : List ℤ) (z : ℤ) (j : Judgement den g w c slack d z) (k : ℕ) (hk : k < g .m) where
       -- a free edge has its byte before the last loop
-      free-byte : markAt g k ≡ 0 → getD mid k 0 ≡ rulingByte (ruling (network g) (multiplier d) z (suc k))
+      free-byte : markAt g k ≡ 0 → getD mid k 0 ≡ rulingByte (ruling (scaledBy den (network g)) (multiplier d) z (suc k))
       unfolding network
       free-byte free = go (ℕ-discrete (getD w k 0) 1) (ℕ-discrete (aAt g k) 1)
         where
           inside : (low : ℕ) → getD w k 0 ≡ 1 → Least (Comes g w rep r k) (chargeAt c) noCharge (g .m) low
-              → forceByte low (chargeAt c k) slack ≡ rulingByte (ruling (network g) (multiplier d) z (suc k))
-          inside low e l = sym (in-byte g (ready .valid) w c rep r (ready .rooted) slack d z j k hk free e low l)
+              → forceByte low (chargeAt c k) slack ≡ rulingByte (ruling (scaledBy den (network g)) (multiplier d) z (suc k))
+          inside low e l = sym (in-byte den g (ready .valid) w c rep r (ready .rooted) slack d z j k hk free e low l)
 
-          go : Dec (getD w k 0 ≡ 1) → Dec (aAt g k ≡ 1) → getD mid k 0 ≡ rulingByte (ruling (network g) (multiplier d) z (suc k))
+          go : Dec (getD w k 0 ≡ 1) → Dec (aAt g k ≡ 1) → getD mid k 0 ≡ rulingByte (ruling (scaledBy den (network g)) (multiplier d) z (suc k))
           go (no e) o = kept k (λ v i q. e (subst (λ (x : ℕ). getD w x 0 ≡ 1) q (over v i .1)))
-              ∙ q .2 ∙ sym (out-byte g (ready .valid) w c rep r (ready .rooted) slack d z j k hk free e (q .0) (q .1))
+              ∙ q .2 ∙ sym (out-byte den g (ready .valid) w c rep r (ready .rooted) slack d z j k hk free e (q .0) (q .1))
             where
               q : Barring g w c rep r slack k (getD out k 0)
               q = h .bars k hk e free
@@ -97,7 +98,7 @@ module _ (g : Graph) (w c rep : List ℕ) (r : Rooting) (weight : List ℕ) (dea
               u : (x : ℕ) × Below r x × (edgeAt r x ≡ k)
               u = over-all g (ready .valid) w (ready .tree) rep r (ready .rooted) k hk e away free
 
-      final : finalAt (g .mark) mid k ≡ rulingByte (ruling (network g) (multiplier d) z (suc k))
+      final : finalAt (g .mark) mid k ≡ rulingByte (ruling (scaledBy den (network g)) (multiplier d) z (suc k))
       unfolding rulingOf network
       final = go (mark-cases (markAt g k) (ready .valid .each k hk .known))
         where
@@ -105,14 +106,14 @@ module _ (g : Graph) (w c rep : List ℕ) (r : Rooting) (weight : List ℕ) (dea
           mk = of-edge (g .m) k hk
 
           go : (markAt g k ≡ 0) ⊎ ((markAt g k ≡ 1) ⊎ (markAt g k ≡ 2))
-              → finalAt (g .mark) mid k ≡ rulingByte (ruling (network g) (multiplier d) z (suc k))
+              → finalAt (g .mark) mid k ≡ rulingByte (ruling (scaledBy den (network g)) (multiplier d) z (suc k))
           go (inl e) = rw e (free-byte e)
-          go (inr (inl e)) = rw e (sym (ap rulingByte (rules-required (network g) (multiplier d) z (suc k) mk (mark-required g k hk e))))
-          go (inr (inr e)) = rw e (sym (ap rulingByte (rules-excluded (network g) (multiplier d) z (suc k) mk (mark-excluded g k hk e))))
+          go (inr (inl e)) = rw e (sym (ap rulingByte (rules-required (scaledBy den (network g)) (multiplier d) z (suc k) mk (mark-required g k hk e))))
+          go (inr (inr e)) = rw e (sym (ap rulingByte (rules-excluded (scaledBy den (network g)) (multiplier d) z (suc k) mk (mark-excluded g k hk e))))
 
     -- THE RULINGS
     pub ruled-by : (res : List ℕ) → Updated (finalAt (g .mark) mid) mid res (g .m) → RuledBy g w c slack res
     ruled-by res u = record {
-      each = λ d z j k hk. u .done k hk ∙ final d z j k hk;
+      each = λ den d z j k hk. u .done k hk ∙ final den d z j k hk;
       past = λ k l. u .rest k l ∙ kept k (λ v i q. omega (arith, over v i .0)) ∙ h .rest k l;
     }

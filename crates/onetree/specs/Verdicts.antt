@@ -17,10 +17,12 @@ use Rattle.graph.specs.declared.Graph.{Graph}
 use Rattle.graph.specs.Network.{network}
 use Rattle.graph.specs.Valid as value
 use Rattle.tree_theory.specs.OneTree as one
-use Rattle.tree_theory.specs.OneTree.{bound, Barred, Forced}
+use Rattle.tree_theory.specs.OneTree.{OneTree, bound, Barred, Forced}
 use Rattle.tree_theory.specs.Enumeration.{ruling}
 use Rattle.tree_theory.specs.Rulings.{rules-out, rules-in, rules-nothing}
 use Rattle.tree_theory.specs.Optimal.Criteria.{MaySwap}
+use Rattle.tree_theory.specs.Scaled.{scaledBy}
+use Rattle.tree_theory.specs.Scaling.{valid-scaled, tree-scaled, swap-scaled}
 use Rattle.tree_theory.specs.Inputs.{multiplier}
 use Rattle.onetree.specs.Answers.{rulingByte}
 use Rattle.tree_theory.specs.Arrays.{entry, bytes, edge-of, of-edge, mark-free, network-valid}
@@ -71,41 +73,44 @@ force-cases low c slack = go (decLe (suc (c + slack)) low)
     go (yes l) = inl (rw (lt-ltb (c + slack) low l), l)
     go (no l) = inr (rw (le-ltb (c + slack) low (omega arith)), omega arith)
 
--- what the least 1-tree, its charges and the ceiling are
-pub record Judgement (g : Graph) (w c : List ℕ) (slack : ℕ) (d : List ℤ) (z : ℤ) : Type 0 where
-  pub charged : Charged g d c
-  pub least : one.Least (network g) (multiplier d) (bytes w)
-  pub within : SlackIs z (bound (network g) (multiplier d) (bytes w)) slack
+-- what the least 1-tree, its charges and the ceiling are; multipliers, bounds and this ceiling count in parts of a minute by the denominator
+pub record Judgement (den : ℕ) (g : Graph) (w c : List ℕ) (slack : ℕ) (d : List ℤ) (z : ℤ) : Type 0 where
+  pub charged : Charged den g d c
+  pub least : one.Least (scaledBy den (network g)) (multiplier d) (bytes w)
+  pub within : SlackIs z (bound (scaledBy den (network g)) (multiplier d) (bytes w)) slack
   pub small : slack ≤ maxSlack
 
-module _ (g : Graph) (v : value.Valid g) (w c rep : List ℕ) (r : Rooting) (t : RootedIn g w rep r) (slack : ℕ) (d : List ℤ) (z : ℤ)
-    (j : Judgement g w c slack d z) (k : ℕ) (hk : k < g .m) (free : markAt g k ≡ 0) where
+module _ (den : ℕ) (g : Graph) (v : value.Valid g) (w c rep : List ℕ) (r : Rooting) (t : RootedIn g w rep r) (slack : ℕ) (d : List ℤ) (z : ℤ)
+    (j : Judgement den g w c slack d z) (k : ℕ) (hk : k < g .m) (free : markAt g k ≡ 0) where
   mk : suc k ∈ upTo (g .m)
   mk = of-edge (g .m) k hk
+
+  is-tree : OneTree (network g) (bytes w)
+  is-tree = tree-scaled den (network g) (bytes w) .0 (j .least .tree)
 
   out : getD w k 0 ≢ 1 → bytes w (suc k) ≡ false
   out e = ne-eqb (getD w k 0) 1 e
 
   module _ (wk : getD w k 0 ≢ 1) where
-    barred : Barred (network g) (multiplier d) z (suc k) ↔ ((e : ℕ) → e ∈ upTo (g .m) → bytes w e ≡ true
-        → MaySwap (network g) (bytes w) e (suc k) → slack + entry c e < entry c (suc k))
+    barred : Barred (scaledBy den (network g)) (multiplier d) z (suc k) ↔ ((e : ℕ) → e ∈ upTo (g .m) → bytes w e ≡ true
+        → MaySwap (scaledBy den (network g)) (bytes w) e (suc k) → slack + entry c e < entry c (suc k))
     unfolding network
-    barred = barred-slack (network g) (network-valid g v) (multiplier d) offset (entry c) (offs g d c (j .charged)) (bytes w) (j .least)
+    barred = barred-slack (scaledBy den (network g)) (valid-scaled den (network g) (network-valid g v)) (multiplier d) offset (entry c) (offs den g d c (j .charged)) (bytes w) (j .least)
         z slack (j .within) (suc k) mk (out wk)
 
-    not-forced : ¬ Forced (network g) (multiplier d) z (suc k)
+    not-forced : ¬ Forced (scaledBy den (network g)) (multiplier d) z (suc k)
     unfolding network
-    not-forced = not-forced-out (network g) (network-valid g v) (multiplier d) offset (entry c) (offs g d c (j .charged)) (bytes w)
+    not-forced = not-forced-out (scaledBy den (network g)) (valid-scaled den (network g) (network-valid g v)) (multiplier d) offset (entry c) (offs den g d c (j .charged)) (bytes w)
         (j .least)
         z slack (j .within) (suc k) mk (out wk)
 
     -- OUTSIDE THE TREE
     pub out-byte : (top : ℕ) → Largest (Gives g w rep r k) (chargeAt c) (g .m) top
-        → rulingByte (ruling (network g) (multiplier d) z (suc k)) ≡ barByte top (chargeAt c k) slack
+        → rulingByte (ruling (scaledBy den (network g)) (multiplier d) z (suc k)) ≡ barByte top (chargeAt c k) slack
     unfolding network
     out-byte top l = go (bar-cases top (chargeAt c k) slack)
       where
-        bar : (top ≡ 0) ⊎ (top + slack < chargeAt c k) → Barred (network g) (multiplier d) z (suc k)
+        bar : (top ≡ 0) ⊎ (top + slack < chargeAt c k) → Barred (scaledBy den (network g)) (multiplier d) z (suc k)
         bar q = barred .1 (λ e m i s. below e (edge-of (g .m) e m) i s)
           where
             side : (i : ℕ) → i < g .m → chargeAt c i ≤ top → (top ≡ 0) ⊎ (top + slack < chargeAt c k)
@@ -113,7 +118,7 @@ module _ (g : Graph) (v : value.Valid g) (w c rep : List ℕ) (r : Rooting) (t :
             side i h a (inl e) = absurd (omega (arith, j .charged i h .low))
             side i h a (inr e) = omega arith
 
-            below : (e : ℕ) → (i : ℕ) × (i < g .m) × (e ≡ suc i) → bytes w e ≡ true → MaySwap (network g) (bytes w) e (suc k)
+            below : (e : ℕ) → (i : ℕ) × (i < g .m) × (e ≡ suc i) → bytes w e ≡ true → MaySwap (scaledBy den (network g)) (bytes w) e (suc k)
                 → slack + entry c e < chargeAt c k
             below e n i s = rw (n .2) (side (n .0) (n .1) (l .all (n .0) (n .1) (wi, may)) q)
               where
@@ -121,10 +126,11 @@ module _ (g : Graph) (v : value.Valid g) (w c rep : List ℕ) (r : Rooting) (t :
                 wi = eqb-true (getD w (n .0) 0) 1 (subst (λ (x : ℕ). bytes w x ≡ true) (n .2) i)
 
                 may : Swaps g rep r (n .0) k
-                may = may-swaps g v w (j .least .tree) rep r t (n .0) k (n .1) hk wi wk
-                    (subst (λ (x : ℕ). MaySwap (network g) (bytes w) x (suc k)) (n .2) s)
+                may = may-swaps g v w is-tree rep r t (n .0) k (n .1) hk wi wk
+                    (swap-scaled den (network g) (bytes w) (suc (n .0)) (suc k) .0
+                    (subst (λ (x : ℕ). MaySwap (scaledBy den (network g)) (bytes w) x (suc k)) (n .2) s))
 
-        open′ : 1 ≤ top → chargeAt c k ≤ top + slack → ¬ Barred (network g) (multiplier d) z (suc k)
+        open′ : 1 ≤ top → chargeAt c k ≤ top + slack → ¬ Barred (scaledBy den (network g)) (multiplier d) z (suc k)
         open′ some near b = no-way (l .best)
           where
             no-way : Taken (Gives g w rep r k) (chargeAt c) 0 (g .m) top → ⊥
@@ -133,43 +139,44 @@ module _ (g : Graph) (v : value.Valid g) (w c rep : List ℕ) (r : Rooting) (t :
               arith,
               q .3,
               barred .0 b (suc (q .0)) (of-edge (g .m) (q .0) (q .1)) (eq-eqb (getD w (q .0) 0) 1 (q .2 .0))
-                  (swaps-may g v w (j .least .tree) rep r t (q .0) k (q .1) hk (q .2 .0) wk (q .2 .1)),
+                  (swap-scaled den (network g) (bytes w) (suc (q .0)) (suc k) .1
+                  (swaps-may g v w is-tree rep r t (q .0) k (q .1) hk (q .2 .0) wk (q .2 .1))),
             )
 
         go : ((barByte top (chargeAt c k) slack ≡ 2) × ((top ≡ 0) ⊎ (top + slack < chargeAt c k)))
             ⊎ ((barByte top (chargeAt c k) slack ≡ 0) × (1 ≤ top) × (chargeAt c k ≤ top + slack))
-            → rulingByte (ruling (network g) (multiplier d) z (suc k)) ≡ barByte top (chargeAt c k) slack
-        go (inl q) = ap rulingByte (rules-out (network g) (multiplier d) z (suc k) mk (mark-free g k hk free) (bar (q .1))) ∙ sym (q .0)
+            → rulingByte (ruling (scaledBy den (network g)) (multiplier d) z (suc k)) ≡ barByte top (chargeAt c k) slack
+        go (inl q) = ap rulingByte (rules-out (scaledBy den (network g)) (multiplier d) z (suc k) mk (mark-free g k hk free) (bar (q .1))) ∙ sym (q .0)
         go (inr q) =
-            ap rulingByte (rules-nothing (network g) (multiplier d) z (suc k) mk (mark-free g k hk free) (open′ (q .1) (q .2)) not-forced)
+            ap rulingByte (rules-nothing (scaledBy den (network g)) (multiplier d) z (suc k) mk (mark-free g k hk free) (open′ (q .1) (q .2)) not-forced)
             ∙ sym (q .0)
 
   module _ (wk : getD w k 0 ≡ 1) where
     in-tree : bytes w (suc k) ≡ true
     in-tree = eq-eqb (getD w k 0) 1 wk
 
-    forced : Forced (network g) (multiplier d) z (suc k) ↔ ((e : ℕ) → e ∈ upTo (g .m) → bytes w e ≡ false
-        → MaySwap (network g) (bytes w) (suc k) e → slack + entry c (suc k) < entry c e)
+    forced : Forced (scaledBy den (network g)) (multiplier d) z (suc k) ↔ ((e : ℕ) → e ∈ upTo (g .m) → bytes w e ≡ false
+        → MaySwap (scaledBy den (network g)) (bytes w) (suc k) e → slack + entry c (suc k) < entry c e)
     unfolding network
-    forced = forced-slack (network g) (network-valid g v) (multiplier d) offset (entry c) (offs g d c (j .charged)) (bytes w) (j .least)
+    forced = forced-slack (scaledBy den (network g)) (valid-scaled den (network g) (network-valid g v)) (multiplier d) offset (entry c) (offs den g d c (j .charged)) (bytes w) (j .least)
         z slack (j .within) (suc k) mk in-tree
 
-    not-barred : ¬ Barred (network g) (multiplier d) z (suc k)
+    not-barred : ¬ Barred (scaledBy den (network g)) (multiplier d) z (suc k)
     unfolding network
-    not-barred = not-barred-in (network g) (network-valid g v) (multiplier d) offset (entry c) (offs g d c (j .charged)) (bytes w)
+    not-barred = not-barred-in (scaledBy den (network g)) (valid-scaled den (network g) (network-valid g v)) (multiplier d) offset (entry c) (offs den g d c (j .charged)) (bytes w)
         (j .least)
         z slack (j .within) (suc k) mk in-tree
 
     -- IN THE TREE
     pub in-byte : (low : ℕ) → Least (Comes g w rep r k) (chargeAt c) noCharge (g .m) low
-        → rulingByte (ruling (network g) (multiplier d) z (suc k)) ≡ forceByte low (chargeAt c k) slack
+        → rulingByte (ruling (scaledBy den (network g)) (multiplier d) z (suc k)) ≡ forceByte low (chargeAt c k) slack
     unfolding network
     in-byte low l = go (force-cases low (chargeAt c k) slack)
       where
-        force : chargeAt c k + slack < low → Forced (network g) (multiplier d) z (suc k)
+        force : chargeAt c k + slack < low → Forced (scaledBy den (network g)) (multiplier d) z (suc k)
         force q = forced .1 (λ e m i s. over e (edge-of (g .m) e m) i s)
           where
-            over : (e : ℕ) → (i : ℕ) × (i < g .m) × (e ≡ suc i) → bytes w e ≡ false → MaySwap (network g) (bytes w) (suc k) e
+            over : (e : ℕ) → (i : ℕ) × (i < g .m) × (e ≡ suc i) → bytes w e ≡ false → MaySwap (scaledBy den (network g)) (bytes w) (suc k) e
                 → slack + chargeAt c k < entry c e
             over e n i s = rw (n .2) (omega (arith, l .all (n .0) (n .1) (wi, may)))
               where
@@ -177,10 +184,11 @@ module _ (g : Graph) (v : value.Valid g) (w c rep : List ℕ) (r : Rooting) (t :
                 wi = eqb-false (getD w (n .0) 0) 1 (subst (λ (x : ℕ). bytes w x ≡ false) (n .2) i)
 
                 may : Swaps g rep r k (n .0)
-                may = may-swaps g v w (j .least .tree) rep r t k (n .0) hk (n .1) wk wi
-                    (subst (λ (x : ℕ). MaySwap (network g) (bytes w) (suc k) x) (n .2) s)
+                may = may-swaps g v w is-tree rep r t k (n .0) hk (n .1) wk wi
+                    (swap-scaled den (network g) (bytes w) (suc k) (suc (n .0)) .0
+                    (subst (λ (x : ℕ). MaySwap (scaledBy den (network g)) (bytes w) (suc k) x) (n .2) s))
 
-        loose : low ≤ chargeAt c k + slack → ¬ Forced (network g) (multiplier d) z (suc k)
+        loose : low ≤ chargeAt c k + slack → ¬ Forced (scaledBy den (network g)) (multiplier d) z (suc k)
         loose near f = no-way (l .best)
           where
             no-way : Taken (Comes g w rep r k) (chargeAt c) noCharge (g .m) low → ⊥
@@ -189,15 +197,16 @@ module _ (g : Graph) (v : value.Valid g) (w c rep : List ℕ) (r : Rooting) (t :
               arith,
               q .3,
               forced .0 f (suc (q .0)) (of-edge (g .m) (q .0) (q .1)) (ne-eqb (getD w (q .0) 0) 1 (q .2 .0))
-                  (swaps-may g v w (j .least .tree) rep r t k (q .0) hk (q .1) wk (q .2 .0) (q .2 .1)),
+                  (swap-scaled den (network g) (bytes w) (suc k) (suc (q .0)) .1
+                  (swaps-may g v w is-tree rep r t k (q .0) hk (q .1) wk (q .2 .0) (q .2 .1))),
             )
 
         go : ((forceByte low (chargeAt c k) slack ≡ 1) × (chargeAt c k + slack < low))
             ⊎ ((forceByte low (chargeAt c k) slack ≡ 0) × (low ≤ chargeAt c k + slack))
-            → rulingByte (ruling (network g) (multiplier d) z (suc k)) ≡ forceByte low (chargeAt c k) slack
+            → rulingByte (ruling (scaledBy den (network g)) (multiplier d) z (suc k)) ≡ forceByte low (chargeAt c k) slack
         go (inl q) =
-            ap rulingByte (rules-in (network g) (multiplier d) z (suc k) mk (mark-free g k hk free) not-barred (force (q .1))) ∙ sym
+            ap rulingByte (rules-in (scaledBy den (network g)) (multiplier d) z (suc k) mk (mark-free g k hk free) not-barred (force (q .1))) ∙ sym
             (q .0)
         go (inr q) =
-            ap rulingByte (rules-nothing (network g) (multiplier d) z (suc k) mk (mark-free g k hk free) not-barred (loose (q .1)))
+            ap rulingByte (rules-nothing (scaledBy den (network g)) (multiplier d) z (suc k) mk (mark-free g k hk free) not-barred (loose (q .1)))
             ∙ sym (q .0)

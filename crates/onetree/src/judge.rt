@@ -4,11 +4,12 @@ ghost use mathlib.Core.Bool.{false, not, cond};
 ghost use Prim.Native.Nat.{_≤_};
 ghost use lib.Signed.{ltZ};
 ghost use Rattle.integers.specs.Range.{InRange};
-ghost use Rattle.graph.specs.Limits.{maxCeiling};
+ghost use Rattle.integers.specs.Multiples.{_times_};
+ghost use Rattle.graph.specs.Limits.{maxCeiling, maxDenominator};
 ghost use Rattle.graph.specs.Valid.{graphOf};
 ghost use Rattle.tree_theory.specs.Inputs.{ceilingFits};
 ghost use Rattle.swaps.specs.Slack.{SlackIs};
-ghost use Rattle.greedy.specs.Charged.{maxSlack};
+ghost use Rattle.greedy.specs.Charged.{maxScaledCeiling, maxSlack};
 ghost use Rattle.onetree.specs.Ceiling.{BoundFits, passLists, RuledOrRefused};
 use crate::rulings::rulings;
 use graph::MAX_EDGES;
@@ -35,9 +36,17 @@ fn below(x: i64, y: i64) -> bool
     x < y
 }
 
-// How far a bound lies below a ceiling.
+// A ceiling in units of the multipliers: q times it (document 02, C-17).
+fn in_units(q: u64, ceiling: i64) -> i64
+    requires { ⌜ (q ≤ maxDenominator) × InRange maxCeiling ceiling ⌝ }
+    ensures { λ r. ⌜ r ≡ q times ceiling ⌝ }
+{
+    (q as i64) * ceiling
+}
+
+// How far a bound lies below a ceiling, both in units of the multipliers.
 fn slack_of(ceiling: i64, bound: i64) -> u64
-    requires { ⌜ InRange maxCeiling ceiling × BoundFits bound × (ltZ ceiling bound ≡ false) ⌝ }
+    requires { ⌜ InRange maxScaledCeiling ceiling × BoundFits bound × (ltZ ceiling bound ≡ false) ⌝ }
     ensures { λ r. ⌜ SlackIs ceiling bound r × (r ≤ maxSlack) ⌝ }
 {
     (ceiling - bound) as u64
@@ -58,12 +67,13 @@ pub(crate) fn judge<'a>(
     res: &mut [u8; MAX_EDGES],
     order: &mut [u8; MAX_EDGES],
 ) -> Found
-    ensures { λ r. ⌜ RuledOrRefused (graphOf (sizes .n) (sizes .m) (now (a .entry)) (now (b .entry)) (now (cost .entry)) (now (mark .entry)))
+    ensures { λ r. ⌜ RuledOrRefused (sizes .denominator) (graphOf (sizes .n) (sizes .m) (now (a .entry)) (now (b .entry)) (now (cost .entry)) (now (mark .entry)))
         (now (multipliers .entry)) ceiling (sizes .lent) (passLists (now (tree .entry)) (now (res .entry)) (now (order .entry))) r
         (passLists (now (tree .exit)) (now (res .exit)) (now (order .exit))) ⌝ }
 {
     let n = sizes.n;
     let m = sizes.m;
+    let q = sizes.denominator;
     let later = ceiling_fault(ceiling);
     let mut c = [0u64; MAX_EDGES];
     let mut rep = [0u8; MAX_LABELS];
@@ -89,10 +99,11 @@ pub(crate) fn judge<'a>(
         return f;
     }
     let lowest = f.bound;
-    if below(ceiling, lowest) {
+    let top = in_units(q, ceiling);
+    if below(top, lowest) {
         return nothing(tree, order);
     }
-    let slack = slack_of(ceiling, lowest);
+    let slack = slack_of(top, lowest);
     rulings(n, m, a, b, mark, tree, &c, &rep, slack, res);
     f
 }

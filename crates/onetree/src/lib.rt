@@ -1,4 +1,5 @@
-// Document 01's 'The 1-tree' and 'Rulings'. Our words: multipliers for dues, infeasible for dead.
+// Document 01's 'The 1-tree' and 'Rulings'. Our words: multipliers for dues, infeasible for dead. Multipliers and bounds count in parts of a minute, as
+// many as the denominator says; ceilings are in minutes (document 02, C-17).
 ghost use mathlib.Core.Path.{_≡_};
 ghost use Prim.Native.Nat.{_<_, _≤_};
 ghost use lib.ListN.{length};
@@ -17,10 +18,13 @@ use graph::Graph;
 use graph::MAX_EDGES;
 use graph::wide;
 pub use greedy::MAX_CEILING;
+pub use greedy::MAX_DENOMINATOR;
 use greedy::MAX_LABELS;
 pub use greedy::MAX_MULTIPLIER;
 use greedy::Sizes;
 pub use greedy::ceiling_fits;
+pub use greedy::denominator_fault;
+pub use greedy::denominator_fits;
 use greedy::least;
 pub use greedy::multipliers_fit;
 pub use rulings::BAR;
@@ -62,15 +66,16 @@ pub(crate) fn write(from: &[u8; MAX_EDGES], out: &mut [u8])
 }
 
 // The 1-tree of least bound, or that there is none.
-// Ruled out: of two 1-trees of equal bound the one with the higher-numbered edge; 'no tree' with a byte of `out` changed.
-pub fn tree(g: Graph, multipliers: &[i32], out: &mut [u8]) -> TreeAnswer
-    ensures { λ r. ⌜ (treeMeaning r ≡ treeReply g (now (multipliers .entry)) (length (now (out .entry))))
-        × (now (out .exit) ≡ treeLeaves g (now (multipliers .entry)) (now (out .entry))) ⌝ }
+// Ruled out: of two 1-trees of equal bound the one with the higher-numbered edge; 'no tree' with a byte of `out` changed; the bound in minutes.
+pub fn tree(g: Graph, multipliers: &[i32], denominator: u64, out: &mut [u8]) -> TreeAnswer
+    ensures { λ r. ⌜ (treeMeaning r ≡ treeReply g (now (multipliers .entry)) denominator (length (now (out .entry))))
+        × (now (out .exit) ≡ treeLeaves g (now (multipliers .entry)) denominator (now (out .entry))) ⌝ }
 {
     let sizes = Sizes {
         n: wide(g.n),
         m: wide(g.m),
         lent: out.len(),
+        denominator: denominator,
     };
     let mut w = [0u8; MAX_EDGES];
     let mut c = [0u64; MAX_EDGES];
@@ -101,15 +106,23 @@ pub fn tree(g: Graph, multipliers: &[i32], out: &mut [u8]) -> TreeAnswer
 }
 
 // The bound of the least 1-tree, and for each edge whether it can be in or out of a 1-tree within the ceiling; or that none is within it.
-// Ruled out: a required edge swapped out on its circle; BAR at a bound equal to the ceiling; FORCE of a required edge.
-pub fn rule(g: Graph, multipliers: &[i32], ceiling: i64, out: &mut [u8]) -> RuleAnswer
-    ensures { λ r. ⌜ (ruleMeaning r ≡ ruleReply g (now (multipliers .entry)) ceiling (length (now (out .entry))))
-        × (now (out .exit) ≡ ruleLeaves g (now (multipliers .entry)) ceiling (now (out .entry))) ⌝ }
+// Ruled out: a required edge swapped out on its circle; BAR at a bound equal to the ceiling; FORCE of a required edge; a bound in parts of a minute
+// compared with a ceiling in minutes.
+pub fn rule(
+    g: Graph,
+    multipliers: &[i32],
+    ceiling: i64,
+    denominator: u64,
+    out: &mut [u8],
+) -> RuleAnswer
+    ensures { λ r. ⌜ (ruleMeaning r ≡ ruleReply g (now (multipliers .entry)) ceiling denominator (length (now (out .entry))))
+        × (now (out .exit) ≡ ruleLeaves g (now (multipliers .entry)) ceiling denominator (now (out .entry))) ⌝ }
 {
     let sizes = Sizes {
         n: wide(g.n),
         m: wide(g.m),
         lent: out.len(),
+        denominator: denominator,
     };
     let mut w = [0u8; MAX_EDGES];
     let mut r = [0u8; MAX_EDGES];
@@ -150,6 +163,7 @@ pub fn pass<'a>(
     mark: &'a [u8; MAX_EDGES],
     multipliers: &'a [i32],
     ceiling: i64,
+    denominator: u64,
     hint: &'a [u8],
     tree: &mut [u8; MAX_EDGES],
     rulings: &mut [u8; MAX_EDGES],
@@ -157,19 +171,20 @@ pub fn pass<'a>(
 ) -> Passed
     ensures { λ r. ⌜ (ruleMeaning (r .answer)
         ≡ ruleReply (graphOf n m (now (a .entry)) (now (b .entry)) (now (cost .entry)) (now (mark .entry))) (now (multipliers .entry))
-        ceiling m)
+        ceiling denominator m)
         × (now (tree .exit)
         ≡ passTree (graphOf n m (now (a .entry)) (now (b .entry)) (now (cost .entry)) (now (mark .entry))) (now (multipliers .entry))
-        ceiling (now (tree .entry)))
+        ceiling denominator (now (tree .entry)))
         × (now (rulings .exit)
         ≡ passRulings (graphOf n m (now (a .entry)) (now (b .entry)) (now (cost .entry)) (now (mark .entry))) (now (multipliers .entry))
-        ceiling (now (rulings .entry)))
+        ceiling denominator (now (rulings .entry)))
         × HintAfter (ruleMeaning (r .answer)) (now (mark .entry)) m (now (order .entry)) (now (order .exit)) (r .live) ⌝ }
 {
     let sizes = Sizes {
         n: n,
         m: m,
         lent: m,
+        denominator: denominator,
     };
     let f = judge::judge(
         sizes,

@@ -34,6 +34,7 @@ use graph::MAX_VERTICES;
 use graph::REQUIRED;
 use graph::wide;
 use greedy::MAX_CEILING;
+use greedy::MAX_DENOMINATOR;
 use greedy::MAX_LABELS;
 use greedy::MAX_MULTIPLIER;
 
@@ -48,11 +49,13 @@ pub const WAS_REQUIRED: u8 = 3;
 
 pub const WAS_EXCLUDED: u8 = 4;
 
-// The largest charge, and how far a bound lies below a ceiling at most.
-const MAX_CHARGE: u64 = 2 * (MAX_COST as u64 + 2 * MAX_MULTIPLIER as u64) + 1;
+// The largest charge, and how far a bound lies below a ceiling at most, in units of the multipliers.
+const MAX_SCALED: u64 = MAX_DENOMINATOR * MAX_COST as u64;
 
-const MAX_SLACK: u64 = MAX_CEILING as u64
-    + (MAX_COST as u64 + 1 + 4 * MAX_MULTIPLIER as u64) * MAX_VERTICES as u64;
+const MAX_CHARGE: u64 = 2 * (MAX_SCALED + 2 * MAX_MULTIPLIER as u64) + 1;
+
+const MAX_SLACK: u64 = MAX_DENOMINATOR * MAX_CEILING as u64
+    + (MAX_SCALED + 1 + 4 * MAX_MULTIPLIER as u64) * MAX_VERTICES as u64;
 
 // More than any charge and any slack together: there is none.
 const NONE: u64 = MAX_CHARGE + MAX_SLACK + 1;

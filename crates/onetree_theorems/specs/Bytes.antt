@@ -11,10 +11,12 @@ use lib.IntN.{ℤ}
 use Rattle.lists.specs.Members.{_∈_}
 use Rattle.lists.specs.Numbers.{upTo}
 use Rattle.lists.specs.Rows.{row, row-at}
+use Rattle.integers.specs.Multiples.{_times_}
 use Rattle.graph.specs.declared.Graph.{Graph}
 use Rattle.graph.specs.Network.{Mark, free, required, excluded, network}
 use Rattle.tree_theory.specs.OneTree.{Infeasible, Barred, Forced}
 use Rattle.tree_theory.specs.Inputs.{multiplier}
+use Rattle.tree_theory.specs.Scaled.{scaledBy}
 use Rattle.tree_theory.specs.Enumeration.{Ruling, keeps, forces, bars, wasRequired, wasExcluded, barredB, forcedB, ruled, ruling}
 use Rattle.tree_theory.specs.Rulings.{rules-nothing, rules-required, rules-excluded, rules-exactly, both-infeasible}
 use Rattle.onetree.specs.Answers.{rulingByte}
@@ -63,19 +65,19 @@ number excluded = 2
 not-both : (x y : Mark) → ¬ (number x ≡ number y) → (z : Mark) → z ≡ x → z ≡ y → ⊥
 not-both x y n z e f = n (ap number (sym e ∙ f))
 
-module _ (g : Graph) (d : List ℤ) (ceiling : ℤ) (k : ℕ) (m : k ∈ upTo (network g .m))
-    (feasible : ¬ Infeasible (network g) (multiplier d) ceiling) where
+module _ (g : Graph) (d : List ℤ) (ceiling : ℤ) (den k : ℕ) (m : k ∈ upTo (network g .m))
+    (feasible : ¬ Infeasible (scaledBy den (network g)) (multiplier d) (den times ceiling)) where
   r : Ruling
-  r = ruling (network g) (multiplier d) ceiling k
+  r = ruling (scaledBy den (network g)) (multiplier d) (den times ceiling) k
 
-  apart : Barred (network g) (multiplier d) ceiling k → Forced (network g) (multiplier d) ceiling k → ⊥
-  apart b f = feasible (both-infeasible (network g) (multiplier d) ceiling k b f)
+  apart : Barred (scaledBy den (network g)) (multiplier d) (den times ceiling) k → Forced (scaledBy den (network g)) (multiplier d) (den times ceiling) k → ⊥
+  apart b f = feasible (both-infeasible (scaledBy den (network g)) (multiplier d) (den times ceiling) k b f)
 
   low : network g .mark k ≡ free → (rulingByte r ≡ 0) ⊎ (rulingByte r ≡ 1) ⊎ (rulingByte r ≡ 2)
   unfolding r ruling
-  low e = rw e (of-free (barredB (network g) (multiplier d) ceiling k) (forcedB (network g) (multiplier d) ceiling k))
+  low e = rw e (of-free (barredB (scaledBy den (network g)) (multiplier d) (den times ceiling) k) (forcedB (scaledBy den (network g)) (multiplier d) (den times ceiling) k))
 
-  free-byte : network g .mark k ≡ free → RuledExactly g d ceiling k (rulingByte r)
+  free-byte : network g .mark k ≡ free → RuledExactly g d ceiling den k (rulingByte r)
   unfolding r
   free-byte e = record {
     keeps = (
@@ -84,7 +86,7 @@ module _ (g : Graph) (d : List ℤ) (ceiling : ℤ) (k : ℕ) (m : k ∈ upTo (n
         (λ b. absurd (omega (arith, h, ap rulingByte (x .0 .1 b)))),
         (λ f. absurd (omega (arith, h, ap rulingByte (x .1 .1 f)))),
       )),
-      λ q. ap rulingByte (rules-nothing (network g) (multiplier d) ceiling k m e (q .1) (q .2)),
+      λ q. ap rulingByte (rules-nothing (scaledBy den (network g)) (multiplier d) (den times ceiling) k m e (q .1) (q .2)),
     );
     forces = ((λ h. (e, x .1 .0 (one-ruling _ forces h))), λ q. ap rulingByte (x .1 .1 (q .1)));
     bars = ((λ h. (e, x .0 .0 (one-ruling _ bars h))), λ q. ap rulingByte (x .0 .1 (q .1)));
@@ -93,11 +95,11 @@ module _ (g : Graph) (d : List ℤ) (ceiling : ℤ) (k : ℕ) (m : k ∈ upTo (n
     oneOnly = apart;
   }
     where
-      x : ((ruling (network g) (multiplier d) ceiling k ≡ bars) ↔ Barred (network g) (multiplier d) ceiling k)
-          × ((ruling (network g) (multiplier d) ceiling k ≡ forces) ↔ Forced (network g) (multiplier d) ceiling k)
-      x = rules-exactly (network g) (multiplier d) ceiling k m feasible e
+      x : ((ruling (scaledBy den (network g)) (multiplier d) (den times ceiling) k ≡ bars) ↔ Barred (scaledBy den (network g)) (multiplier d) (den times ceiling) k)
+          × ((ruling (scaledBy den (network g)) (multiplier d) (den times ceiling) k ≡ forces) ↔ Forced (scaledBy den (network g)) (multiplier d) (den times ceiling) k)
+      x = rules-exactly (scaledBy den (network g)) (multiplier d) (den times ceiling) k m feasible e
 
-  required-byte : network g .mark k ≡ required → RuledExactly g d ceiling k (rulingByte r)
+  required-byte : network g .mark k ≡ required → RuledExactly g d ceiling den k (rulingByte r)
   required-byte e = record {
     keeps = ((λ h. absurd (omega (arith, h, three))), λ q. absurd (off free (λ n. omega arith) (q .0)));
     forces = ((λ h. absurd (omega (arith, h, three))), λ q. absurd (off free (λ n. omega arith) (q .0)));
@@ -108,12 +110,12 @@ module _ (g : Graph) (d : List ℤ) (ceiling : ℤ) (k : ℕ) (m : k ∈ upTo (n
   }
     where
       three : rulingByte r ≡ 3
-      three = unfold r in ap rulingByte (rules-required (network g) (multiplier d) ceiling k m e)
+      three = unfold r in ap rulingByte (rules-required (scaledBy den (network g)) (multiplier d) (den times ceiling) k m e)
 
       off : (x : Mark) → ¬ (number x ≡ number required) → network g .mark k ≡ x → ⊥
       off x n q = not-both x required n _ q e
 
-  excluded-byte : network g .mark k ≡ excluded → RuledExactly g d ceiling k (rulingByte r)
+  excluded-byte : network g .mark k ≡ excluded → RuledExactly g d ceiling den k (rulingByte r)
   excluded-byte e = record {
     keeps = ((λ h. absurd (omega (arith, h, four))), λ q. absurd (off free (λ n. omega arith) (q .0)));
     forces = ((λ h. absurd (omega (arith, h, four))), λ q. absurd (off free (λ n. omega arith) (q .0)));
@@ -124,17 +126,17 @@ module _ (g : Graph) (d : List ℤ) (ceiling : ℤ) (k : ℕ) (m : k ∈ upTo (n
   }
     where
       four : rulingByte r ≡ 4
-      four = unfold r in ap rulingByte (rules-excluded (network g) (multiplier d) ceiling k m e)
+      four = unfold r in ap rulingByte (rules-excluded (scaledBy den (network g)) (multiplier d) (den times ceiling) k m e)
 
       off : (x : Mark) → ¬ (number x ≡ number excluded) → network g .mark k ≡ x → ⊥
       off x n q = not-both x excluded n _ q e
 
   -- the byte of any edge
-  pub byte-exactly : RuledExactly g d ceiling k (rulingByte (ruling (network g) (multiplier d) ceiling k))
+  pub byte-exactly : RuledExactly g d ceiling den k (rulingByte (ruling (scaledBy den (network g)) (multiplier d) (den times ceiling) k))
   unfolding r
   byte-exactly = go (network g .mark k) refl
     where
-      go : (x : Mark) → network g .mark k ≡ x → RuledExactly g d ceiling k (rulingByte r)
+      go : (x : Mark) → network g .mark k ≡ x → RuledExactly g d ceiling den k (rulingByte r)
       go free e = free-byte e
       go required e = required-byte e
       go excluded e = excluded-byte e

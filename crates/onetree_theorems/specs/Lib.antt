@@ -5,6 +5,7 @@
 pub mod Calls
 pub mod TwoCeilings
 pub mod Previews
+pub mod Former
 -- their proofs
 pub mod Refusing
 pub mod Bytes
@@ -12,3 +13,5 @@ pub mod Theorems
 pub mod SameCharts
 pub mod LowerCeiling
 pub mod PreviewLaws
+pub mod AtOne
+pub mod AnyDenominator

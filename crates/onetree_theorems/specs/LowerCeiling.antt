@@ -9,12 +9,14 @@ use lib.ListN.{length, getD}
 use lib.IntN.{ℤ}
 use lib.Signed.{_≤ℤ_}
 use Rattle.integers.specs.Range.{InRange}
+use Rattle.integers.specs.Multiples.{_times_, times-mono}
 use Rattle.integers.specs.Order.{le-trans, le-antisym, le-lt-trans, le-lt-clash}
 use Rattle.graph.specs.declared.Graph.{Graph}
 use Rattle.graph.specs.Limits.{maxCeiling}
 use Rattle.graph.specs.Network.{Network, network}
 use Rattle.tree_theory.specs.OneTree.{Infeasible, Barred, Forced, bound}
 use Rattle.tree_theory.specs.Inputs.{multiplier}
+use Rattle.tree_theory.specs.Scaled.{scaledBy}
 use Rattle.onetree.specs.Answers.{Reply, refused, none, bounded, ruleFault, unlessFault, ruleSays, ruleReply, ruleLeaves}
 use Rattle.tree_theory.specs.Enumeration.{leastTree}
 use Rattle.onetree_theorems.specs.Calls.{Fine, ruleAsks, RuledExactly, GivesRulings}
@@ -39,96 +41,96 @@ module _ (g : Network) (d : ℕ → ℤ) (low high : ℤ) (lower : low ≤ℤ hi
 
 -- ---- a call that is not refused found nothing wrong
 
-module _ (g : Graph) (d : List ℤ) (ceiling : ℤ) (len : ℕ) where
+module _ (g : Graph) (d : List ℤ) (ceiling : ℤ) (den len : ℕ) where
   -- the reply where nothing is wrong
   abbrev says : Reply
-  says = ruleSays ceiling (leastTree (network g) (multiplier d))
+  says = ruleSays (den times ceiling) (leastTree (scaledBy den (network g)) (multiplier d))
 
-  fine : ruleFault g d ceiling len ≡ 0 → Fine (ruleAsks g d ceiling len)
-  fine e = fault-none _ (ruleTests g d len ceiling) .0 (sym (rule-fault g d len ceiling) ∙ e)
+  fine : ruleFault g d ceiling den len ≡ 0 → Fine (ruleAsks g d ceiling den len)
+  fine e = fault-none _ (ruleTests g d den len ceiling) .0 (sym (rule-fault g d den len ceiling) ∙ e)
 
-  pub gave-fine : GaveRulings (ruleReply g d ceiling len) → Fine (ruleAsks g d ceiling len)
+  pub gave-fine : GaveRulings (ruleReply g d ceiling den len) → Fine (ruleAsks g d ceiling den len)
   unfolding ruleReply
-  gave-fine h = fine (go (ruleFault g d ceiling len) says h)
+  gave-fine h = fine (go (ruleFault g d ceiling den len) says h)
     where
       go : (f : ℕ) (r : Reply) → GaveRulings (unlessFault f r) → f ≡ 0
       go zero r h = refl
       go (suc f) r h = absurd h
 
-  none-fine : ruleReply g d ceiling len ≡ none → Fine (ruleAsks g d ceiling len)
+  none-fine : ruleReply g d ceiling den len ≡ none → Fine (ruleAsks g d ceiling den len)
   unfolding ruleReply
-  none-fine h = fine (go (ruleFault g d ceiling len) says h)
+  none-fine h = fine (go (ruleFault g d ceiling den len) says h)
     where
       go : (f : ℕ) (r : Reply) → unlessFault f r ≡ none → f ≡ 0
       go zero r h = refl
       go (suc f) r h = absurd (let z : _≡_ {A = ℕ} 0 1 = cc in omega arith)
 
 -- of another ceiling that is one, nothing is wrong either
-fine-too : (g : Graph) (d : List ℤ) (one other : ℤ) (len : ℕ) → Fine (ruleAsks g d one len) → InRange maxCeiling other
-    → Fine (ruleAsks g d other len)
-fine-too g d one other len f fits = (f .0, (f .1 .0, (f .1 .1 .0, (fits, tt))))
+fine-too : (g : Graph) (d : List ℤ) (one other : ℤ) (den len : ℕ) → Fine (ruleAsks g d one den len) → InRange maxCeiling other
+    → Fine (ruleAsks g d other den len)
+fine-too g d one other den len f fits = (f .0, (f .1 .0, (f .1 .1 .0, (fits, f .1 .1 .1 .1))))
 
 not-none : (r : Reply) → GaveRulings r → ¬ (r ≡ none)
 not-none (refused number place) h e = absurd h
 not-none none h e = absurd h
 not-none (bounded b) h e = let z : _≡_ {A = ℕ} 0 1 = cc in omega arith
 
-pub gave : (g : Graph) (d : List ℤ) (ceiling : ℤ) (out : List ℕ) → GaveRulings (ruleReply g d ceiling (length out))
-    → GivesRulings g d ceiling (ruleReply g d ceiling (length out)) (ruleLeaves g d ceiling out)
-gave g d ceiling out h =
-    rule-exactly g d ceiling out .otherwise (gave-fine g d ceiling (length out) h) (not-none (ruleReply g d ceiling (length out)) h)
+pub gave : (g : Graph) (d : List ℤ) (ceiling : ℤ) (den : ℕ) (out : List ℕ) → GaveRulings (ruleReply g d ceiling den (length out))
+    → GivesRulings g d ceiling den (ruleReply g d ceiling den (length out)) (ruleLeaves g d ceiling den out)
+gave g d ceiling den out h =
+    rule-exactly g d ceiling den out .otherwise (gave-fine g d ceiling den (length out) h) (not-none (ruleReply g d ceiling den (length out)) h)
 
 -- ---- of one edge's two bytes
 
-same-byte : (g : Graph) (d : List ℤ) (low high : ℤ) → low ≤ℤ high → (k x y : ℕ) → RuledExactly g d low k x → RuledExactly g d high k y → IsRuled y
+same-byte : (g : Graph) (d : List ℤ) (low high : ℤ) → low ≤ℤ high → (den k x y : ℕ) → RuledExactly g d low den k x → RuledExactly g d high den k y → IsRuled y
     → x ≡ y
-same-byte g d low high lower k x y at-low at-high (inl e) =
+same-byte g d low high lower den k x y at-low at-high (inl e) =
     let f = at-high .forces .0 e in
-    at-low .forces .1 (f .0, forced-lower (network g) (multiplier d) low high lower k (f .1)) ∙ sym e
-same-byte g d low high lower k x y at-low at-high (inr e) =
+    at-low .forces .1 (f .0, forced-lower (scaledBy den (network g)) (multiplier d) (den times low) (den times high) (times-mono den low high lower) k (f .1)) ∙ sym e
+same-byte g d low high lower den k x y at-low at-high (inr e) =
     let b = at-high .bars .0 e in
-    at-low .bars .1 (b .0, barred-lower (network g) (multiplier d) low high lower k (b .1)) ∙ sym e
+    at-low .bars .1 (b .0, barred-lower (scaledBy den (network g)) (multiplier d) (den times low) (den times high) (times-mono den low high lower) k (b .1)) ∙ sym e
 
 -- ---- of the calls
 
-module _ (g : Graph) (d : List ℤ) (low high : ℤ) (lower : low ≤ℤ high) (out other : List ℕ) where
-  ruled-the-same : GaveRulings (ruleReply g d low (length out)) → GaveRulings (ruleReply g d high (length other)) → (k : ℕ) → 1 ≤ k → k ≤ g .m
-      → IsRuled (getD (ruleLeaves g d high other) (k - 1) 0)
-      → getD (ruleLeaves g d low out) (k - 1) 0 ≡ getD (ruleLeaves g d high other) (k - 1) 0
+module _ (g : Graph) (d : List ℤ) (low high : ℤ) (lower : low ≤ℤ high) (den : ℕ) (out other : List ℕ) where
+  ruled-the-same : GaveRulings (ruleReply g d low den (length out)) → GaveRulings (ruleReply g d high den (length other)) → (k : ℕ) → 1 ≤ k → k ≤ g .m
+      → IsRuled (getD (ruleLeaves g d high den other) (k - 1) 0)
+      → getD (ruleLeaves g d low den out) (k - 1) 0 ≡ getD (ruleLeaves g d high den other) (k - 1) 0
   ruled-the-same at-low at-high k least most =
-      same-byte g d low high lower k _ _ (gave g d low out at-low .each k least most) (gave g d high other at-high .each k least most)
+      same-byte g d low high lower den k _ _ (gave g d low den out at-low .each k least most) (gave g d high den other at-high .each k least most)
 
-  same-bound : GaveRulings (ruleReply g d low (length out)) → length other ≡ length out → InRange maxCeiling high
-      → ruleReply g d high (length other) ≡ ruleReply g d low (length out)
+  same-bound : GaveRulings (ruleReply g d low den (length out)) → length other ≡ length out → InRange maxCeiling high
+      → ruleReply g d high den (length other) ≡ ruleReply g d low den (length out)
   same-bound at-low long fits = r-high .replied ∙ ap bounded equal ∙ sym (r-low .replied)
     where
-      r-low : GivesRulings g d low (ruleReply g d low (length out)) (ruleLeaves g d low out)
-      r-low = gave g d low out at-low
+      r-low : GivesRulings g d low den (ruleReply g d low den (length out)) (ruleLeaves g d low den out)
+      r-low = gave g d low den out at-low
 
-      fine-high : Fine (ruleAsks g d high (length other))
-      fine-high = rw long (fine-too g d low high (length out) (gave-fine g d low (length out) at-low) fits)
+      fine-high : Fine (ruleAsks g d high den (length other))
+      fine-high = rw long (fine-too g d low high den (length out) (gave-fine g d low den (length out) at-low) fits)
 
-      alive : ¬ (ruleReply g d high (length other) ≡ none)
+      alive : ¬ (ruleReply g d high den (length other) ≡ none)
       alive e =
-          let i = rule-exactly g d high other .dead fine-high .0 e in
+          let i = rule-exactly g d high den other .dead fine-high .0 e in
           unfold Infeasible in
-          le-lt-clash _ high (le-trans _ low high (r-low .within) lower) (i (r-low .edges) (r-low .least .tree))
+          le-lt-clash _ (den times high) (le-trans _ (den times low) (den times high) (r-low .within) (times-mono den low high lower)) (i (r-low .edges) (r-low .least .tree))
 
-      r-high : GivesRulings g d high (ruleReply g d high (length other)) (ruleLeaves g d high other)
-      r-high = rule-exactly g d high other .otherwise fine-high alive
+      r-high : GivesRulings g d high den (ruleReply g d high den (length other)) (ruleLeaves g d high den other)
+      r-high = rule-exactly g d high den other .otherwise fine-high alive
 
-      equal : bound (network g) (multiplier d) (r-high .edges) ≡ bound (network g) (multiplier d) (r-low .edges)
+      equal : bound (scaledBy den (network g)) (multiplier d) (r-high .edges) ≡ bound (scaledBy den (network g)) (multiplier d) (r-low .edges)
       equal =
           le-antisym _ _ (r-high .least .least (r-low .edges) (r-low .least .tree)) (r-low .least .least (r-high .edges) (r-high .least .tree))
 
-  stays-dead : ruleReply g d high (length other) ≡ none → length out ≡ length other → InRange maxCeiling low
-      → ruleReply g d low (length out) ≡ none
+  stays-dead : ruleReply g d high den (length other) ≡ none → length out ≡ length other → InRange maxCeiling low
+      → ruleReply g d low den (length out) ≡ none
   stays-dead dead long fits =
-      let f = none-fine g d high (length other) dead in
-      let i = rule-exactly g d high other .dead f .0 dead in
-      rule-exactly g d low out .dead (rw long (fine-too g d high low (length other) f fits)) .1
-      (infeasible-lower (network g) (multiplier d) low high lower i)
+      let f = none-fine g d high den (length other) dead in
+      let i = rule-exactly g d high den other .dead f .0 dead in
+      rule-exactly g d low den out .dead (rw long (fine-too g d high low den (length other) f fits)) .1
+      (infeasible-lower (scaledBy den (network g)) (multiplier d) (den times low) (den times high) (times-mono den low high lower) i)
 
   -- C-15, of any two ceilings low ≤ high
-  pub nothing-comes-back : NothingComesBack g d low high out other
+  pub nothing-comes-back : NothingComesBack g d low high den out other
   nothing-comes-back = record { ruledTheSame = ruled-the-same; sameBound = same-bound; staysDead = stays-dead }

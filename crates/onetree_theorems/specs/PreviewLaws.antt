@@ -15,6 +15,7 @@ use lib.IntN.{ℤ, pos}
 use lib.Signed.{_<ℤ_}
 use Rattle.lists.specs.Members.{_∈_}
 use Rattle.lists.specs.Numbers.{upTo, upTo-in, in-upTo}
+use Rattle.integers.specs.Multiples.{_times_}
 use Rattle.graph.specs.declared.Graph.{Graph}
 use Rattle.graph.specs.Limits.{maxEdges, maxMark}
 use Rattle.graph.specs.Network.{Mark, free, required, excluded, markOf, Network, network}
@@ -22,14 +23,16 @@ use Rattle.graph.specs.Places.{network-mark}
 use Rattle.graph.specs.Valid.{Valid}
 use Rattle.graph.specs.Valid as value
 use Rattle.tree_theory.specs.OneTree.{Edges, OneTree, Infeasible, Barred, Forced, bound, charge, atOne, away, others}
-use Rattle.tree_theory.specs.Inputs.{inputFault, multiplier, multipliersFit}
+use Rattle.tree_theory.specs.Inputs.{inputFault, multiplier, multipliersFit, denominatorFits}
+use Rattle.tree_theory.specs.Scaled.{scaledBy}
+use Rattle.tree_theory.specs.Scaling.{tree-scaled}
 use Rattle.tree_theory.specs.Enumeration.{Tree, noTree, aTree, leastTree}
 use Rattle.tree_theory.specs.LeastTree.{Above, infeasible-tree}
 use Rattle.onetree.specs.Answers.{leaves, treeFault, treeSays, treeReply, treeLeaves, ruleReply, ruleLeaves}
 use Rattle.preview.specs.Preview.{remarked, canBeMarked, isFreeEdge, previewFault, previewReply, previewLeaves}
 use Rattle.onetree_theorems.specs.Calls.{Asked, First, Fine, treeAsks, ruleAsks, RuledExactly, GivesRulings}
 use Rattle.onetree_theorems.specs.Refusing.{Tests, faultBy, first-fault, fault-none, decides, graphs, lengthsFit, lengths, multipliers}
-use Rattle.onetree_theorems.specs.Refusing.{treeTests, tree-fault}
+use Rattle.onetree_theorems.specs.Refusing.{denominators, treeTests, tree-fault}
 use Rattle.onetree_theorems.specs.Theorems.{NoRefusal, refuses-exactly, tree-exactly}
 use Rattle.onetree_theorems.specs.LowerCeiling.{gave-fine, gave}
 use Rattle.onetree_theorems.specs.Previews.{previewAsks, PreviewExactly, Beyond, PreviewRules, Previewed}
@@ -107,29 +110,41 @@ module _ (g : Graph) (k x : ℕ) (long : length (g .mark) ≡ maxEdges) (valid :
     lacks-it : markOf x ≡ excluded → OneTree (network (remarked g k x)) t → t k ≡ false
     lacks-it e o = o .avoids k here (mark-there ∙ e)
 
-  same-bound : (d : ℕ → ℤ) (t : Edges) → bound (network (remarked g k x)) d t ≡ bound (network g) d t
-  same-bound d t = unfold network remarked bound charge in refl
+  same-bound : (den : ℕ) (d : ℕ → ℤ) (t : Edges)
+      → bound (scaledBy den (network (remarked g k x))) d t ≡ bound (scaledBy den (network g)) d t
+  same-bound den d t = unfold network remarked bound charge in refl
 
 -- ---- the copy is infeasible exactly when the edge is barred, or forced
 
 module _ (g : Graph) (k : ℕ) (long : length (g .mark) ≡ maxEdges) (valid : Valid g) (least : 1 ≤ k) (most : k ≤ g .m)
-    (is-free : network g .mark k ≡ free) (d : ℕ → ℤ) (ceiling : ℤ) where
-  pub required-barred : Infeasible (network (remarked g k 1)) d ceiling ↔ Barred (network g) d ceiling k
+    (is-free : network g .mark k ≡ free) (den : ℕ) (d : ℕ → ℤ) (ceiling : ℤ) where
+  -- 1-trees do not go by costs
+  of-scaled : (t : Edges) → OneTree (scaledBy den (network g)) t → OneTree (network g) t
+  of-scaled t o = tree-scaled den (network g) t .0 o
+
+  copy-of-scaled : (x : ℕ) (t : Edges) → OneTree (scaledBy den (network (remarked g k x))) t → OneTree (network (remarked g k x)) t
+  copy-of-scaled x t o = tree-scaled den (network (remarked g k x)) t .0 o
+
+  pub required-barred : Infeasible (scaledBy den (network (remarked g k 1))) d ceiling ↔ Barred (scaledBy den (network g)) d ceiling k
   unfolding Infeasible Barred markOf
   required-barred = (
-    λ i t o e. rw (← same-bound g k 1 long valid least most d t)
-        (i t (of-copy g k 1 long valid least most is-free t o (λ q. e) (λ q. absurd (let z : _≡_ {A = ℕ} 0 1 = cc in omega arith)))),
-    λ b t o. rw (same-bound g k 1 long valid least most d t)
-        (b t (of-graph g k 1 long valid least most is-free t o) (has-it g k 1 long valid least most is-free t refl o)),
+    λ i t o e. rw (← same-bound g k 1 long valid least most den d t)
+        (i t (tree-scaled den (network (remarked g k 1)) t .1
+        (of-copy g k 1 long valid least most is-free t (of-scaled t o) (λ q. e) (λ q. absurd (let z : _≡_ {A = ℕ} 0 1 = cc in omega arith))))),
+    λ b t o. rw (same-bound g k 1 long valid least most den d t)
+        (b t (tree-scaled den (network g) t .1 (of-graph g k 1 long valid least most is-free t (copy-of-scaled 1 t o)))
+        (has-it g k 1 long valid least most is-free t refl (copy-of-scaled 1 t o))),
   )
 
-  pub excluded-forced : Infeasible (network (remarked g k 2)) d ceiling ↔ Forced (network g) d ceiling k
+  pub excluded-forced : Infeasible (scaledBy den (network (remarked g k 2))) d ceiling ↔ Forced (scaledBy den (network g)) d ceiling k
   unfolding Infeasible Forced markOf
   excluded-forced = (
-    λ i t o e. rw (← same-bound g k 2 long valid least most d t)
-        (i t (of-copy g k 2 long valid least most is-free t o (λ q. absurd (let z : _≡_ {A = ℕ} 0 1 = cc in omega arith)) (λ q. e))),
-    λ f t o. rw (same-bound g k 2 long valid least most d t)
-        (f t (of-graph g k 2 long valid least most is-free t o) (lacks-it g k 2 long valid least most is-free t refl o)),
+    λ i t o e. rw (← same-bound g k 2 long valid least most den d t)
+        (i t (tree-scaled den (network (remarked g k 2)) t .1
+        (of-copy g k 2 long valid least most is-free t (of-scaled t o) (λ q. absurd (let z : _≡_ {A = ℕ} 0 1 = cc in omega arith)) (λ q. e)))),
+    λ f t o. rw (same-bound g k 2 long valid least most den d t)
+        (f t (tree-scaled den (network g) t .1 (of-graph g k 2 long valid least most is-free t (copy-of-scaled 2 t o)))
+        (lacks-it g k 2 long valid least most is-free t refl (copy-of-scaled 2 t o))),
   )
 
 -- ---- the copy is no worse a chart
@@ -184,8 +199,8 @@ markable g k mark = decides (canBeMarked g k mark) to from
         go (inl e) = rw (eq-eqb mark 1 e)
         go (inr e) = rw (e)
 
-module _ (g : Graph) (d : List ℤ) (k mark : ℕ) (len : ℕ) where
-  previewTests : Tests (previewAsks g d k mark len)
+module _ (g : Graph) (d : List ℤ) (den k mark : ℕ) (len : ℕ) where
+  previewTests : Tests (previewAsks g d den k mark len)
   previewTests = (
     value.valid g,
     graphs g,
@@ -199,83 +214,88 @@ module _ (g : Graph) (d : List ℤ) (k mark : ℕ) (len : ℕ) where
         multipliers d,
         omega arith,
         (
-          canBeMarked g k mark,
-          markable g k mark,
+          denominatorFits den,
+          denominators den,
           omega arith,
-          (isFreeEdge g k, decides (isFreeEdge g k) (eqb-true _ 0) (eq-eqb _ 0), omega arith, tt),
+          (
+            canBeMarked g k mark,
+            markable g k mark,
+            omega arith,
+            (isFreeEdge g k, decides (isFreeEdge g k) (eqb-true _ 0) (eq-eqb _ 0), omega arith, tt),
+          ),
         ),
       ),
     ),
   )
 
-  preview-fault : previewFault g d k mark len ≡ faultBy (previewAsks g d k mark len) previewTests
+  preview-fault : previewFault g d den k mark len ≡ faultBy (previewAsks g d den k mark len) previewTests
   unfolding previewFault inputFault previewTests faultBy
   preview-fault = refl
 
-  copy-fine : Fine (previewAsks g d k mark len) → Fine (treeAsks (remarked g k mark) d len)
+  copy-fine : Fine (previewAsks g d den k mark len) → Fine (treeAsks (remarked g k mark) d den len)
   unfolding remarked
   copy-fine f = (
-    remarked-valid g k mark (go (f .1 .1 .1 .0 .2)) (f .0),
-    (record { multipliers = f .1 .0 .multipliers; lent = f .1 .0 .lent }, (f .1 .1 .0, tt)),
+    remarked-valid g k mark (go (f .1 .1 .1 .1 .0 .2)) (f .0),
+    (record { multipliers = f .1 .0 .multipliers; lent = f .1 .0 .lent }, (f .1 .1 .0, (f .1 .1 .1 .0, tt))),
   )
     where
       go : (mark ≡ 1) ⊎ (mark ≡ 2) → mark ≤ maxMark
       go (inl e) = omega (arith, e)
       go (inr e) = omega (arith, e)
 
-module _ (g : Graph) (d : List ℤ) (k mark : ℕ) (out : List ℕ) where
-  fine-of : previewFault g d k mark (length out) ≡ 0 → Fine (previewAsks g d k mark (length out))
-  fine-of z = fault-none (previewAsks g d k mark (length out)) (previewTests g d k mark (length out)) .0 (sym (preview-fault g d k mark (length out)) ∙ z)
+module _ (g : Graph) (d : List ℤ) (den k mark : ℕ) (out : List ℕ) where
+  fine-of : previewFault g d den k mark (length out) ≡ 0 → Fine (previewAsks g d den k mark (length out))
+  fine-of z = fault-none (previewAsks g d den k mark (length out)) (previewTests g d den k mark (length out)) .0 (sym (preview-fault g d den k mark (length out)) ∙ z)
 
-  fault-of : Fine (previewAsks g d k mark (length out)) → previewFault g d k mark (length out) ≡ 0
-  fault-of f = preview-fault g d k mark (length out) ∙ fault-none (previewAsks g d k mark (length out)) (previewTests g d k mark (length out)) .1 f
+  fault-of : Fine (previewAsks g d den k mark (length out)) → previewFault g d den k mark (length out) ≡ 0
+  fault-of f = preview-fault g d den k mark (length out) ∙ fault-none (previewAsks g d den k mark (length out)) (previewTests g d den k mark (length out)) .1 f
 
-  copy-answers : previewFault g d k mark (length out) ≡ 0 → NoRefusal (treeReply (remarked g k mark) d (length out))
+  copy-answers : previewFault g d den k mark (length out) ≡ 0 → NoRefusal (treeReply (remarked g k mark) d den (length out))
   copy-answers z e p h =
-      none-is-wrong (treeAsks (remarked g k mark) d (length out)) (copy-fine g d k mark (length out) (fine-of z)) e (tree-exactly (remarked g k mark) d out .refuses e p .0 h .0)
+      none-is-wrong (treeAsks (remarked g k mark) d den (length out)) (copy-fine g d den k mark (length out) (fine-of z)) e (tree-exactly (remarked g k mark) d den out .refuses e p .0 h .0)
     where
       none-is-wrong : (xs : List Asked) → Fine xs → (e : ℕ) → First xs e → ⊥
       none-is-wrong [] f e h = h
       none-is-wrong (x ∷ xs) f e (inl h) = h .0 (f .0)
       none-is-wrong (x ∷ xs) f e (inr h) = none-is-wrong xs (f .1) e (h .1)
 
-  pub preview-exactly : PreviewExactly g d k mark out
+  pub preview-exactly : PreviewExactly g d den k mark out
   unfolding previewReply previewLeaves
   preview-exactly = record {
     refuses =
-        refuses-exactly (treeReply (remarked g k mark) d (length out)) (previewFault g d k mark (length out)) copy-answers
-        (previewAsks g d k mark (length out)) (previewTests g d k mark (length out)) (preview-fault g d k mark (length out));
-    refusalLeaves = λ e p f. go (previewFault g d k mark (length out)) (first-number e f);
-    asTree = λ f. (rw (fault-of f), rw (fault-of f), copy-fine g d k mark (length out) f);
+        refuses-exactly (treeReply (remarked g k mark) d den (length out)) (previewFault g d den k mark (length out)) copy-answers
+        (previewAsks g d den k mark (length out)) (previewTests g d den k mark (length out)) (preview-fault g d den k mark (length out));
+    refusalLeaves = λ e p f. go (previewFault g d den k mark (length out)) (first-number e f);
+    asTree = λ f. (rw (fault-of f), rw (fault-of f), copy-fine g d den k mark (length out) f);
   }
     where
-      first-number : (e : ℕ) → First (previewAsks g d k mark (length out)) e → 0 < previewFault g d k mark (length out)
+      first-number : (e : ℕ) → First (previewAsks g d den k mark (length out)) e → 0 < previewFault g d den k mark (length out)
       first-number e f =
-          let b = first-fault (previewAsks g d k mark (length out)) (previewTests g d k mark (length out)) e f in
-          omega (arith, preview-fault g d k mark (length out), b .0, b .1)
+          let b = first-fault (previewAsks g d den k mark (length out)) (previewTests g d den k mark (length out)) e f in
+          omega (arith, preview-fault g d den k mark (length out), b .0, b .1)
 
-      go : (f : ℕ) → 0 < f → leaves f out (treeLeaves (remarked g k mark) d out) ≡ out
+      go : (f : ℕ) → 0 < f → leaves f out (treeLeaves (remarked g k mark) d den out) ≡ out
       go zero h = absurd (let z : suc 0 ≤ 0 = h in omega arith)
       go (suc f) h = refl
 
 -- ---- of rulings
 
-module _ (g : Graph) (d : List ℤ) (k x : ℕ) (out : List ℕ) where
+module _ (g : Graph) (d : List ℤ) (den k x : ℕ) (out : List ℕ) where
   -- where nothing is wrong, 'beyond the ceiling' is 'infeasible' of the copy
-  beyond : (ceiling : ℤ) → Fine (previewAsks g d k x (length out))
-      → Beyond ceiling (previewReply g d k x (length out)) ↔ Infeasible (network (remarked g k x)) (multiplier d) ceiling
+  beyond : (ceiling : ℤ) → Fine (previewAsks g d den k x (length out))
+      → Beyond ceiling (previewReply g d den k x (length out)) ↔ Infeasible (scaledBy den (network (remarked g k x))) (multiplier d) ceiling
   unfolding treeReply
   beyond ceiling f =
-      rw (preview-exactly g d k x out .asTree f .0, tree-none (copy-fine g d k x (length out) f))
-      (swap (says (leastTree (network (remarked g k x)) (multiplier d)) (infeasible-tree (network (remarked g k x)) (multiplier d) ceiling)))
+      rw (preview-exactly g d den k x out .asTree f .0, tree-none (copy-fine g d den k x (length out) f))
+      (swap (says (leastTree (scaledBy den (network (remarked g k x))) (multiplier d)) (infeasible-tree (scaledBy den (network (remarked g k x))) (multiplier d) ceiling)))
     where
-      tree-none : Fine (treeAsks (remarked g k x) d (length out)) → treeFault (remarked g k x) d (length out) ≡ 0
+      tree-none : Fine (treeAsks (remarked g k x) d den (length out)) → treeFault (remarked g k x) d den (length out) ≡ 0
       tree-none h =
-          tree-fault (remarked g k x) d (length out) ∙ fault-none _ (treeTests (remarked g k x) d (length out)) .1 h
+          tree-fault (remarked g k x) d den (length out) ∙ fault-none _ (treeTests (remarked g k x) d den (length out)) .1 h
 
-      says : (t : Tree) → Infeasible (network (remarked g k x)) (multiplier d) ceiling
-          ↔ Above (network (remarked g k x)) (multiplier d) ceiling t
-          → Infeasible (network (remarked g k x)) (multiplier d) ceiling ↔ Beyond ceiling (treeSays t)
+      says : (t : Tree) → Infeasible (scaledBy den (network (remarked g k x))) (multiplier d) ceiling
+          ↔ Above (scaledBy den (network (remarked g k x))) (multiplier d) ceiling t
+          → Infeasible (scaledBy den (network (remarked g k x))) (multiplier d) ceiling ↔ Beyond ceiling (treeSays t)
       says noTree i = i
       says (aTree b t) i = i
 
@@ -292,20 +312,20 @@ both : {A B C : Type 0} → A ↔ B → C ↔ B → A ↔ C
 both p q = ((λ a. q .1 (p .0 a)), λ c. p .1 (q .0 c))
 
 pub preview-rules : Previewed
-preview-rules g d ceiling out k long at least most is-free = record {
+preview-rules g d ceiling den out k long at least most is-free = record {
   bars =
       both (ruled-bars (r .each k least most))
-      (both (beyond g d k 1 out ceiling (asked 1 (inl refl))) (flip (required-barred g k long valid least most is-free (multiplier d) ceiling)));
+      (both (beyond g d den k 1 out (den times ceiling) (asked 1 (inl refl))) (flip (required-barred g k long valid least most is-free den (multiplier d) (den times ceiling))));
   forces =
       both (ruled-forces (r .each k least most))
-      (both (beyond g d k 2 out ceiling (asked 2 (inr refl))) (flip (excluded-forced g k long valid least most is-free (multiplier d) ceiling)));
+      (both (beyond g d den k 2 out (den times ceiling) (asked 2 (inr refl))) (flip (excluded-forced g k long valid least most is-free den (multiplier d) (den times ceiling))));
 }
   where
-    r : GivesRulings g d ceiling (ruleReply g d ceiling (length out)) (ruleLeaves g d ceiling out)
-    r = gave g d ceiling out at
+    r : GivesRulings g d ceiling den (ruleReply g d ceiling den (length out)) (ruleLeaves g d ceiling den out)
+    r = gave g d ceiling den out at
 
-    fine : Fine (ruleAsks g d ceiling (length out))
-    fine = gave-fine g d ceiling (length out) at
+    fine : Fine (ruleAsks g d ceiling den (length out))
+    fine = gave-fine g d ceiling den (length out) at
 
     valid : Valid g
     valid = fine .0
@@ -319,11 +339,11 @@ preview-rules g d ceiling out k long at least most is-free = record {
         back : (i : ℕ) → 1 ≤ i → i ≡ suc (i - 1)
         back i h = omega (arith, h)
 
-    asked : (x : ℕ) → (x ≡ 1) ⊎ (x ≡ 2) → Fine (previewAsks g d k x (length out))
-    asked x is = (fine .0, (fine .1 .0, (fine .1 .1 .0, ((least, most, is), (free-byte, tt)))))
+    asked : (x : ℕ) → (x ≡ 1) ⊎ (x ≡ 2) → Fine (previewAsks g d den k x (length out))
+    asked x is = (fine .0, (fine .1 .0, (fine .1 .1 .0, (fine .1 .1 .1 .1 .0, ((least, most, is), (free-byte, tt))))))
 
-    ruled-bars : {y : ℕ} → RuledExactly g d ceiling k y → (y ≡ 2) ↔ Barred (network g) (multiplier d) ceiling k
+    ruled-bars : {y : ℕ} → RuledExactly g d ceiling den k y → (y ≡ 2) ↔ Barred (scaledBy den (network g)) (multiplier d) (den times ceiling) k
     ruled-bars e = ((λ h. e .bars .0 h .1), λ b. e .bars .1 (is-free, b))
 
-    ruled-forces : {y : ℕ} → RuledExactly g d ceiling k y → (y ≡ 1) ↔ Forced (network g) (multiplier d) ceiling k
+    ruled-forces : {y : ℕ} → RuledExactly g d ceiling den k y → (y ≡ 1) ↔ Forced (scaledBy den (network g)) (multiplier d) (den times ceiling) k
     ruled-forces e = ((λ h. e .forces .0 h .1), λ f. e .forces .1 (is-free, f))

@@ -15,15 +15,15 @@ use Rattle.lists.specs.All.{everyOf}
 use Rattle.integers.specs.Parts.{eq-of-parts}
 use Rattle.integers.specs.Range.{InRange, within, within-range, range-within}
 use Rattle.graph.specs.declared.Graph.{Graph}
-use Rattle.graph.specs.Limits.{maxMultiplier, maxCeiling, maxSweeps, maxStep}
+use Rattle.graph.specs.Limits.{maxMultiplier, maxCeiling, maxSweeps, maxStep, maxDenominator}
 use Rattle.graph.specs.Valid.{Valid, valid}
 use Rattle.graph.specs.Meaning.{valid-true, true-valid}
-use Rattle.tree_theory.specs.Inputs.{multiplier, multipliersFit, ceilingFits, inputFault}
+use Rattle.tree_theory.specs.Inputs.{multiplier, multipliersFit, ceilingFits, denominatorFits, denominatorFault, inputFault}
 use Rattle.tree_theory.specs.Multipliers.{fit-ranged, ranged-fit, multiplier-range}
 use Rattle.onetree.specs.Answers.{treeFault, ruleFault}
 use Rattle.machine.specs.Machine.{Opening}
 use Rattle.machine.specs.Calls.{fault}
-use Rattle.onetree_theorems.specs.Calls.{Asked, First, Fine, LengthsFit, MultipliersFit, treeAsks, ruleAsks, openingAsks}
+use Rattle.onetree_theorems.specs.Calls.{Asked, First, Fine, LengthsFit, MultipliersFit, DenominatorFits, treeAsks, ruleAsks, openingAsks}
 
 -- ---- tests in order
 
@@ -109,13 +109,20 @@ sweeps x y =
     (λ e. let b = and-both (leb x maxSweeps) (leb y maxStep) e in (leb-true x maxSweeps (b .0), leb-true y maxStep (b .1)))
     (λ f. rw (le-leb x maxSweeps (f .0), le-leb y maxStep (f .1)))
 
+pub denominators : (q : ℕ) → Says (denominatorFits q) (DenominatorFits q)
+unfolding denominatorFits
+denominators q =
+    decides (leb 1 q && leb q maxDenominator)
+    (λ e. let b = and-both (leb 1 q) (leb q maxDenominator) e in record { low = leb-true 1 q (b .0); high = leb-true q maxDenominator (b .1) })
+    (λ f. rw (le-leb 1 q (f .low), le-leb q maxDenominator (f .high)))
+
 opening-length : (o : Opening) → Says (eqb (length (o .multipliers)) (o .graph .n)) (length (o .multipliers) ≡ o .graph .n)
 opening-length o = decides (eqb (length (o .multipliers)) (o .graph .n)) (eqb-true _ _) (eq-eqb (length (o .multipliers)) (o .graph .n))
 
 -- ---- the calls
 
-module _ (g : Graph) (d : List ℤ) (len : ℕ) where
-  pub treeTests : Tests (treeAsks g d len)
+module _ (g : Graph) (d : List ℤ) (q len : ℕ) where
+  pub treeTests : Tests (treeAsks g d q len)
   treeTests = (
     valid g,
     graphs g,
@@ -124,15 +131,15 @@ module _ (g : Graph) (d : List ℤ) (len : ℕ) where
       lengthsFit g d len,
       lengths g d len,
       omega arith,
-      (multipliersFit d, multipliers d, omega arith, tt),
+      (multipliersFit d, multipliers d, omega arith, (denominatorFits q, denominators q, omega arith, tt)),
     ),
   )
 
-  pub tree-fault : treeFault g d len ≡ faultBy (treeAsks g d len) treeTests
-  unfolding treeFault inputFault treeTests faultBy
+  pub tree-fault : treeFault g d q len ≡ faultBy (treeAsks g d q len) treeTests
+  unfolding treeFault inputFault denominatorFault treeTests faultBy
   tree-fault = refl
 
-  pub ruleTests : (ceiling : ℤ) → Tests (ruleAsks g d ceiling len)
+  pub ruleTests : (ceiling : ℤ) → Tests (ruleAsks g d ceiling q len)
   ruleTests ceiling = (
     valid g,
     graphs g,
@@ -141,12 +148,17 @@ module _ (g : Graph) (d : List ℤ) (len : ℕ) where
       lengthsFit g d len,
       lengths g d len,
       omega arith,
-      (multipliersFit d, multipliers d, omega arith, (ceilingFits ceiling, ceilings ceiling, omega arith, tt)),
+      (
+        multipliersFit d,
+        multipliers d,
+        omega arith,
+        (ceilingFits ceiling, ceilings ceiling, omega arith, (denominatorFits q, denominators q, omega arith, tt)),
+      ),
     ),
   )
 
-  pub rule-fault : (ceiling : ℤ) → ruleFault g d ceiling len ≡ faultBy (ruleAsks g d ceiling len) (ruleTests ceiling)
-  unfolding ruleFault inputFault ruleTests faultBy
+  pub rule-fault : (ceiling : ℤ) → ruleFault g d ceiling q len ≡ faultBy (ruleAsks g d ceiling q len) (ruleTests ceiling)
+  unfolding ruleFault inputFault denominatorFault ruleTests faultBy
   rule-fault ceiling = refl
 
 module _ (o : Opening) where
@@ -171,7 +183,7 @@ module _ (o : Opening) where
             leb (o .settings .sweeps) maxSweeps && leb (o .settings .step) maxStep,
             sweeps (o .settings .sweeps) (o .settings .step),
             omega arith,
-            tt,
+            (denominatorFits (o .settings .denominator), denominators (o .settings .denominator), omega arith, tt),
           ),
         ),
       ),
@@ -179,5 +191,5 @@ module _ (o : Opening) where
   )
 
   pub opening-fault : fault o ≡ faultBy (openingAsks o) openingTests
-  unfolding fault openingTests faultBy
+  unfolding fault denominatorFault openingTests faultBy
   opening-fault = refl

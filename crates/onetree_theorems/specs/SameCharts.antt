@@ -11,6 +11,7 @@ use lib.ListN.{length, getD}
 use lib.IntN.{ℤ, pos}
 use Rattle.lists.specs.Bools.{by-cases}
 use Rattle.lists.specs.Rows.{row, row-same}
+use Rattle.integers.specs.Multiples.{_times_}
 use Rattle.graph.specs.declared.Graph.{Graph}
 use Rattle.graph.specs.Limits.{maxEdges, maxSweeps, maxStep}
 use Rattle.graph.specs.Network.{markOf, place, network}
@@ -18,7 +19,8 @@ use Rattle.graph.specs.Places.{place-at, place-zero, place-past}
 use Rattle.graph.specs.Valid.{Valid, EdgeValid, EdgeAt, valid}
 use Rattle.graph.specs.Meaning.{valid-true, true-valid}
 use Rattle.graph.specs.Same.{SameGraph}
-use Rattle.tree_theory.specs.Inputs.{multiplier, multipliersFit, ceilingFits, inputFault}
+use Rattle.tree_theory.specs.Inputs.{multiplier, multipliersFit, ceilingFits, denominatorFault, inputFault}
+use Rattle.tree_theory.specs.Scaled.{scaledBy}
 use Rattle.tree_theory.specs.Enumeration.{leastTree, ruling}
 use Rattle.onetree.specs.Answers.{unlessFault, leaves, treeFault, treeSays, treeWrites, treeReply, treeLeaves, ruleFault, ruleSays, ruleWrites, ruleReply, ruleLeaves}
 use Rattle.machine.specs.declared.Settings.{Settings}
@@ -104,26 +106,27 @@ module _ (g h : Graph) (s : SameGraph g h) where
   fault-same d len left = λ i.
       cond (not (valid-same i)) 15 (cond (not (eqb (length d) (s .n i) && eqb len (s .m i))) 11 (cond (not (multipliersFit d)) 12 left))
 
-  tree-same : (d : List ℤ) (len : ℕ) → treeReply g d len ≡ treeReply h d len
+  tree-same : (d : List ℤ) (q len : ℕ) → treeReply g d q len ≡ treeReply h d q len
   unfolding treeReply treeFault
-  tree-same d len = λ i. unlessFault (fault-same d len 0 i) (treeSays (leastTree (network-same i) (multiplier d)))
+  tree-same d q len = λ i. unlessFault (fault-same d len (denominatorFault q) i) (treeSays (leastTree (scaledBy q (network-same i)) (multiplier d)))
 
-  tree-list : (d : List ℤ) (out : List ℕ) → treeLeaves g d out ≡ treeLeaves h d out
+  tree-list : (d : List ℤ) (q : ℕ) (out : List ℕ) → treeLeaves g d q out ≡ treeLeaves h d q out
   unfolding treeLeaves treeFault
-  tree-list d out = λ i.
-      leaves (fault-same d (length out) 0 i) out (treeWrites (s .m i) out (leastTree (network-same i) (multiplier d)))
+  tree-list d q out = λ i.
+      leaves (fault-same d (length out) (denominatorFault q) i) out (treeWrites (s .m i) out (leastTree (scaledBy q (network-same i)) (multiplier d)))
 
-  rule-same : (d : List ℤ) (ceiling : ℤ) (len : ℕ) → ruleReply g d ceiling len ≡ ruleReply h d ceiling len
+  rule-same : (d : List ℤ) (ceiling : ℤ) (q len : ℕ) → ruleReply g d ceiling q len ≡ ruleReply h d ceiling q len
   unfolding ruleReply ruleFault
-  rule-same d ceiling len = λ i.
-      unlessFault (fault-same d len (cond (not (ceilingFits ceiling)) 13 0) i)
-      (ruleSays ceiling (leastTree (network-same i) (multiplier d)))
+  rule-same d ceiling q len = λ i.
+      unlessFault (fault-same d len (cond (not (ceilingFits ceiling)) 13 (denominatorFault q)) i)
+      (ruleSays (q times ceiling) (leastTree (scaledBy q (network-same i)) (multiplier d)))
 
-  rule-list : (d : List ℤ) (ceiling : ℤ) (out : List ℕ) → ruleLeaves g d ceiling out ≡ ruleLeaves h d ceiling out
+  rule-list : (d : List ℤ) (ceiling : ℤ) (q : ℕ) (out : List ℕ) → ruleLeaves g d ceiling q out ≡ ruleLeaves h d ceiling q out
   unfolding ruleLeaves ruleFault
-  rule-list d ceiling out = λ i.
-      leaves (fault-same d (length out) (cond (not (ceilingFits ceiling)) 13 0) i) out
-      (ruleWrites (s .m i) ceiling out (ruling (network-same i) (multiplier d) ceiling) (leastTree (network-same i) (multiplier d)))
+  rule-list d ceiling q out = λ i.
+      leaves (fault-same d (length out) (cond (not (ceilingFits ceiling)) 13 (denominatorFault q)) i) out
+      (ruleWrites (s .m i) (q times ceiling) out (ruling (scaledBy q (network-same i)) (multiplier d) (q times ceiling))
+      (leastTree (scaledBy q (network-same i)) (multiplier d)))
 
   -- ---- an opening
 
@@ -135,7 +138,7 @@ module _ (g h : Graph) (s : SameGraph g h) where
         (cond (not (eqb (length d) (s .n i))) 11
         (cond (not (multipliersFit d)) 12
         (cond (not (ceilingFits (settings .ceiling))) 13
-        (cond (not (leb (settings .sweeps) maxSweeps && leb (settings .step) maxStep)) 14 0))))
+        (cond (not (leb (settings .sweeps) maxSweeps && leb (settings .step) maxStep)) 14 (denominatorFault (settings .denominator))))))
 
     held-same : held (openingOf g d settings) ≡ held (openingOf h d settings)
     unfolding held

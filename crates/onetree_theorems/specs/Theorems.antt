@@ -13,10 +13,12 @@ use Rattle.lists.specs.Members.{_∈_}
 use Rattle.lists.specs.Numbers.{upTo, upTo-in}
 use Rattle.lists.specs.Rows.{row, row-size}
 use Rattle.integers.specs.Order.{le-trans, test-lt, test-not-lt, le-lt-clash}
+use Rattle.integers.specs.Multiples.{_times_}
 use Rattle.graph.specs.declared.Graph.{Graph}
 use Rattle.graph.specs.Network.{network}
 use Rattle.tree_theory.specs.OneTree.{Edges, OneTree, Least, Infeasible, bound}
 use Rattle.tree_theory.specs.Inputs.{multiplier}
+use Rattle.tree_theory.specs.Scaled.{scaledBy}
 use Rattle.tree_theory.specs.Enumeration.{Tree, noTree, aTree, leastTree, ruling}
 use Rattle.tree_theory.specs.Agree.{least-unique}
 use Rattle.tree_theory.specs.LeastTree.{Right, tree-right, Above, infeasible-tree}
@@ -131,12 +133,12 @@ refused-leaves r n (suc f) e p out after h = refl
 
 -- ---- the tree call
 
-module _ (g : Graph) (d : List ℤ) (out : List ℕ) where
+module _ (g : Graph) (d : List ℤ) (den : ℕ) (out : List ℕ) where
   -- without a fault, by the least 1-tree
-  tree-fine : Fine (treeAsks g d (length out)) → treeFault g d (length out) ≡ 0
-  tree-fine f = tree-fault g d (length out) ∙ fault-none _ (treeTests g d (length out)) .1 f
+  tree-fine : Fine (treeAsks g d den (length out)) → treeFault g d den (length out) ≡ 0
+  tree-fine f = tree-fault g d den (length out) ∙ fault-none _ (treeTests g d den (length out)) .1 f
 
-  missing-says : (t : Tree) → Right (network g) (multiplier d) t → (treeSays t ≡ none) ↔ ((s : Edges) → ¬ OneTree (network g) s)
+  missing-says : (t : Tree) → Right (scaledBy den (network g)) (multiplier d) t → (treeSays t ≡ none) ↔ ((s : Edges) → ¬ OneTree (scaledBy den (network g)) s)
   missing-says noTree h = ((λ e. h), λ e. refl)
   missing-says (aTree b t) h = ((λ e. absurd (none-bounded b e)), λ e. absurd (e t (h .1 .tree)))
 
@@ -145,125 +147,129 @@ module _ (g : Graph) (d : List ℤ) (out : List ℕ) where
   missing-leaves zero (aTree b t) e = absurd (none-bounded b e)
   missing-leaves (suc f) t e = refl
 
-  gives : (t : Tree) → Right (network g) (multiplier d) t → ¬ (treeSays t ≡ none) → GivesLeast g d (treeSays t) (treeWrites (g .m) out t)
+  gives : (t : Tree) → Right (scaledBy den (network g)) (multiplier d) t → ¬ (treeSays t ≡ none) → GivesLeast g d den (treeSays t) (treeWrites (g .m) out t)
   unfolding network
   gives noTree h e = absurd (e refl)
   gives (aTree b t) h e = record {
     edges = t;
     least = h .1;
-    only = λ s l k low high. least-unique (network g) (multiplier d) s t l (h .1) k (upTo-in (g .m) k low high);
+    only = λ s l k low high. least-unique (scaledBy den (network g)) (multiplier d) s t l (h .1) k (upTo-in (g .m) k low high);
     replied = ap bounded (h .0);
     written = refl;
   }
 
-  pub tree-exactly : TreeExactly g d out
+  pub tree-exactly : TreeExactly g d den out
   unfolding treeReply treeLeaves
   tree-exactly = record {
     refuses =
-        refuses-exactly (treeSays x) (treeFault g d (length out)) (λ z. tree-refuses-nothing x) (treeAsks g d (length out))
-        (treeTests g d (length out)) (tree-fault g d (length out));
-    refusalLeaves = λ e p h. refused-leaves (treeSays x) (tree-refuses-nothing x) (treeFault g d (length out)) e p out _ h;
+        refuses-exactly (treeSays x) (treeFault g d den (length out)) (λ z. tree-refuses-nothing x) (treeAsks g d den (length out))
+        (treeTests g d den (length out)) (tree-fault g d den (length out));
+    refusalLeaves = λ e p h. refused-leaves (treeSays x) (tree-refuses-nothing x) (treeFault g d den (length out)) e p out _ h;
     missing = λ f. rw (tree-fine f) (missing-says x right);
-    missingLeaves = missing-leaves (treeFault g d (length out)) x;
+    missingLeaves = missing-leaves (treeFault g d den (length out)) x;
     otherwise = λ f. rw (tree-fine f) (gives x right);
   }
     where
       x : Tree
-      x = leastTree (network g) (multiplier d)
+      x = leastTree (scaledBy den (network g)) (multiplier d)
 
-      right : Right (network g) (multiplier d) (leastTree (network g) (multiplier d))
-      right = tree-right (network g) (multiplier d)
+      right : Right (scaledBy den (network g)) (multiplier d) (leastTree (scaledBy den (network g)) (multiplier d))
+      right = tree-right (scaledBy den (network g)) (multiplier d)
 
 -- ---- the rule call
 
-module _ (g : Graph) (d : List ℤ) (ceiling : ℤ) (out : List ℕ) where
-  rule-fine : Fine (ruleAsks g d ceiling (length out)) → ruleFault g d ceiling (length out) ≡ 0
-  rule-fine f = rule-fault g d (length out) ceiling ∙ fault-none _ (ruleTests g d (length out) ceiling) .1 f
+module _ (g : Graph) (d : List ℤ) (ceiling : ℤ) (den : ℕ) (out : List ℕ) where
+  -- the ceiling in units of the multipliers
+  abbrev top : ℤ
+  top = den times ceiling
 
-  dead-says : (t : Tree) → Infeasible (network g) (multiplier d) ceiling ↔ Above (network g) (multiplier d) ceiling t
-      → (ruleSays ceiling t ≡ none) ↔ Infeasible (network g) (multiplier d) ceiling
+  rule-fine : Fine (ruleAsks g d ceiling den (length out)) → ruleFault g d ceiling den (length out) ≡ 0
+  rule-fine f = rule-fault g d den (length out) ceiling ∙ fault-none _ (ruleTests g d den (length out) ceiling) .1 f
+
+  dead-says : (t : Tree) → Infeasible (scaledBy den (network g)) (multiplier d) top ↔ Above (scaledBy den (network g)) (multiplier d) top t
+      → (ruleSays top t ≡ none) ↔ Infeasible (scaledBy den (network g)) (multiplier d) top
   dead-says noTree i = ((λ e. i .1 tt), λ e. refl)
-  dead-says (aTree b t) i = go (ltZ ceiling b) refl
+  dead-says (aTree b t) i = go (ltZ top b) refl
     where
-      go : (c : Bool) → ltZ ceiling b ≡ c → (cond c none (bounded b) ≡ none) ↔ Infeasible (network g) (multiplier d) ceiling
-      go true h = ((λ e. i .1 (test-lt ceiling b h)), λ e. refl)
-      go false h = ((λ e. absurd (none-bounded b e)), λ e. absurd (le-lt-clash b ceiling (test-not-lt ceiling b h) (i .0 e)))
+      go : (c : Bool) → ltZ top b ≡ c → (cond c none (bounded b) ≡ none) ↔ Infeasible (scaledBy den (network g)) (multiplier d) top
+      go true h = ((λ e. i .1 (test-lt top b h)), λ e. refl)
+      go false h = ((λ e. absurd (none-bounded b e)), λ e. absurd (le-lt-clash b top (test-not-lt top b h) (i .0 e)))
 
   -- the tree is missing, or its bound is above the ceiling
   abbrev MissingOrAbove : Type 0
   MissingOrAbove =
-      ((t : Edges) → ¬ OneTree (network g) t)
-      ⊎ ((t : Edges) × Least (network g) (multiplier d) t × (ceiling <ℤ bound (network g) (multiplier d) t))
+      ((t : Edges) → ¬ OneTree (scaledBy den (network g)) t)
+      ⊎ ((t : Edges) × Least (scaledBy den (network g)) (multiplier d) t × (top <ℤ bound (scaledBy den (network g)) (multiplier d) t))
 
-  dead-tree : (t : Tree) → Right (network g) (multiplier d) t → (ruleSays ceiling t ≡ none) ↔ MissingOrAbove
+  dead-tree : (t : Tree) → Right (scaledBy den (network g)) (multiplier d) t → (ruleSays top t ≡ none) ↔ MissingOrAbove
   dead-tree noTree h = ((λ e. inl h), λ q. refl)
-  dead-tree (aTree b t) h = go (ltZ ceiling b) refl
+  dead-tree (aTree b t) h = go (ltZ top b) refl
     where
-      low : ltZ ceiling b ≡ false → MissingOrAbove → ⊥
+      low : ltZ top b ≡ false → MissingOrAbove → ⊥
       low l (inl n) = n t (h .1 .tree)
       low l (inr u) =
-          le-lt-clash (bound (network g) (multiplier d) (u .0)) ceiling
-          (le-trans _ _ _ (u .1 .least t (h .1 .tree)) (rw (← h .0) (test-not-lt ceiling b l))) (u .2)
+          le-lt-clash (bound (scaledBy den (network g)) (multiplier d) (u .0)) top
+          (le-trans _ _ _ (u .1 .least t (h .1 .tree)) (rw (← h .0) (test-not-lt top b l))) (u .2)
 
-      go : (c : Bool) → ltZ ceiling b ≡ c → (cond c none (bounded b) ≡ none) ↔ MissingOrAbove
-      go true l = ((λ e. inr (t, h .1, rw (← h .0) (test-lt ceiling b l))), λ q. refl)
+      go : (c : Bool) → ltZ top b ≡ c → (cond c none (bounded b) ≡ none) ↔ MissingOrAbove
+      go true l = ((λ e. inr (t, h .1, rw (← h .0) (test-lt top b l))), λ q. refl)
       go false l = ((λ e. absurd (none-bounded b e)), λ q. absurd (low l q))
 
-  dead-leaves : (f : ℕ) (t : Tree) → unlessFault f (ruleSays ceiling t) ≡ none
-      → leaves f out (ruleWrites (g .m) ceiling out (ruling (network g) (multiplier d) ceiling) t) ≡ out
+  dead-leaves : (f : ℕ) (t : Tree) → unlessFault f (ruleSays top t) ≡ none
+      → leaves f out (ruleWrites (g .m) top out (ruling (scaledBy den (network g)) (multiplier d) top) t) ≡ out
   dead-leaves zero noTree e = refl
-  dead-leaves zero (aTree b t) e = go (ltZ ceiling b) e
+  dead-leaves zero (aTree b t) e = go (ltZ top b) e
     where
       go : (c : Bool) → cond c none (bounded b) ≡ none
-          → cond c out (row (g .m) (λ k. rulingByte (ruling (network g) (multiplier d) ceiling k))) ≡ out
+          → cond c out (row (g .m) (λ k. rulingByte (ruling (scaledBy den (network g)) (multiplier d) top k))) ≡ out
       go true h = refl
       go false h = absurd (none-bounded b h)
   dead-leaves (suc f) t e = refl
 
-  rulings : (t : Tree) → Right (network g) (multiplier d) t → ¬ (ruleSays ceiling t ≡ none)
-      → ¬ Infeasible (network g) (multiplier d) ceiling
-      → GivesRulings g d ceiling (ruleSays ceiling t) (ruleWrites (g .m) ceiling out (ruling (network g) (multiplier d) ceiling) t)
+  rulings : (t : Tree) → Right (scaledBy den (network g)) (multiplier d) t → ¬ (ruleSays top t ≡ none)
+      → ¬ Infeasible (scaledBy den (network g)) (multiplier d) top
+      → GivesRulings g d ceiling den (ruleSays top t) (ruleWrites (g .m) top out (ruling (scaledBy den (network g)) (multiplier d) top) t)
   rulings noTree h e feasible = absurd (e refl)
-  rulings (aTree b t) h e feasible = go (ltZ ceiling b) refl e
+  rulings (aTree b t) h e feasible = go (ltZ top b) refl e
     where
       bytes : List ℕ
-      bytes = row (g .m) (λ k. rulingByte (ruling (network g) (multiplier d) ceiling k))
+      bytes = row (g .m) (λ k. rulingByte (ruling (scaledBy den (network g)) (multiplier d) top k))
 
-      go : (c : Bool) → ltZ ceiling b ≡ c → ¬ (cond c none (bounded b) ≡ none)
-          → GivesRulings g d ceiling (cond c none (bounded b)) (cond c out bytes)
+      go : (c : Bool) → ltZ top b ≡ c → ¬ (cond c none (bounded b) ≡ none)
+          → GivesRulings g d ceiling den (cond c none (bounded b)) (cond c out bytes)
       go true l n = absurd (n refl)
       go false l n = record {
         edges = t;
         least = h .1;
-        within = rw (← h .0) (test-not-lt ceiling b l);
+        within = rw (← h .0) (test-not-lt top b l);
         replied = ap bounded (h .0);
         size = row-size (g .m) _;
-        each = λ k low high. rw (byte-at (g .m) (λ j. rulingByte (ruling (network g) (multiplier d) ceiling j)) k low high)
-            (byte-exactly g d ceiling k (member k low high) feasible);
+        each = λ k low high. rw (byte-at (g .m) (λ j. rulingByte (ruling (scaledBy den (network g)) (multiplier d) top j)) k low high)
+            (byte-exactly g d ceiling den k (member k low high) feasible);
       }
         where
           member : (k : ℕ) → 1 ≤ k → k ≤ g .m → k ∈ upTo (network g .m)
           member k low high = unfold network in upTo-in (g .m) k low high
 
-  pub rule-exactly : RuleExactly g d ceiling out
+  pub rule-exactly : RuleExactly g d ceiling den out
   unfolding ruleReply ruleLeaves
   rule-exactly = record {
     refuses =
-        refuses-exactly (ruleSays ceiling x) (ruleFault g d ceiling (length out)) (λ z. rule-refuses-nothing ceiling x)
-        (ruleAsks g d ceiling (length out)) (ruleTests g d (length out) ceiling) (rule-fault g d (length out) ceiling);
+        refuses-exactly (ruleSays top x) (ruleFault g d ceiling den (length out)) (λ z. rule-refuses-nothing top x)
+        (ruleAsks g d ceiling den (length out)) (ruleTests g d den (length out) ceiling) (rule-fault g d den (length out) ceiling);
     refusalLeaves = λ e p h.
-        refused-leaves (ruleSays ceiling x) (rule-refuses-nothing ceiling x) (ruleFault g d ceiling (length out)) e p out _ h;
+        refused-leaves (ruleSays top x) (rule-refuses-nothing top x) (ruleFault g d ceiling den (length out)) e p out _ h;
     dead = λ f. rw (rule-fine f) dead;
-    deadByTree = λ f. rw (rule-fine f) (dead-tree x (tree-right (network g) (multiplier d)));
-    deadLeaves = dead-leaves (ruleFault g d ceiling (length out)) x;
-    otherwise = λ f. rw (rule-fine f) (λ n. rulings x (tree-right (network g) (multiplier d)) n (λ i. n (dead .1 i)));
+    deadByTree = λ f. rw (rule-fine f) (dead-tree x (tree-right (scaledBy den (network g)) (multiplier d)));
+    deadLeaves = dead-leaves (ruleFault g d ceiling den (length out)) x;
+    otherwise = λ f. rw (rule-fine f) (λ n. rulings x (tree-right (scaledBy den (network g)) (multiplier d)) n (λ i. n (dead .1 i)));
   }
     where
       x : Tree
-      x = leastTree (network g) (multiplier d)
+      x = leastTree (scaledBy den (network g)) (multiplier d)
 
-      dead : (ruleSays ceiling (leastTree (network g) (multiplier d)) ≡ none) ↔ Infeasible (network g) (multiplier d) ceiling
-      dead = dead-says (leastTree (network g) (multiplier d)) (infeasible-tree (network g) (multiplier d) ceiling)
+      dead : (ruleSays top (leastTree (scaledBy den (network g)) (multiplier d)) ≡ none) ↔ Infeasible (scaledBy den (network g)) (multiplier d) top
+      dead = dead-says (leastTree (scaledBy den (network g)) (multiplier d)) (infeasible-tree (scaledBy den (network g)) (multiplier d) top)
 
 -- ---- opening
 

@@ -7,7 +7,7 @@ use lib.Dec.{eqb, leb}
 use lib.ListN.{length, getD, set}
 use lib.IntN.{ℤ}
 use Rattle.graph.specs.declared.Graph.{Graph}
-use Rattle.tree_theory.specs.Inputs.{inputFault}
+use Rattle.tree_theory.specs.Inputs.{denominatorFits, inputFault}
 use Rattle.onetree.specs.Answers.{Reply, unlessFault, leaves, treeReply, treeLeaves}
 
 -- "a copy of the chart with that mark": edge k's mark stands at place k − 1
@@ -22,16 +22,21 @@ canBeMarked g k mark = (leb 1 k && leb k (g .m)) && (eqb mark 1 || eqb mark 2)
 abbrev pub isFreeEdge : Graph → ℕ → Bool
 isFreeEdge g k = eqb (getD (g .mark) (k - 1) 0) 0
 
--- "30 when the leg is not 1 to m or the new mark not 1 or 2, and 31 when the leg is not free; they follow 15, 11 and 12 in that order."
-unfoldable pub previewFault : Graph → List ℤ → ℕ → ℕ → ℕ → ℕ
-unfolding inputFault
-previewFault g d k mark len = inputFault g d len (cond (not (canBeMarked g k mark)) 30 (cond (not (isFreeEdge g k)) 31 0))
+-- "30 when the leg is not 1 to m or the new mark not 1 or 2, and 31 when the leg is not free; they follow 15, 11 and 12 in that order."; C-17: "32 when
+-- q is out of range, .. in the preview, before 30"
+unfoldable pub previewFault : Graph → List ℤ → ℕ → ℕ → ℕ → ℕ → ℕ
+unfolding inputFault denominatorFits
+previewFault g d q k mark len =
+    inputFault g d len
+    (cond (not (denominatorFits q)) 32
+    (cond (not (canBeMarked g k mark)) 30
+    (cond (not (isFreeEdge g k)) 31 0)))
 
 -- "It answers exactly as the tree call does on a copy of the chart with that mark"
-unfoldable pub previewReply : Graph → List ℤ → ℕ → ℕ → ℕ → Reply
+unfoldable pub previewReply : Graph → List ℤ → ℕ → ℕ → ℕ → ℕ → Reply
 unfolding previewFault remarked treeReply
-previewReply g d k mark len = unlessFault (previewFault g d k mark len) (treeReply (remarked g k mark) d len)
+previewReply g d q k mark len = unlessFault (previewFault g d q k mark len) (treeReply (remarked g k mark) d q len)
 
-unfoldable pub previewLeaves : Graph → List ℤ → ℕ → ℕ → List ℕ → List ℕ
+unfoldable pub previewLeaves : Graph → List ℤ → ℕ → ℕ → ℕ → List ℕ → List ℕ
 unfolding previewFault remarked treeLeaves
-previewLeaves g d k mark out = leaves (previewFault g d k mark (length out)) out (treeLeaves (remarked g k mark) d out)
+previewLeaves g d q k mark out = leaves (previewFault g d q k mark (length out)) out (treeLeaves (remarked g k mark) d q out)

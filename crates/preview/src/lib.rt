@@ -25,8 +25,8 @@ fn can_be_marked(g: Graph, edge: usize, mark: u32) -> bool
 }
 
 // The first fault of a preview, in document 02's order; 0 where there is none.
-fn fault(g: Graph, multipliers: &[i32], edge: usize, mark: u32, len: usize) -> u32
-    ensures { λ r. ⌜ r ≡ previewFault g (now (multipliers .entry)) edge mark len ⌝ }
+fn fault(g: Graph, multipliers: &[i32], denominator: u64, edge: usize, mark: u32, len: usize) -> u32
+    ensures { λ r. ⌜ r ≡ previewFault g (now (multipliers .entry)) denominator edge mark len ⌝ }
 {
     if !graph::check(g) {
         return 15;
@@ -40,6 +40,9 @@ fn fault(g: Graph, multipliers: &[i32], edge: usize, mark: u32, len: usize) -> u
     if !onetree::multipliers_fit(multipliers) {
         return 12;
     }
+    if !onetree::denominator_fits(denominator) {
+        return 32;
+    }
     if !can_be_marked(g, edge, mark) {
         return 30;
     }
@@ -52,11 +55,18 @@ fn fault(g: Graph, multipliers: &[i32], edge: usize, mark: u32, len: usize) -> u
 
 // The least 1-tree of a copy of the graph in which this free edge has this mark, as the tree call answers; the graph is untouched.
 // Ruled out: the edge numbered from 0; an answer for an edge that is required or excluded already; 31 for a mark that is none.
-pub fn preview(g: Graph, multipliers: &[i32], edge: usize, mark: u32, out: &mut [u8]) -> TreeAnswer
-    ensures { λ r. ⌜ (treeMeaning r ≡ previewReply g (now (multipliers .entry)) edge mark (length (now (out .entry))))
-        × (now (out .exit) ≡ previewLeaves g (now (multipliers .entry)) edge mark (now (out .entry))) ⌝ }
+pub fn preview(
+    g: Graph,
+    multipliers: &[i32],
+    denominator: u64,
+    edge: usize,
+    mark: u32,
+    out: &mut [u8],
+) -> TreeAnswer
+    ensures { λ r. ⌜ (treeMeaning r ≡ previewReply g (now (multipliers .entry)) denominator edge mark (length (now (out .entry))))
+        × (now (out .exit) ≡ previewLeaves g (now (multipliers .entry)) denominator edge mark (now (out .entry))) ⌝ }
 {
-    let number = fault(g, multipliers, edge, mark, out.len());
+    let number = fault(g, multipliers, denominator, edge, mark, out.len());
     if number != 0 {
         return TreeAnswer::Refused(number, 0);
     }
@@ -64,5 +74,5 @@ pub fn preview(g: Graph, multipliers: &[i32], edge: usize, mark: u32, out: &mut 
     marks[edge - 1] = mark as u8;
     let mut h = g;
     h.mark = marks;
-    onetree::tree(h, multipliers, out)
+    onetree::tree(h, multipliers, denominator, out)
 }

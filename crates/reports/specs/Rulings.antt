@@ -24,11 +24,15 @@ replyText g ceiling (bounded bound) rulings = boundLine bound ceiling ++ edgeLin
 abbrev pub zeroMultipliers : Graph → List ℤ
 zeroMultipliers g = replicate (g .n) (pos 0)
 
+-- document 02, C-17: "With q = 1, which the programs use"
+abbrev pub plainDenominator : ℕ
+plainDenominator = 1
+
 -- what the rule call answers, and the rulings that it leaves in a list of m bytes
 unfoldable pub rulesText : ℤ → Graph → List ℕ
 rulesText ceiling g =
-    replyText g ceiling (ruleReply g (zeroMultipliers g) ceiling (g .m))
-    (ruleLeaves g (zeroMultipliers g) ceiling (replicate (g .m) 0))
+    replyText g ceiling (ruleReply g (zeroMultipliers g) ceiling plainDenominator (g .m))
+    (ruleLeaves g (zeroMultipliers g) ceiling plainDenominator (replicate (g .m) 0))
 
 unfoldable pub rulingsText : List ℕ → List ℕ
 rulingsText input = printed rulesText input

@@ -10,7 +10,7 @@ use Rattle.machine.specs.Machine.{Opening, State, noSearch}
 use Rattle.machine.specs.Calls.{Answer, refused, accepted, runs, tells, opens, run, tell, step, isAccepted}
 use Rattle.reports.specs.Text.{refusedLine, verdictLine, nodesLine}
 use Rattle.reports.specs.Input.{printed}
-use Rattle.reports.specs.Rulings.{zeroMultipliers}
+use Rattle.reports.specs.Rulings.{zeroMultipliers, plainDenominator}
 
 -- "one run with .. allowance 1,000,000"
 abbrev pub budget : ℕ
@@ -18,7 +18,7 @@ budget = 1000000
 
 -- "with zero dues, no sweeps, step 0"
 abbrev pub plainSettings : ℤ → Settings
-plainSettings ceiling = record { ceiling = ceiling; sweeps = 0; step = 0 }
+plainSettings ceiling = record { ceiling = ceiling; sweeps = 0; step = 0; denominator = plainDenominator }
 
 abbrev pub plainOpening : ℤ → Graph → Opening
 plainOpening ceiling g = record { graph = g; multipliers = zeroMultipliers g; settings = plainSettings ceiling }

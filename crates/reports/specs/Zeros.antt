@@ -12,7 +12,7 @@ use Rattle.onetree.specs.Answers.{ruleReply, ruleLeaves}
 use Rattle.reports.specs.Puts.{Put}
 use Rattle.machine.specs.Calls.{Answer}
 use Rattle.search.specs.Record.{openingOf}
-use Rattle.reports.specs.Rulings.{replyText, rulesText}
+use Rattle.reports.specs.Rulings.{plainDenominator, replyText, rulesText}
 use Rattle.reports.specs.Searching.{plainSettings, lastAnswer, answerText, searchText}
 
 pub part : {A : Type 0} (n k : ℕ) (a : A) → k ≤ n → take k (replicate n a) ≡ replicate k a
@@ -26,8 +26,8 @@ part-length n k a h = rw (part n k a h) (length-replicate k a)
 pub rules-put : {k l : List ℕ} {i j : ℕ} (g : Graph) → Valid g → (ceiling : ℤ)
     → Put
     (replyText g ceiling
-    (ruleReply g (take (g .n) (replicate maxVertices (pos 0))) ceiling (length {A = ℕ} (take (g .m) (replicate maxEdges 0))))
-    (ruleLeaves g (take (g .n) (replicate maxVertices (pos 0))) ceiling (take (g .m) (replicate maxEdges 0))))
+    (ruleReply g (take (g .n) (replicate maxVertices (pos 0))) ceiling plainDenominator (length {A = ℕ} (take (g .m) (replicate maxEdges 0))))
+    (ruleLeaves g (take (g .n) (replicate maxVertices (pos 0))) ceiling plainDenominator (take (g .m) (replicate maxEdges 0))))
     k i l j
     → Put (rulesText ceiling g) k i l j
 unfolding rulesText

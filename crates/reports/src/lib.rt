@@ -11,3 +11,6 @@ pub use searching::search_text;
 
 // The buffer that a program lends for its text.
 pub const BUFFER_SIZE: usize = 4096;
+
+// The programs' multipliers are zero, and count in whole minutes.
+pub(crate) const PLAIN_DENOMINATOR: u64 = 1;

@@ -6,9 +6,10 @@ ghost use lib.Seq.{sets};
 ghost use Rattle.graph.specs.Valid.{Valid};
 ghost use Rattle.onetree.specs.Answers.{ruleMeaning, ruleReply, ruleLeaves};
 ghost use Rattle.reports.specs.Puts.{Put};
-ghost use Rattle.reports.specs.Rulings.{edgeLines, replyText, rulesText, rulingsText};
+ghost use Rattle.reports.specs.Rulings.{plainDenominator, edgeLines, replyText, rulesText, rulingsText};
 ghost use Rattle.reports.specs.Text.{bufferSize};
 use crate::BUFFER_SIZE;
+use crate::PLAIN_DENOMINATOR;
 use crate::input::CEILING_SIZE;
 use crate::input::ceiling_of;
 use crate::lines::put_bound;
@@ -72,13 +73,13 @@ fn put_reply(
     ensures { λ r.
         ⌜
         Put
-        (replyText g ceiling (ruleReply g (now (multipliers .entry)) ceiling (length (now (rulings .entry))))
-        (ruleLeaves g (now (multipliers .entry)) ceiling (now (rulings .entry))))
+        (replyText g ceiling (ruleReply g (now (multipliers .entry)) ceiling plainDenominator (length (now (rulings .entry))))
+        (ruleLeaves g (now (multipliers .entry)) ceiling plainDenominator (now (rulings .entry))))
         (now (out .entry)) 0 (now (out .exit)) r
         × (r ≤ bufferSize)
         ⌝ }
 {
-    let answer = onetree::rule(g, multipliers, ceiling, rulings);
+    let answer = onetree::rule(g, multipliers, ceiling, PLAIN_DENOMINATOR, rulings);
     put_answer(out, ceiling, g, answer, rulings)
 }
 

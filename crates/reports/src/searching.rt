@@ -12,6 +12,7 @@ ghost use Rattle.reports.specs.Puts.{Put};
 ghost use Rattle.reports.specs.Searching.{plainSettings, lastAnswer, answerText, searchText, searchProgramText};
 ghost use Rattle.reports.specs.Text.{bufferSize};
 use crate::BUFFER_SIZE;
+use crate::PLAIN_DENOMINATOR;
 use crate::input::CEILING_SIZE;
 use crate::input::ceiling_of;
 use crate::lines::put_cost;
@@ -52,6 +53,7 @@ fn last_answer(g: Graph, multipliers: &[i32], ceiling: i64) -> Answer
         ceiling: ceiling,
         sweeps: 0,
         step: 0,
+        denominator: PLAIN_DENOMINATOR,
     };
     let opened = search::open_core(s, g, multipliers, settings);
     let answer = opened.answer;

@@ -82,10 +82,13 @@ carried-tidy n depth e =
 no-settings : (t : Settings) → Dec (t ≡ noSettings)
 no-settings t =
     map-dec
-    {A = (t .ceiling ≡ pos 0) × ((t .sweeps ≡ 0) × (t .step ≡ 0))}
-    (λ e i. record { ceiling = e .0 i; sweeps = e .1 .0 i; step = e .1 .1 i })
-    (λ e. (ap (λ (x : Settings). x .ceiling) e, (ap (λ (x : Settings). x .sweeps) e, ap (λ (x : Settings). x .step) e)))
-    (both (ℤ-discrete _ _) (both (ℕ-discrete _ _) (ℕ-discrete _ _)))
+    {A = (t .ceiling ≡ pos 0) × ((t .sweeps ≡ 0) × ((t .step ≡ 0) × (t .denominator ≡ 0)))}
+    (λ e i. record { ceiling = e .0 i; sweeps = e .1 .0 i; step = e .1 .1 .0 i; denominator = e .1 .1 .1 i })
+    (λ e. (
+      ap (λ (x : Settings). x .ceiling) e,
+      (ap (λ (x : Settings). x .sweeps) e, (ap (λ (x : Settings). x .step) e, ap (λ (x : Settings). x .denominator) e)),
+    ))
+    (both (ℤ-discrete _ _) (both (ℕ-discrete _ _) (both (ℕ-discrete _ _) (ℕ-discrete _ _))))
 
 module _ (s : Search) where
   tidy : Dec (Tidy s)

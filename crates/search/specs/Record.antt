@@ -30,7 +30,7 @@ carriedSize = 440
 
 -- the settings of a record where no search is open
 abbrev pub noSettings : Settings
-noSettings = record { ceiling = pos 0; sweeps = 0; step = 0 }
+noSettings = record { ceiling = pos 0; sweeps = 0; step = 0; denominator = 0 }
 
 -- "A fresh hunt record has no hunt open"
 unfoldable pub fresh : Search

@@ -83,6 +83,7 @@ impl Search {
             ceiling: 0,
             sweeps: 0,
             step: 0,
+            denominator: 0,
         };
         let g = Graph::empty();
         Search {

@@ -21,7 +21,7 @@ use machine::Settings;
 use node::MAX_STEP;
 use node::MAX_SWEEPS;
 
-// The first of 15, 11, 12, 13, 14 that applies, or 0.
+// The first of 15, 11, 12, 13, 14, 32 that applies, or 0.
 pub(crate) fn fault(g: Graph, multipliers: &[i32], settings: Settings) -> u32
     ensures { λ r. ⌜ r ≡ Calls.fault (openingOf g (now (multipliers .entry)) settings) ⌝ }
 {
@@ -43,7 +43,7 @@ pub(crate) fn fault(g: Graph, multipliers: &[i32], settings: Settings) -> u32
     if settings.step > MAX_STEP {
         return 14;
     }
-    0
+    onetree::denominator_fault(settings.denominator)
 }
 
 // The graph with zero at every place past its edges.

@@ -320,7 +320,10 @@ fn blank(t: Settings) -> bool
     if t.sweeps != 0 {
         return false;
     }
-    t.step == 0
+    if t.step != 0 {
+        return false;
+    }
+    t.denominator == 0
 }
 
 fn idle(

@@ -17,7 +17,7 @@ start c = let at-slices = c .before .before in at-slices .before .before .before
 -- the ceiling is read back from its word
 fault-is : (c : tie.After-fault)
     → let a = start c .args in
-    c .fault .result ≡ compareFault (a .g) (a .multipliers .now) (a .terms .ceiling) (a .sweeps .now) (a .steps .now) (length (a .report .now))
+    c .fault .result ≡ compareFault (a .g) (a .multipliers .now) (a .terms .ceiling) (a .terms .denominator) (a .sweeps .now) (a .steps .now) (length (a .report .now))
 fault-is c = rw (back64 (start c .args .terms .ceiling) (c .before .struct-told .given .0 .1)) at (c .fault .ensures)
 
 returns : tie.Need-returns
@@ -27,11 +27,11 @@ returns c =
 
 none : (c : tie.Else1)
     → let a = start (c .before) .args in
-    compareFault (a .g) (a .multipliers .now) (a .terms .ceiling) (a .sweeps .now) (a .steps .now) (length (a .report .now)) ≡ 0
+    compareFault (a .g) (a .multipliers .now) (a .terms .ceiling) (a .terms .denominator) (a .sweeps .now) (a .steps .now) (length (a .report .now)) ≡ 0
 none c = sym (fault-is (c .before)) ∙ c .if1 .left
 
 count-all-requires : tie.Need-count-all-requires
-count-all-requires c κs = let f = no-fault _ _ _ _ _ _ (none (c .before)) in (f .steps-size, f .report-size)
+count-all-requires c κs = let f = no-fault _ _ _ _ _ _ _ (none (c .before)) in (f .steps-size, f .report-size)
 
 same-length : tie.Need-same-length
 same-length c = search needs

@@ -15,7 +15,7 @@ use Rattle.compare.proofs.count_all.Tie as tie
 abbrev Inv-loop : tie.InvT-loop
 Inv-loop g multipliers terms sweeps steps report₀ i₀ report i =
     (length report ≡ length report₀) × (i ≤ length sweeps)
-    × ((j : ℕ) → j < i → getD report j 0 ≡ finishes (pairOpening g multipliers (terms .ceiling) sweeps steps j) (terms .budget))
+    × ((j : ℕ) → j < i → getD report j 0 ≡ finishes (pairOpening g multipliers (terms .ceiling) (terms .denominator) sweeps steps j) (terms .budget))
 
 abbrev μ-loop : tie.MeasureT-loop
 μ-loop g multipliers terms sweeps steps report₀ i₀ report i = length sweeps - i
@@ -54,7 +54,7 @@ in-loop c = let at-settings = c .before in at-settings .before .before .before
 count-is : (c : tie.After-count Inv-loop μ-loop)
     → let at = in-loop c in
     let a = start at .args in
-    c .count .result ≡ finishes (pairOpening (a .g) (a .multipliers .now) (a .terms .ceiling) (a .sweeps .now) (a .steps .now) (at-loop at .loop .i)) (a .terms .budget)
+    c .count .result ≡ finishes (pairOpening (a .g) (a .multipliers .now) (a .terms .ceiling) (a .terms .denominator) (a .sweeps .now) (a .steps .now) (at-loop at .loop .i)) (a .terms .budget)
 count-is c = rw (back64 (start (in-loop c) .args .terms .ceiling) (c .before .struct-told .given .0 .1)) at (c .count .ensures)
 
 slice-write-report : tie.Need-slice-write-report Inv-loop μ-loop

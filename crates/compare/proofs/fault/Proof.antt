@@ -1,6 +1,6 @@
 -- Each test is the one that the definition makes, in its order (specs/Faults).
 use mathlib.Core.Path.{_≡_, sym, _∙_}
-use mathlib.Core.Bool.{Bool, true, false, cond}
+use mathlib.Core.Bool.{true, false}
 use lib.Dec.{leb}
 use lib.ListN.{length}
 use mir.Facts.{toZ-ofZ}
@@ -11,7 +11,7 @@ use Rattle.graph.specs.Limits.{maxSweeps, maxStep}
 use Rattle.graph.specs.Valid.{valid}
 use Rattle.tree_theory.specs.Inputs.{multipliersFit, ceilingFits}
 use Rattle.compare.specs.Comparison.{settingsFit, compareFault}
-use Rattle.compare.specs.Faults.{sizesFit, fault-graph, fault-length, fault-multipliers, fault-ceiling, fault-settings, fault-none}
+use Rattle.compare.specs.Faults.{sizesFit, fault-graph, fault-length, fault-multipliers, fault-ceiling, fault-settings, fault-left}
 use Rattle.compare.proofs.fault.Statement.{statement}
 use Rattle.compare.proofs.fault.Tie as tie
 
@@ -62,7 +62,7 @@ check-requires : tie.Need-check-requires
 check-requires c κs = search needs
 
 returns : tie.Need-returns
-returns c = sym (fault-graph _ _ _ _ _ _ (sym (c .before .check .ensures) ∙ not-true _ (c .if1 .taken)))
+returns c = sym (fault-graph _ _ _ _ _ _ _ (sym (c .before .check .ensures) ∙ not-true _ (c .if1 .taken)))
 
 wide-requires : tie.Need-wide-requires
 wide-requires c κs = search needs
@@ -71,7 +71,7 @@ returns-2 : tie.Need-returns-2
 returns-2 c =
     let one = c .before .before in
     let a = start one .args in
-    sym (fault-length _ _ _ _ _ _ (checked one)
+    sym (fault-length _ _ _ _ _ _ _ (checked one)
     (rw (ne-eqb (length (a .multipliers .now)) (a .g .n) (λ e. c .if2 .taken (e ∙ sym (c .before .wide .ensures .0))))))
 
 pairs-fit-requires : tie.Need-pairs-fit-requires
@@ -82,7 +82,7 @@ returns-3 c =
     let two = c .before .before in
     let one = two .before .before in
     let a = start one .args in
-    sym (fault-length _ _ _ _ _ _ (checked one)
+    sym (fault-length _ _ _ _ _ _ _ (checked one)
     (rw (eq-eqb (length (a .multipliers .now)) (a .g .n) (two .if2 .left ∙ two .before .wide .ensures .0))
     (sym (c .before .pairs-fit .ensures) ∙ not-true _ (c .if3 .taken))))
 
@@ -92,7 +92,7 @@ multipliers-fit-requires c κs = search needs
 returns-4 : tie.Need-returns-4
 returns-4 c =
     let three = c .before .before in
-    sym (fault-multipliers _ _ _ _ _ _ (checked (at-check three)) (lengths three)
+    sym (fault-multipliers _ _ _ _ _ _ _ (checked (at-check three)) (lengths three)
     (sym (c .before .multipliers-fit .ensures) ∙ not-true _ (c .if4 .taken)))
 
 ceiling-fits-requires : tie.Need-ceiling-fits-requires
@@ -102,7 +102,7 @@ returns-5 : tie.Need-returns-5
 returns-5 c =
     let four = c .before .before in
     let three = at-lengths four in
-    sym (fault-ceiling _ _ _ _ _ _ (checked (at-check three)) (lengths three) (fitting four)
+    sym (fault-ceiling _ _ _ _ _ _ _ (checked (at-check three)) (lengths three) (fitting four)
     (sym (ceiling-said (c .before)) ∙ not-true _ (c .if5 .taken)))
 
 all-at-most-requires : tie.Need-all-at-most-requires
@@ -113,14 +113,11 @@ all-at-most-requires c κs = search needs
 abbrev given : tie.Else5 → tie.Start
 given c = origin (at-multipliers c)
 
-by-settings : (c : tie.Else5) (f : Bool) → let a = given c .args in settingsFit (a .sweeps .now) (a .steps .now) ≡ f
-    → cond f 0 14 ≡ compareFault (a .g) (a .multipliers .now) (a .ceiling) (a .sweeps .now) (a .steps .now) (a .report)
-by-settings c true e =
+misfit : (c : tie.Else5) → let a = given c .args in settingsFit (a .sweeps .now) (a .steps .now) ≡ false
+    → 14 ≡ compareFault (a .g) (a .multipliers .now) (a .ceiling) (a .denominator) (a .sweeps .now) (a .steps .now) (a .report)
+misfit c e =
     let three = at-lengths (at-multipliers c) in
-    sym (fault-none _ _ _ _ _ _ (checked (at-check three)) (lengths three) (fitting (at-multipliers c)) (within c) e)
-by-settings c false e =
-    let three = at-lengths (at-multipliers c) in
-    sym (fault-settings _ _ _ _ _ _ (checked (at-check three)) (lengths three) (fitting (at-multipliers c)) (within c) e)
+    sym (fault-settings _ _ _ _ _ _ _ (checked (at-check three)) (lengths three) (fitting (at-multipliers c)) (within c) e)
 
 sweeps-fit : (c : tie.Else6) → everyOf (λ x. leb x maxSweeps) (given (at-ceiling c) .args .sweeps .now) ≡ true
 sweeps-fit c = sym (c .before .all-at-most .ensures) ∙ not-false _ (c .if6 .left)
@@ -131,7 +128,7 @@ returns-6 c =
     let five = c .before .before in
     let bad : everyOf (λ x. leb x maxSweeps) (given five .args .sweeps .now) ≡ false =
     sym (c .before .all-at-most .ensures) ∙ not-true _ (c .if6 .taken) in
-    by-settings five false (rw bad)
+    misfit five (rw bad)
 
 all-at-most-requires-2 : tie.Need-all-at-most-requires-2
 all-at-most-requires-2 c κs = search needs
@@ -143,16 +140,23 @@ returns-7 c =
     let five = at-ceiling six in
     let bad : everyOf (λ x. leb x maxStep) (given five .args .steps .now) ≡ false =
     sym (c .before .all-at-most2 .ensures) ∙ not-true _ (c .if7 .taken) in
-    by-settings five false (rw (sweeps-fit six, bad))
+    misfit five (rw (sweeps-fit six, bad))
+
+denominator-fault-requires : tie.Need-denominator-fault-requires
+denominator-fault-requires c κs = search needs
 
 returns-8 : tie.Need-returns-8
 unfolding settingsFit
 returns-8 c =
-    let six = c .before .before in
+    let seven = c .before in
+    let six = seven .before .before in
     let five = at-ceiling six in
+    let three = at-lengths (at-multipliers five) in
     let good : everyOf (λ x. leb x maxStep) (given five .args .steps .now) ≡ true =
-    sym (c .before .all-at-most2 .ensures) ∙ not-false _ (c .if7 .left) in
-    by-settings five true (rw (sweeps-fit six, good))
+    sym (seven .before .all-at-most2 .ensures) ∙ not-false _ (seven .if7 .left) in
+    c .denominator-fault .ensures
+    ∙ sym (fault-left _ _ _ _ _ _ _ (checked (at-check three)) (lengths three) (fitting (at-multipliers five)) (within five)
+    (rw (sweeps-fit six, good)))
 
 pub fault-spec : {M : Type 1} → statement M
 fault-spec =
@@ -172,4 +176,5 @@ fault-spec =
     returns-6
     all-at-most-requires-2
     returns-7
+    denominator-fault-requires
     returns-8)

@@ -16,6 +16,7 @@ use Rattle.graph.specs.Limits.{maxEdges}
 use Rattle.graph.specs.Network.{network}
 use Rattle.graph.specs.Valid.{graphOf}
 use Rattle.tree_theory.specs.Inputs.{multiplier}
+use Rattle.tree_theory.specs.Scaled.{scaledBy}
 use Rattle.tree_theory.specs.Looked.{Looked}
 use Rattle.greedy.specs.Charged.{maxCharge, highBound, lowBound, Charged}
 use Rattle.greedy.specs.Found.{FoundIs}
@@ -95,7 +96,7 @@ start c = begun (ordered c)
 
 -- the charges, the keys and how many there are
 abbrev charges : tie.After-reached → List ℕ
-charges c = from-order (ordered c) .charges .last .1 .1 .1 .1 .1 .0
+charges c = from-order (ordered c) .charges .last .1 .1 .1 .1 .1 .1 .0
 
 abbrev keys : tie.After-reached → List ℕ
 keys c = ordered c .order .last .1 .1 .1 .1 .1 .0
@@ -128,7 +129,7 @@ charges-requires : tie.Need-charges-requires
 charges-requires c κs =
     let s = c .before .before in
     let p = s .pre in
-    (p .1, p .0 .few, chargeable (lent s) _ (p .0) (p .2), ap length (p .4))
+    (p .1, p .0 .few, chargeable (lent s) _ (p .0) (p .2), ap length (p .4), p .6)
 
 order-requires : tie.Need-order-requires
 order-requires c κs =
@@ -389,13 +390,13 @@ made c =
       nearSmall = must (from-required parts);
     }
 
-charged : (c : tie.After-reached) → Charged (lent (start c)) (start c .args .multipliers .now) (charges c)
-charged c = charged-of (lent (start c)) (start c .args .multipliers .now) (charges c) (from-order (ordered c) .charges .ensures .0)
+charged : (c : tie.After-reached) → Charged (start c .args .q) (lent (start c)) (start c .args .multipliers .now) (charges c)
+charged c = charged-of (start c .args .q) (lent (start c)) (start c .args .multipliers .now) (charges c) (from-order (ordered c) .charges .ensures .0)
 
 -- and so what was found
 is : (c : tie.After-bound) → let s = c .before .before in
     let at = parted2 (grown s) in
-    FoundIs (lent (start at)) (start at .args .multipliers .now) (s .whole .result) (c .bound .result) (tree (s .before)) (charges at)
+    FoundIs (start at .args .q) (lent (start at)) (start at .args .multipliers .now) (s .whole .result) (c .bound .result) (tree (s .before)) (charges at)
 is c =
     let s = c .before .before in
     let at = parted2 (grown s) in
@@ -411,27 +412,27 @@ is c =
       high = range c .0;
       low = range c .1;
       some = λ e.
-          let l = found g (made (s .before)) d (charged at) (says-yes (said .result) (said .ensures) e) in (
+          let l = found g (made (s .before)) (begin .args .q) d (charged at) (says-yes (said .result) (said .ensures) e) in (
             l,
-            bound-is g (begin .pre .0) d (charges at) (tree (s .before)) (c .bound .result) (s .before .take-two .result) (all .result)
+            bound-is (begin .args .q) g (begin .pre .0) d (charges at) (tree (s .before)) (c .bound .result) (s .before .take-two .result) (all .result)
                 (charged at) (l .tree) (weighs g (made (s .before))) h (c .bound .ensures),
           );
-      none = λ e. missing g (made (s .before)) (says-no (said .result) (said .ensures) e);
+      none = λ e. missing g (made (s .before)) (begin .args .q) (says-no (said .result) (said .ensures) e);
       bits = bit-at g (made (s .before));
       past = past-none g (made (s .before));
     }
 
 -- at how many free edges the loop looked
 looks : (c : tie.After-grow2) → let o = parted2 c in
-    Looked (network (lent (start o))) (multiplier (start o .args .multipliers .now))
+    Looked (scaledBy (start o .args .q) (network (lent (start o)))) (multiplier (start o .args .multipliers .now))
     (c .grow2 .result .next - required (from-first (from-grow c)))
 looks c =
     let one = from-grow c in
     let o = parted one in
     let a = start o .args in
     let e = all-required one in
-    subst (λ (x : ℕ). Looked (network (lent (start o))) (multiplier (a .multipliers .now)) (c .grow2 .result .next - x)) e
-    (c .grow2 .ensures .1 (a .n) (a .m) (a .cost .now) (a .mark .now) (a .multipliers .now) (far-order o)
+    subst (λ (x : ℕ). Looked (scaledBy (a .q) (network (lent (start o)))) (multiplier (a .multipliers .now)) (c .grow2 .result .next - x)) e
+    (c .grow2 .ensures .1 (a .q) (a .n) (a .m) (a .cost .now) (a .mark .now) (a .multipliers .now) (far-order o)
     (subst (λ (x : ℕ). Small (fars o) (far o) x) (sym e) (far-must (from-first one))) (charged o)
     (omega (arith, start o .pre .0 .low)))
 

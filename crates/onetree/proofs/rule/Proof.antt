@@ -6,6 +6,7 @@ use borrow.Author.Tests.{not-true, not-false}
 use lib.ListN.{length}
 use mir.Facts.{toZ-ofZ}
 use Rattle.integers.specs.Words.{back64}
+use Rattle.integers.specs.Multiples.{_times_}
 use Rattle.graph.specs.declared.Graph.{Graph}
 use Rattle.graph.specs.Valid.{graphOf}
 use Rattle.graph.specs.Parts.{own-parts}
@@ -40,21 +41,21 @@ abbrev left : tie.After-judge → PassLists
 left c = let l = c .judge .last .1 .1 .1 .1 .1 .1 .1 .1 in passLists (l .0) (l .1 .0) (l .1 .1 .0)
 
 judged : (c : tie.After-judge) → let a = start (at-wide2 c) .args in
-    RuledOrRefused (a .t1) (a .multipliers .now) (a .ceiling) (length (a .out .now)) had (c .judge .result) (left c)
+    RuledOrRefused (a .denominator) (a .t1) (a .multipliers .now) (a .ceiling) (length (a .out .now)) had (c .judge .result) (left c)
 judged c =
     let s = start (at-wide2 c) in
     let a = s .args in
-    subst (λ (g : Graph). RuledOrRefused g (a .multipliers .now) (a .ceiling) (length (a .out .now)) had (c .judge .result) (left c))
+    subst (λ (g : Graph). RuledOrRefused (a .denominator) g (a .multipliers .now) (a .ceiling) (length (a .out .now)) had (c .judge .result) (left c))
     (parts (at-wide2 c)) (rw (toZ-ofZ (s .fits .ceiling)) at (c .judge .ensures))
 
 -- the input has no fault, and so the least 1-tree stands against the ceiling
 accepted : (c : tie.Else1) → let at = c .before .before in let a = start (at-wide2 at) .args in
-    (ruleFault (a .t1) (a .multipliers .now) (a .ceiling) (length (a .out .now)) ≡ 0)
-    × AgainstCeiling (a .t1) (a .multipliers .now) (a .ceiling) (at .judge .result) (left at)
+    (ruleFault (a .t1) (a .multipliers .now) (a .ceiling) (a .denominator) (length (a .out .now)) ≡ 0)
+    × AgainstCeiling (a .denominator) (a .t1) (a .multipliers .now) (a .denominator times a .ceiling) (at .judge .result) (left at)
 accepted c =
     let at = c .before .before in
     let a = start (at-wide2 at) .args in
-    ruled-accepted _ (a .t1) (a .multipliers .now) (a .ceiling) had (at .judge .result) (left at) (judged at) (c .if1 .left)
+    ruled-accepted _ (a .denominator) (a .t1) (a .multipliers .now) (a .denominator times a .ceiling) had (at .judge .result) (left at) (judged at) (c .if1 .left)
 
 wide-requires : tie.Need-wide-requires
 wide-requires c κs = search needs
@@ -74,8 +75,8 @@ returns c =
     let at = c .before .before in
     let a = start (at-wide2 at) .args in
     let x =
-    ruled-refused _ (a .t1) (a .multipliers .now) (a .ceiling) had (at .judge .result) (left at) (judged at) (c .if1 .taken) in
-    let r = rule-refused (a .t1) (a .multipliers .now) (a .ceiling) (a .out .now) (at .judge .result .fault) (x .0) (c .if1 .taken) in
+    ruled-refused _ (a .denominator) (a .t1) (a .multipliers .now) (a .denominator times a .ceiling) had (at .judge .result) (left at) (judged at) (c .if1 .taken) in
+    let r = rule-refused (a .t1) (a .multipliers .now) (a .ceiling) (a .denominator) (a .out .now) (at .judge .result .fault) (x .0) (c .if1 .taken) in
     (r .reply, r .left)
 
 returns-2 : tie.Need-returns-2
@@ -84,13 +85,13 @@ returns-2 c =
     let at-if1 = c .before .before in
     let a = start (at-wide2 (at-if1 .before .before)) .args in
     let ok = accepted at-if1 in
-    let r = rule-none (a .t1) (a .multipliers .now) (a .ceiling) (a .out .now) (ok .0) (ok .1 .none (not-true _ (c .if2 .taken)) .0) in
+    let r = rule-none (a .t1) (a .multipliers .now) (a .ceiling) (a .denominator) (a .out .now) (ok .0) (ok .1 .none (not-true _ (c .if2 .taken)) .0) in
     (r .reply, r .left)
 
 write-requires : tie.Need-write-requires
 write-requires c κs =
     let at-if2 = c .before .before in
-    let ok = rule-no-fault _ _ _ _ (accepted (at-if2 .before .before) .0) .0 in
+    let ok = rule-no-fault _ _ _ _ _ (accepted (at-if2 .before .before) .0) .0 in
     omega (arith, ok .lent, ok .valid .few)
 
 same-length : tie.Need-same-length
@@ -105,7 +106,7 @@ returns-3 c =
     let at = at-if1 .before .before in
     let a = start (at-wide2 at) .args in
     let ok = accepted at-if1 in
-    let r = rule-some (a .t1) (a .multipliers .now) (a .ceiling) (a .out .now) (ok .0) (at .judge .result .bound) (left at .tree)
+    let r = rule-some (a .t1) (a .multipliers .now) (a .ceiling) (a .denominator) (a .out .now) (ok .0) (at .judge .result .bound) (left at .tree)
     (left at .rulings) (ok .1 .some (not-false _ (at-if2 .if2 .left)) .0) in
     rw (back64 (at .judge .result .bound) (ok .1 .fits)) (r .reply, at-write .write .ensures ∙ r .left)
 

@@ -8,10 +8,9 @@ use Rattle.integers.specs.Words.{back64}
 use Rattle.graph.specs.declared.Graph.{Graph}
 use Rattle.graph.specs.Valid.{graphOf}
 use Rattle.graph.specs.Parts.{own-parts}
-use Rattle.tree_theory.specs.Inputs.{inputFault}
 use Rattle.tree_theory.specs.Arrays.{blank}
 use Rattle.tree_theory.specs.Accepted.{no-fault}
-use Rattle.onetree.specs.Answers.{treeMeaning}
+use Rattle.onetree.specs.Answers.{treeMeaning, treeFault}
 use Rattle.greedy.specs.Least.{Lists, lists, TreeFound, LeastOrRefused, by-refused, by-found}
 use Rattle.onetree.specs.TreeCall.{tree-refused, tree-none, tree-some}
 use Rattle.onetree.proofs.tree.Statement.{statement}
@@ -41,20 +40,21 @@ abbrev found : tie.After-least → Lists
 found c = let l = c .least .last .1 .1 .1 .1 .1 .1 .1 .1 in lists (l .0) (l .1 .0) (l .1 .1 .0) (l .1 .1 .1 .0)
 
 told : (c : tie.After-least) → let a = start (at-wide2 c) .args in
-    LeastOrRefused (a .t1) (a .multipliers .now) (length (a .out .now)) 0 had (c .least .result) (found c)
+    LeastOrRefused (a .denominator) (a .t1) (a .multipliers .now) (length (a .out .now)) 0 had (c .least .result) (found c)
 told c =
     let a = start (at-wide2 c) .args in
-    subst (λ (g : Graph). LeastOrRefused g (a .multipliers .now) (length (a .out .now)) 0 had (c .least .result) (found c))
+    subst (λ (g : Graph). LeastOrRefused (a .denominator) g (a .multipliers .now) (length (a .out .now)) 0 had (c .least .result) (found c))
     (parts (at-wide2 c)) (c .least .ensures)
 
 -- the input has no fault, and this was found
 accepted : (c : tie.Else1) → let at = c .before .before in let a = start (at-wide2 at) .args in
-    (inputFault (a .t1) (a .multipliers .now) (length (a .out .now)) 0 ≡ 0)
-    × TreeFound (a .t1) (a .multipliers .now) (at .least .result) (found at)
+    (treeFault (a .t1) (a .multipliers .now) (a .denominator) (length (a .out .now)) ≡ 0)
+    × TreeFound (a .denominator) (a .t1) (a .multipliers .now) (at .least .result) (found at)
+unfolding treeFault
 accepted c =
     let at = c .before .before in
     let a = start (at-wide2 at) .args in
-    by-found _ (a .t1) (a .multipliers .now) had (at .least .result) (found at) (told at) (c .if1 .left)
+    by-found _ (a .denominator) (a .t1) (a .multipliers .now) had (at .least .result) (found at) (told at) (c .if1 .left)
 
 wide-requires : tie.Need-wide-requires
 wide-requires c κs = search needs
@@ -69,12 +69,12 @@ least-requires : tie.Need-least-requires
 least-requires c κs = search needs
 
 returns : tie.Need-returns
-unfolding treeMeaning
+unfolding treeMeaning treeFault
 returns c =
     let at = c .before .before in
     let a = start (at-wide2 at) .args in
-    let x = by-refused _ (a .t1) (a .multipliers .now) had (at .least .result) (found at) (told at) (c .if1 .taken) in
-    let r = tree-refused (a .t1) (a .multipliers .now) (a .out .now) (at .least .result .fault) (x .0) (c .if1 .taken) in
+    let x = by-refused _ (a .denominator) (a .t1) (a .multipliers .now) had (at .least .result) (found at) (told at) (c .if1 .taken) in
+    let r = tree-refused (a .t1) (a .multipliers .now) (a .denominator) (a .out .now) (at .least .result .fault) (x .0) (c .if1 .taken) in
     (r .reply, r .left)
 
 returns-2 : tie.Need-returns-2
@@ -84,14 +84,17 @@ returns-2 c =
     let f = at-if1 .before .before .least .result in
     let a = start (at-wide2 (at-if1 .before .before)) .args in
     let ok = accepted at-if1 in
-    let r = tree-none (a .t1) (a .multipliers .now) (a .out .now) (f .any) (f .bound) _ _ (ok .0) (ok .1 .found)
+    let r = tree-none (a .t1) (a .multipliers .now) (a .denominator) (a .out .now) (f .any) (f .bound) _ _ (ok .0) (ok .1 .found)
     (not-true _ (c .if2 .taken)) in
     (r .reply, r .left)
 
 write-requires : tie.Need-write-requires
+unfolding treeFault
 write-requires c κs =
     let at-if2 = c .before .before in
-    let ok = no-fault _ _ _ 0 (accepted (at-if2 .before .before) .0) .0 in
+    let at-if1 = at-if2 .before .before in
+    let a = start (at-wide2 (at-if1 .before .before)) .args in
+    let ok = no-fault (a .t1) (a .multipliers .now) (length (a .out .now)) _ (accepted at-if1 .0) .0 in
     omega (arith, ok .lent, ok .valid .few)
 
 same-length : tie.Need-same-length
@@ -106,7 +109,7 @@ returns-3 c =
     let f = at-if1 .before .before .least .result in
     let a = start (at-wide2 (at-if1 .before .before)) .args in
     let ok = accepted at-if1 in
-    let r = tree-some (a .t1) (a .multipliers .now) (a .out .now) (f .any) (f .bound) _ _ (ok .0) (ok .1 .found)
+    let r = tree-some (a .t1) (a .multipliers .now) (a .denominator) (a .out .now) (f .any) (f .bound) _ _ (ok .0) (ok .1 .found)
     (not-false _ (at-if2 .if2 .left)) in
     rw (back64 (f .bound) (ok .1 .found .fits)) (r .reply, at-write .write .ensures ∙ r .left)
 

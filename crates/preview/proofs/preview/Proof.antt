@@ -18,18 +18,18 @@ returns : tie.Need-returns
 unfolding treeMeaning
 returns c =
     let number = c .before .fault .ensures in
-    (sym (preview-refused _ _ _ _ _ _ (sym number) (c .if1 .taken)), sym (refused-leaves _ _ _ _ _ _ (sym number) (c .if1 .taken)))
+    (sym (preview-refused _ _ _ _ _ _ _ (sym number) (c .if1 .taken)), sym (refused-leaves _ _ _ _ _ _ _ (sym number) (c .if1 .taken)))
 
 -- ---- where there is no fault
 
 abbrev start : tie.Else1 → tie.Start
 start c = c .before .before .before
 
-none : (c : tie.Else1) → let a = start c .args in previewFault (a .g) (a .multipliers .now) (a .edge) (a .mark) (length (a .out .now)) ≡ 0
+none : (c : tie.Else1) → let a = start c .args in previewFault (a .g) (a .multipliers .now) (a .denominator) (a .edge) (a .mark) (length (a .out .now)) ≡ 0
 none c = sym (c .before .fault .ensures) ∙ c .if1 .left
 
 faultless : (c : tie.Else1) → let a = start c .args in Faultless (a .g) (a .edge) (a .mark)
-faultless c = no-fault _ _ _ _ _ (none c)
+faultless c = no-fault _ _ _ _ _ _ (none c)
 
 cast-marks : tie.Need-cast-marks
 cast-marks c = record { fits = omega (arith, faultless (c .before) .is-mark) }
@@ -52,8 +52,8 @@ returns-2 c =
     let at-none = at-tree .before .before .before in
     let said = at-tree .tree .ensures in
     let a = start at-none .args in (
-      said .0 ∙ sym (unfold remarked in preview-tree (a .g) (a .multipliers .now) (a .edge) (a .mark) _ (none at-none)),
-      said .1 ∙ sym (unfold remarked in tree-leaves (a .g) (a .multipliers .now) (a .edge) (a .mark) (a .out .now) (none at-none)),
+      said .0 ∙ sym (unfold remarked in preview-tree (a .g) (a .multipliers .now) (a .denominator) (a .edge) (a .mark) _ (none at-none)),
+      said .1 ∙ sym (unfold remarked in tree-leaves (a .g) (a .multipliers .now) (a .denominator) (a .edge) (a .mark) (a .out .now) (none at-none)),
     )
 
 pub preview-spec : {M : Type 1} → statement M

@@ -23,7 +23,7 @@ asked c = openingOf (c .args .g) (c .args .multipliers .now) (c .args .settings)
 own : (c : tie.Start)
     → (length (c .args .s .multipliers) ≡ 20) × (length (c .args .s .carried) ≡ 440) × (length (c .args .s .stack) ≡ 4180)
     × (length (c .args .s .best) ≡ 190)
-own c = (search needs, search needs, search needs, search needs)
+own c = let after-graph = c .good .0 .1 .1 .1 .1 .1 .1 .1 .1 in (search needs, search needs, search needs, search (needs, after-graph))
 
 typed : (c : tie.Start) → Typed (c .args .s)
 typed c =

@@ -9,11 +9,13 @@ use native.Mathlib.Omega.{arith}
 use lib.ListN.{length}
 use lib.IntN.{ℤ, pos}
 use Rattle.lists.specs.Fill.{fit, fit-cut}
+use Rattle.integers.specs.Multiples.{_times_}
 use Rattle.graph.specs.declared.Graph.{Graph}
 use Rattle.graph.specs.Limits.{maxVertices, maxEdges, maxSweeps, maxStep, maxCount}
 use Rattle.graph.specs.Network.{network}
 use Rattle.tree_theory.specs.Arrays.{bytes}
-use Rattle.tree_theory.specs.Inputs.{multipliersFit, ceilingFits}
+use Rattle.tree_theory.specs.Inputs.{multipliersFit, ceilingFits, denominatorFault}
+use Rattle.tree_theory.specs.Scaled.{scaledBy}
 use Rattle.machine.specs.declared.Settings.{Settings}
 use Rattle.machine.specs.Machine.{Node, passes, Progress, openNode, settled, openTop, ran}
 use Rattle.machine.specs.Kept.{Waits, Nodes}
@@ -22,7 +24,7 @@ use Rattle.node.specs.Marks.{marksIn, bytesOf, bytes-back}
 use Rattle.node.specs.Opened.{Opened, places, openedAs}
 use Rattle.search.specs.declared.running.Frame.{Frame}
 use Rattle.search.specs.Record.{maxNodes, multipliersAt, stackBytes, carriedOf}
-use Rattle.search.specs.Accepted.{range-fits}
+use Rattle.search.specs.Accepted.{range-fits, range-denominator}
 use Rattle.search.specs.Pushing.{rowAt, row-top, carried-top}
 use Rattle.search.specs.Runs.Frames.{FrameHolds, Top, holds-upper, holds-depth, holds-count, holds-deep, holds-valid, top-of}
 
@@ -41,6 +43,11 @@ module _ (g : Graph) (o : Settings) (f : Frame) (l w : List ℕ) (e : List ℤ) 
 
   pub runs-sweeps : o .sweeps ≤ maxSweeps
   runs-sweeps = subst (λ (t : Settings). t .sweeps ≤ maxSweeps) (h .settings) (h .holds .kept .opening .sweeps)
+
+  pub runs-denominator : denominatorFault (o .denominator) ≡ 0
+  runs-denominator =
+      subst (λ (t : Settings). denominatorFault (t .denominator) ≡ 0) (h .settings)
+      (range-denominator (s .opening .settings .denominator) (h .holds .kept .opening .denominator))
 
   module _ (t : Top s) where
     few : g .m ≤ maxEdges
@@ -83,18 +90,19 @@ module _ (g : Graph) (o : Settings) (f : Frame) (l w : List ℕ) (e : List ℤ) 
     -- the passes that the code makes are the machine's opening of the node
     pub top-is : (q : Opened) (u : ℤ) (x : List ℕ) (d : List ℤ) → u ≡ f .upper → x ≡ rowAt l (f .depth - 1)
         → d ≡ multipliersAt maxVertices e (f .depth - 1)
-        → q ≡ openedAs (passes (network g) (o .step) u (o .sweeps) (fit (g .n) (pos 0) d) (marksIn (g .m) x))
+        → q ≡ openedAs (passes (scaledBy (o .denominator) (network g)) (o .step) (o .denominator times u) (o .sweeps) (fit (g .n) (pos 0) d)
+        (marksIn (g .m) x))
         → q ≡ openedAs (openNode (s .opening) (s .upper) (t .node))
     unfolding openNode
     top-is q u x d a b c i = i ∙ ap openedAs same
       where
-        same : passes (network g) (o .step) u (o .sweeps) (fit (g .n) (pos 0) d) (marksIn (g .m) x)
-            ≡ passes (network (s .opening .graph)) (s .opening .settings .step) (s .upper) (s .opening .settings .sweeps)
-            (t .node .multipliers) (t .node .marks)
+        same : passes (scaledBy (o .denominator) (network g)) (o .step) (o .denominator times u) (o .sweeps) (fit (g .n) (pos 0) d) (marksIn (g .m) x)
+            ≡ passes (scaledBy (s .opening .settings .denominator) (network (s .opening .graph))) (s .opening .settings .step)
+            (s .opening .settings .denominator times s .upper) (s .opening .settings .sweeps) (t .node .multipliers) (t .node .marks)
         same =
             λ i.
-            passes (network (sym (h .holds .graph) i)) (sym (h .settings) i .step) ((a ∙ holds-upper g f l w s (h .holds)) i)
-            (sym (h .settings) i .sweeps) ((ap (fit (g .n) (pos 0)) c ∙ top-carried) i) ((ap (marksIn (g .m)) b ∙ row-marks) i)
+            passes (scaledBy (sym (h .settings) i .denominator) (network (sym (h .holds .graph) i))) (sym (h .settings) i .step)
+            (sym (h .settings) i .denominator times (a ∙ holds-upper g f l w s (h .holds)) i) (sym (h .settings) i .sweeps) ((ap (fit (g .n) (pos 0)) c ∙ top-carried) i) ((ap (marksIn (g .m)) b ∙ row-marks) i)
 
     -- and the settings are those that they were
     pub runs-next : (f′ : Frame) (l′ w′ : List ℕ) (e′ : List ℤ) → FrameHolds g f′ l′ w′ (openTop s (s .stack))

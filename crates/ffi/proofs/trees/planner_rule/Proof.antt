@@ -42,7 +42,7 @@ returns c =
     let a = start .args in
     let said = rw (toZ-ofZ (start .fits .ceiling)) at (at-rule .rule .ensures) in
     let arm = c .before .before .answer .given in
-    let reply : ruleReply (a .g) (a .multipliers .now) (a .ceiling) (length (a .out .now)) ≡ bounded (arm .0 .0) =
+    let reply : ruleReply (a .g) (a .multipliers .now) (a .ceiling) (a .denominator) (length (a .out .now)) ≡ bounded (arm .0 .0) =
     sym (said .0) ∙ ap ruleMeaning (arm .1) in
     (rw (reply, ← back64 (arm .0 .0) (c .before .known-told .given .0 .1)) (c .bound .ensures), said .1)
 
@@ -58,7 +58,7 @@ returns-2 c =
     let a = start .args in
     let said = rw (toZ-ofZ (start .fits .ceiling)) at (at-rule .rule .ensures) in
     let arm = c .before .enum-told .given in
-    let reply : ruleReply (a .g) (a .multipliers .now) (a .ceiling) (length (a .out .now)) ≡ none =
+    let reply : ruleReply (a .g) (a .multipliers .now) (a .ceiling) (a .denominator) (length (a .out .now)) ≡ none =
     sym (said .0) ∙ ap ruleMeaning (arm .1) in
     (rw reply (c .plain .ensures), said .1)
 
@@ -74,7 +74,7 @@ returns-3 c =
     let a = start .args in
     let said = rw (toZ-ofZ (start .fits .ceiling)) at (at-rule .rule .ensures) in
     let arm = c .before .before .answer2 .given in
-    let reply : ruleReply (a .g) (a .multipliers .now) (a .ceiling) (length (a .out .now)) ≡ refused (arm .0 .0) (arm .0 .1 .0) =
+    let reply : ruleReply (a .g) (a .multipliers .now) (a .ceiling) (a .denominator) (length (a .out .now)) ≡ refused (arm .0 .0) (arm .0 .1 .0) =
     sym (said .0) ∙ ap ruleMeaning (arm .1) in
     (rw reply (c .plain2 .ensures), said .1)
 

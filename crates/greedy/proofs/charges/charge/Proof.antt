@@ -2,6 +2,7 @@
 use mir.Facts.{toZ-ofZ}
 use borrow.Author.Needs.{needs}
 use native.Mathlib.Omega.{arith}
+use Rattle.integers.specs.Multiples.{_times_}
 use Rattle.greedy.specs.Charging.{raise-three}
 use Rattle.greedy.proofs.charges.charge.Statement.{statement}
 use Rattle.greedy.proofs.charges.charge.Tie as tie
@@ -30,7 +31,7 @@ returns c =
     let x = c .before .before .raised-cost in
     let y = c .before .raised in
     let z = c .raised2 in (
-      raise-three (start .args .cost) (start .args .x) (start .args .y) (x .result) (y .result) (z .result)
+      raise-three (start .args .q times start .args .cost) (start .args .x) (start .args .y) (x .result) (y .result) (z .result)
           (rw (toZ-ofZ (start .fits .cost)) at (x .ensures .0)) (rw (toZ-ofZ (start .fits .x)) at (y .ensures .0))
           (rw (toZ-ofZ (start .fits .y)) at (z .ensures .0)),
       omega arith,

@@ -7,22 +7,24 @@ use lib.IntN.{pos}
 use borrow.Author.Needs.{needs}
 use native.Mathlib.Omega.{arith}
 use Rattle.integers.specs.Words.{back32}
+use Rattle.graph.specs.Limits.{maxDenominator}
 use Rattle.tree_theory.specs.Multipliers.{Ranged, multiplier-range}
 use Rattle.greedy.specs.Charging.{Chargeable, ChargesOf, charges-more}
 use Rattle.greedy.proofs.charges.charges.Statement.{statement}
 use Rattle.greedy.proofs.charges.charges.Tie as tie
 
 abbrev Inv-loop : tie.InvT-loop
-Inv-loop a b cost m d c₀ k₀ c k =
+Inv-loop a b cost m q d c₀ k₀ c k =
     (k ≤ m) × (m ≤ 190) × Ranged d
     × ((j : ℕ) → j < m → Chargeable (length d) (getD a j 0) (getD b j 0) (getD cost j (pos 0)))
-    × (length c ≡ 190) × ChargesOf a b cost d c k × ((j : ℕ) → k ≤ j → getD c j 0 ≡ getD c₀ j 0)
+    × (length c ≡ 190) × ChargesOf q a b cost d c k × ((j : ℕ) → k ≤ j → getD c j 0 ≡ getD c₀ j 0)
+    × (q ≤ maxDenominator)
 
 abbrev μ-loop : tie.MeasureT-loop
-μ-loop a b cost m d c₀ k₀ c k = m - k
+μ-loop a b cost m q d c₀ k₀ c k = m - k
 
 loop-holds : tie.Need-loop-holds Inv-loop μ-loop
-loop-holds c = (omega arith, c .pre .1, c .pre .0, c .pre .2, c .pre .3, λ k h. absurd (omega arith), λ j h. refl)
+loop-holds c = (omega arith, c .pre .1, c .pre .0, c .pre .2, c .pre .3, λ k h. absurd (omega arith), λ j h. refl, c .pre .4)
 
 mul-charge : tie.Need-mul-charge Inv-loop μ-loop
 mul-charge c = search needs
@@ -62,6 +64,7 @@ charge-requires c κs =
     let e = l .inv .3 (l .k) (omega arith) in
     let x = at-multiplier-at .multiplier-at in
     let y = c .multiplier-at2 in (
+      l .inv .7,
       rw (back32 (getD (s .cost .now) (l .k) (pos 0)) (before .charge-arg .given)) (e .4),
       rw (back32 (x .result) (x .ok), x .ensures)
           (multiplier-range d (l .inv .2) (getD (s .a .now) (l .k) 0) (e .0) (e .1)),
@@ -96,7 +99,7 @@ loop-again c =
       l .inv .2,
       l .inv .3,
       length-set (l .c) (l .k) (c .charge .result) ∙ l .inv .4,
-      charges-more (s .a .now) (s .b .now) (s .cost .now) (s .d .now) (l .c) (l .k) (c .charge .result) (omega (arith, l .inv .4)) (l .inv .5)
+      charges-more (s .q) (s .a .now) (s .b .now) (s .cost .now) (s .d .now) (l .c) (l .k) (c .charge .result) (omega (arith, l .inv .4)) (l .inv .5)
           (rw (
             back32 (getD (s .cost .now) (l .k) (pos 0)) (before .charge-arg .given),
             back32 (x .result) (x .ok),
@@ -105,6 +108,7 @@ loop-again c =
             y .ensures,
           ) at (c .charge .ensures)),
       λ j h. getD-set-other (l .c) (l .k) j (c .charge .result) 0 (λ q. omega arith) ∙ l .inv .6 j (omega arith),
+      l .inv .7,
     )
 
 returns : tie.Need-returns Inv-loop μ-loop

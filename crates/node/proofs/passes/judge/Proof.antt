@@ -20,7 +20,7 @@ use Rattle.machine.specs.Calls.{fault}
 use Rattle.node.specs.Marks.{marks-back}
 use Rattle.node.specs.Opened.{taken}
 use Rattle.node.specs.Faults.{Fit, fault-fit}
-use Rattle.node.specs.OnePass.{treeBytes, tree-found, tree-ruled}
+use Rattle.node.specs.OnePass.{treeBytes, topOf, tree-found, tree-ruled}
 use Rattle.node.specs.Counting.{ends-of, degrees-edged}
 use Rattle.node.specs.Passing.{Within, hint-fits, refusal-fault, answer-shut, answer-within, pass-tree, pass-rulings}
 use Rattle.node.proofs.passes.judge.Statement.{statement}
@@ -53,20 +53,20 @@ upper p = back64 (start p .args .p .settings .ceiling) (p .before .struct-told .
 
 -- the tree part's promise, with the upper bound read back from its word and the slice as the first n multipliers
 said : (p : tie.After-pass) → let o = opening p in
-    (ruleMeaning (p .pass .result .answer) ≡ ruleReply (o .graph) (o .multipliers) (o .settings .ceiling) (o .graph .m))
-    × (p .pass .last .1 .1 .1 .1 .1 .1 .1 .1 .1 .0 ≡ passTree (o .graph) (o .multipliers) (o .settings .ceiling) blank)
-    × (p .pass .last .1 .1 .1 .1 .1 .1 .1 .1 .1 .1 .0 ≡ passRulings (o .graph) (o .multipliers) (o .settings .ceiling) blank)
+    (ruleMeaning (p .pass .result .answer) ≡ ruleReply (o .graph) (o .multipliers) (o .settings .ceiling) (o .settings .denominator) (o .graph .m))
+    × (p .pass .last .1 .1 .1 .1 .1 .1 .1 .1 .1 .1 .0 ≡ passTree (o .graph) (o .multipliers) (o .settings .ceiling) (o .settings .denominator) blank)
+    × (p .pass .last .1 .1 .1 .1 .1 .1 .1 .1 .1 .1 .1 .0 ≡ passRulings (o .graph) (o .multipliers) (o .settings .ceiling) (o .settings .denominator) blank)
 said p =
     let s = start p in
     let t = rw (upper p, take-fit (s .args .p .n) (pos 0) (s .args .p .multipliers) (enough s)) at (p .pass .ensures) in
     (t .0, t .1, t .2)
 
 -- the hint for the next pass
-handed : (p : tie.After-pass) → (p .pass .result .live ≤ 190) × (length (p .pass .last .1 .1 .1 .1 .1 .1 .1 .1 .1 .1 .1 .0) ≡ 190)
+handed : (p : tie.After-pass) → (p .pass .result .live ≤ 190) × (length (p .pass .last .1 .1 .1 .1 .1 .1 .1 .1 .1 .1 .1 .1 .0) ≡ 190)
 handed p =
     let a = start p .args in
     hint-fits (ruleMeaning (p .pass .result .answer)) (a .row .now) (a .p .m) (a .order .now)
-    (p .pass .last .1 .1 .1 .1 .1 .1 .1 .1 .1 .1 .1 .0) (p .pass .result .live) (p .pass .ensures .3) (start p .pre .3)
+    (p .pass .last .1 .1 .1 .1 .1 .1 .1 .1 .1 .1 .1 .1 .0) (p .pass .result .live) (p .pass .ensures .3) (start p .pre .3)
 
 -- what is refused is the fault
 number : (r : tie.After-refusal) → fault (opening (r .before)) ≡ r .refusal .result
@@ -83,21 +83,22 @@ fits : (b : tie.After-is-bound) → Fit (opening (asked b .before))
 fits b = fault-fit (opening (asked b .before)) (none b)
 
 -- where there is a tree within the ceiling: that tree
-within : (c : tie.Else2) → let o = opening (asked (c .before) .before) in (b : ℤ) × Within (o .graph) (o .multipliers) (o .settings .ceiling) b
+within : (c : tie.Else2) → let o = opening (asked (c .before) .before) in (b : ℤ)
+    × Within (o .settings .denominator) (o .graph) (o .multipliers) (topOf o) b
 within c =
     let p = asked (c .before) .before in
     let f = fits (c .before) in
-    answer-within _ _ _ (f .valid) (f .long) (f .multipliers) (f .ceiling) _
+    answer-within _ _ _ _ (f .valid) (f .long) (f .multipliers) (f .ceiling) (f .denominator) _
     (sym (c .before .is-bound .ensures) ∙ not-false _ (c .if2 .left)) (said p .0)
 
 -- and its bytes
 tree-bytes : (c : tie.Else2)
     → let p = asked (c .before) .before in
-    p .pass .last .1 .1 .1 .1 .1 .1 .1 .1 .1 .0 ≡ treeBytes (start p .args .p .m) (within c .1 .tree)
+    p .pass .last .1 .1 .1 .1 .1 .1 .1 .1 .1 .1 .0 ≡ treeBytes (start p .args .p .m) (within c .1 .tree)
 tree-bytes c =
     let p = asked (c .before) .before in
     let f = fits (c .before) in
-    _∙_ {A = List ℕ} (said p .1) (pass-tree _ _ _ (f .valid) (f .long) (f .multipliers) (f .ceiling) _ (within c .0) (within c .1))
+    _∙_ {A = List ℕ} (said p .1) (pass-tree _ _ _ _ (f .valid) (f .long) (f .multipliers) (f .ceiling) (f .denominator) _ (within c .0) (within c .1))
 
 array-share-prefix-d : tie.Need-array-share-prefix-d
 array-share-prefix-d c = enough (begun c)
@@ -128,7 +129,7 @@ returns-2 c =
     let f = fits b in (
       (
         none b,
-        answer-shut _ _ _ (f .valid) (f .long) (f .multipliers) (f .ceiling) _
+        answer-shut _ _ _ _ (f .valid) (f .long) (f .multipliers) (f .ceiling) (f .denominator) _
             (sym (b .is-bound .ensures) ∙ not-true _ (c .if2 .taken)) (said p .0),
       ),
       handed p .1,
@@ -160,7 +161,7 @@ returns-3 c =
     let w = within e .1 in (
       (
         none (e .before),
-        tree-found _ (fits (e .before) .valid) _ _ (within e .0) (w .tree) (w .least) (w .low) _ _ (tree-bytes e)
+        tree-found _ _ (fits (e .before) .valid) _ _ (within e .0) (w .tree) (w .least) (w .low) _ _ (tree-bytes e)
             (degrees-edged (given (start p)) _ _ (degrees two .count-degrees .ensures)) (sym (two .two-each .ensures) ∙ c .if3 .taken),
       ),
       handed p .1,
@@ -180,12 +181,12 @@ returns-4 c =
     let p = asked (e .before) .before in
     let f = fits (e .before) in
     let w = within e .1 in
-    let ruled = pass-rulings _ _ _ (f .valid) (f .long) (f .multipliers) (f .ceiling) _ (within e .0) w in (
+    let ruled = pass-rulings _ _ _ _ (f .valid) (f .long) (f .multipliers) (f .ceiling) (f .denominator) _ (within e .0) w in (
       (
         none (e .before),
-        tree-ruled _ (f .valid) _ _ (within e .0) (w .tree) (w .least) (w .low) _ _ (tree-bytes e)
+        tree-ruled _ _ (f .valid) _ _ (within e .0) (w .tree) (w .least) (w .low) _ _ (tree-bytes e)
             (degrees-edged (given (start p)) _ _ (degrees two .count-degrees .ensures))
-            (p .pass .last .1 .1 .1 .1 .1 .1 .1 .1 .1 .1 .0) _
+            (p .pass .last .1 .1 .1 .1 .1 .1 .1 .1 .1 .1 .1 .0) _
             (λ k h. ap (λ (l : List ℕ). getD l k 0) (said p .2) ∙ ruled k h) (c .apply .ensures)
             (sym (two .two-each .ensures) ∙ tested .if3 .left),
         handed p .0,

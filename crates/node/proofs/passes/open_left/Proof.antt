@@ -123,7 +123,7 @@ returns-2 c =
     let j = told .before .before in
     let v = judged j verdict.Shut (told .enum-told .given .1) in
     let t = accepted j (v .0) in
-    comes j (t .0) _ (c .close .ensures ∙ turn-shut _ (fault-fit _ (t .0) .valid) _ _ _ _ _ _ (t .1) (v .1))
+    comes j (t .0) _ (c .close .ensures ∙ turn-shut _ _ (fault-fit _ (t .0) .valid) _ _ _ _ _ _ (t .1) (v .1))
 
 enum-told-2 : tie.Need-enum-told-2 Inv-loop μ-loop
 enum-told-2 c = search needs
@@ -134,7 +134,7 @@ returns-3 c =
     let j = told .before .before in
     let v = judged j verdict.Found (told .enum-told2 .given .1) in
     let t = accepted j (v .0) in
-    comes j (t .0) _ (turn-found _ (fault-fit _ (t .0) .valid) _ _ _ _ _ _ (t .1) _ (v .1))
+    comes j (t .0) _ (turn-found _ _ (fault-fit _ (t .0) .valid) _ _ _ _ _ _ (t .1) _ (v .1))
 
 enum-known-verdict-2 : tie.Need-enum-known-verdict-2 Inv-loop μ-loop
 enum-known-verdict-2 c = search needs
@@ -149,7 +149,7 @@ split-requires c κs =
     let k = lent .before in
     let v = judged (ruled k) _ (k .before .verdict2 .given .1) in
     let t = accepted (ruled k) (v .0) in
-    (turn (ruled k) .loop .inv .0, turn (ruled k) .loop .inv .1, turn-marks _ (fault-fit _ (t .0) .valid) _ _ _ _ _ _ (t .1) _ _ (v .1))
+    (turn (ruled k) .loop .inv .0, turn (ruled k) .loop .inv .1, turn-marks _ _ (fault-fit _ (t .0) .valid) _ _ _ _ _ _ (t .1) _ _ (v .1))
 
 returns-4 : tie.Need-returns-4 Inv-loop μ-loop
 returns-4 c =
@@ -159,7 +159,7 @@ returns-4 c =
     let v = judged (ruled k) _ (k .before .verdict2 .given .1) in
     let t = accepted (ruled k) (v .0) in
     comes (ruled k) (t .0) _
-    (c .split .ensures ∙ turn-last _ (fault-fit _ (t .0) .valid) _ _ _ _ _ _ (t .1) _ _ (v .1) (last .if1 .taken))
+    (c .split .ensures ∙ turn-last _ _ (fault-fit _ (t .0) .valid) _ _ _ _ _ _ (t .1) _ _ (v .1) (last .if1 .taken))
 
 gains-requires : tie.Need-gains-requires Inv-loop μ-loop
 gains-requires c κs =
@@ -183,7 +183,7 @@ loop-again c =
     let v = judged j _ (k .before .verdict2 .given .1) in
     let t = accepted j (v .0) in
     let next =
-    turn-next _ (fault-fit _ (t .0) .valid) _ _ _ _ _ _ (t .1) _ _ (v .1) (c .gains .result) (c .gains .ensures) (l .left - 1)
+    turn-next _ _ (fault-fit _ (t .0) .valid) _ _ _ _ _ _ (t .1) _ _ (v .1) (c .gains .result) (c .gains .ensures) (l .left - 1)
     (omega (arith, c .before .before .if1 .left))
     in
     (l .inv .0, l .inv .1, l .inv .2, inr (t .0, next), v .2, j .judge .ensures .1, l .inv .6, l .inv .7)

@@ -19,6 +19,9 @@ settings-fault-requires-2 c κs = search needs
 enum-known-answer : tie.Need-enum-known-answer
 enum-known-answer c = search needs
 
+lastly-requires : tie.Need-lastly-requires
+lastly-requires c κs = search needs
+
 returns : tie.Need-returns
 unfolding refusal
 returns c = rw (c .before .enum-told .given .1) (c .settings-fault .ensures)
@@ -29,7 +32,7 @@ returns-2 c = rw (c .before .enum-told2 .given .1) (c .settings-fault2 .ensures)
 
 returns-3 : tie.Need-returns-3
 unfolding refusal
-returns-3 c = rw (c .before .answer .given .1)
+returns-3 c = rw (c .before .before .answer .given .1) (c .lastly .ensures)
 
 pub refusal-spec : {M : Type 1} → statement M
 refusal-spec =
@@ -40,6 +43,7 @@ refusal-spec =
     enum-told-2
     settings-fault-requires-2
     enum-known-answer
+    lastly-requires
     returns
     returns-2
     returns-3)

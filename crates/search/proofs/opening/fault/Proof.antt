@@ -9,7 +9,7 @@ use Rattle.graph.specs.Valid.{valid}
 use Rattle.tree_theory.specs.Inputs.{multipliersFit, ceilingFits}
 use Rattle.machine.specs.Machine.{Opening}
 use Rattle.machine.specs.Calls.{step}
-use Rattle.node.specs.Faults.{fault-15, fault-11, fault-12, fault-13, fault-sweeps, fault-step, fault-none}
+use Rattle.node.specs.Faults.{fault-15, fault-11, fault-12, fault-13, fault-sweeps, fault-step, fault-left}
 use Rattle.search.specs.Record.{openingOf}
 use Rattle.search.specs.Check.{check}
 use Rattle.search.proofs.opening.fault.Statement.{statement}
@@ -100,14 +100,19 @@ returns-6 c =
     let c1 = c2 .before .before in
     sym (fault-step (asked (c1 .before .before)) (sound c1) (long c2) (fitting c3) (inside c4) (c5 .if5 .left) (c .if6 .taken))
 
+denominator-fault-requires : tie.Need-denominator-fault-requires
+denominator-fault-requires c κs = search needs
+
 returns-7 : tie.Need-returns-7
 returns-7 c =
-    let c5 = c .before .before in
+    let c6 = c .before in
+    let c5 = c6 .before .before in
     let c4 = c5 .before .before in
     let c3 = c4 .before .before .before in
     let c2 = c3 .before .before in
     let c1 = c2 .before .before in
-    sym (fault-none (asked (c1 .before .before)) (sound c1) (long c2) (fitting c3) (inside c4) (c5 .if5 .left) (c .if6 .left))
+    c .denominator-fault .ensures
+    ∙ sym (fault-left (asked (c1 .before .before)) (sound c1) (long c2) (fitting c3) (inside c4) (c5 .if5 .left) (c6 .if6 .left))
 
 pub fault-spec : {M : Type 1} → statement M
 fault-spec =
@@ -123,4 +128,5 @@ fault-spec =
     returns-4
     returns-5
     returns-6
+    denominator-fault-requires
     returns-7)

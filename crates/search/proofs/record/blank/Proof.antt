@@ -15,16 +15,21 @@ returns-2 : tie.Need-returns-2
 returns-2 c = λ e. c .if2 .taken (ap (λ (t : Settings). t .sweeps) e)
 
 returns-3 : tie.Need-returns-3
-returns-3 c =
-    let at-sweeps = c .before in
+returns-3 c = λ e. c .if3 .taken (ap (λ (t : Settings). t .step) e)
+
+returns-4 : tie.Need-returns-4
+returns-4 c =
+    let at-step = c .before in
+    let at-sweeps = at-step .before .before in
     let at-ceiling = at-sweeps .before .before in
     let told = at-ceiling .before in
     let t = told .before .before .args .t in
-    says-eq (t .step) 0 (t ≡ noSettings) (λ e i. record {
+    says-eq (t .denominator) 0 (t ≡ noSettings) (λ e i. record {
       ceiling = zero64 (t .ceiling) (told .struct-told .given .0 .1) (at-ceiling .if1 .left) i;
       sweeps = at-sweeps .if2 .left i;
-      step = e i;
-    }) (λ e. ap (λ (x : Settings). x .step) e)
+      step = at-step .if3 .left i;
+      denominator = e i;
+    }) (λ e. ap (λ (x : Settings). x .denominator) e)
 
 pub blank-spec : {M : Type 1} → statement M
-blank-spec = tie.close (tie.spec returns returns-2 returns-3)
+blank-spec = tie.close (tie.spec returns returns-2 returns-3 returns-4)

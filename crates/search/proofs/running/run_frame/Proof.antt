@@ -17,17 +17,19 @@ use Rattle.graph.specs.Network.{network}
 use Rattle.graph.specs.Valid.{Valid, graphOf}
 use Rattle.graph.specs.Parts.{own-parts}
 use Rattle.tree_theory.specs.Inputs.{multipliersFit}
+use Rattle.tree_theory.specs.Scaled.{scaledBy}
 use Rattle.machine.specs.Machine.{Opening, Progress, passes, ran}
 use Rattle.node.specs.Marks.{marksIn, bytesOf}
 use Rattle.node.specs.Opened as Node
 use Rattle.node.specs.Opened.{Opened, opened, openedAs}
 use Rattle.node.specs.Faults.{Fit}
+use Rattle.node.specs.OnePass.{topOf}
 use Rattle.node.specs.Passes.{withBytes}
 use Rattle.node.specs.Opens.{opens-node}
 use Rattle.search.specs.Runs.Frames.{Top, Opens, holds-mag, holds-deep, holds-valid, top-of, top-high, split-room, next-carried}
 use Rattle.search.specs.Record.{multiplierAt}
 use Rattle.search.specs.Cells.{carried-places, cells-size}
-use Rattle.search.specs.Runs.Running.{runs-ceiling, runs-sweeps, runs-step, row-bytes, top-fits, top-is, runs-next}
+use Rattle.search.specs.Runs.Running.{runs-ceiling, runs-sweeps, runs-step, runs-denominator, row-bytes, top-fits, top-is, runs-next}
 use Rattle.search.specs.Runs.Running.{Runs, RunsTo, run-stops, run-spent, run-turn}
 use Rattle.search.proofs.running.run_frame.Statement.{statement}
 use Rattle.search.proofs.running.run_frame.Tie as tie
@@ -154,7 +156,7 @@ given-with at d =
     record {
       graph = graphOf n (at .before .wide2 .result) (g .a) (g .b) (g .cost) (g .mark);
       multipliers = fit n (pos 0) d;
-      settings = record { ceiling = toZ w64 (ofZ w64 (at .loop .t .upper)); sweeps = a .settings .sweeps; step = a .settings .step };
+      settings = record { ceiling = toZ w64 (ofZ w64 (at .loop .t .upper)); sweeps = a .settings .sweeps; step = a .settings .step; denominator = a .settings .denominator };
     }
 
 -- and it has no fault
@@ -169,6 +171,7 @@ fits at q r d good =
       ceiling = rw (back64 (at .loop .t .upper) (holds-mag _ _ _ _ _ (r .holds))) (runs-ceiling _ _ _ _ _ _ _ r);
       sweeps = runs-sweeps _ _ _ _ _ _ _ r;
       step = runs-step _ _ _ _ _ _ _ r;
+      denominator = runs-denominator _ _ _ _ _ _ _ r;
     }
 
 -- so the node with the bytes x comes to what its passes come to
@@ -177,13 +180,13 @@ comes : (at : tie.At-loop Inv-loop μ-loop) (q : Progress) → RunsAt at q → (
     → (o : Opened)
     → let w = given-with at d in
     o ≡ Node.opens (record { graph = withBytes (w .graph) x; multipliers = w .multipliers; settings = w .settings }) top last
-    → o ≡ openedAs (passes (network (given at)) (w .settings .step) (w .settings .ceiling) (w .settings .sweeps)
+    → o ≡ openedAs (passes (scaledBy (w .settings .denominator) (network (given at))) (w .settings .step) (topOf w) (w .settings .sweeps)
     (fit (given at .n) (pos 0) d) (marksIn (given at .m) x))
 comes at q r x top d last canonical good o e =
     let w = given-with at d in
     e
     ∙ opens-node w (fits at q r d good) x (subst (λ (m : ℕ). x ≡ bytesOf (marksIn m x)) (sym (edges at)) canonical) top last
-    ∙ ap openedAs (λ i. passes (network (parts at i)) (w .settings .step) (w .settings .ceiling) (w .settings .sweeps)
+    ∙ ap openedAs (λ i. passes (scaledBy (w .settings .denominator) (network (parts at i))) (w .settings .step) (topOf w) (w .settings .sweeps)
     (fit (vertices at i) (pos 0) d) (marksIn (edges at i) x))
 
 -- the node that is read is the machine's top node, and its opening the machine's

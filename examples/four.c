@@ -5,15 +5,15 @@
 int main(void) {
     static planner_search s;
     planner_graph g = {{4, 3, 5, 2, 6, 1}, {1, 1, 1, 2, 2, 3}, {2, 3, 4, 3, 4, 4}, {0}, 4, 6};
-    planner_settings settings = {12, 0, 0}; /* ceiling, sweeps, step */
+    planner_settings settings = {12, 0, 0, 1}; /* ceiling, sweeps, step, denominator */
     int32_t multipliers[4] = {0};
     uint8_t out[6];
 
-    planner_said said = planner_tree(g, multipliers, 4, out, 6);
+    planner_said said = planner_tree(g, multipliers, 4, settings.denominator, out, 6);
     if (said.number != 0) return 1;
     printf("tree %lld:", (long long)said.value);
     for (int k = 0; k < 6; k++) printf(" %d", out[k]);
-    if (planner_rule(g, multipliers, 4, settings.ceiling, out, 6).number != 0) return 1;
+    if (planner_rule(g, multipliers, 4, settings.ceiling, settings.denominator, out, 6).number != 0) return 1;
     printf("\nrulings at 12:");
     for (int k = 0; k < 6; k++) printf(" %d", out[k]);
 

@@ -13,15 +13,15 @@ static void print(const Bytes &bytes) {
 
 int main() {
     const planner_graph g = {{4, 3, 5, 2, 6, 1}, {1, 1, 1, 2, 2, 3}, {2, 3, 4, 3, 4, 4}, {}, 4, 6};
-    const planner_settings settings = {12, 0, 0}; // ceiling, sweeps, step
+    const planner_settings settings = {12, 0, 0, 1}; // ceiling, sweeps, step, denominator
     const std::array<std::int32_t, 4> multipliers = {};
     Bytes out = {};
 
-    planner_said said = planner_tree(g, multipliers.data(), multipliers.size(), out.data(), out.size());
+    planner_said said = planner_tree(g, multipliers.data(), multipliers.size(), settings.denominator, out.data(), out.size());
     if (said.number != 0) return 1;
     std::cout << "tree " << said.value << ':';
     print(out);
-    said = planner_rule(g, multipliers.data(), multipliers.size(), settings.ceiling, out.data(), out.size());
+    said = planner_rule(g, multipliers.data(), multipliers.size(), settings.ceiling, settings.denominator, out.data(), out.size());
     if (said.number != 0) return 1;
     std::cout << "rulings at " << settings.ceiling << ':';
     print(out);

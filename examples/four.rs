@@ -16,12 +16,12 @@ fn main() -> Result<(), Refusal> {
         (3, 4, 1),
     ];
     let graph = Graph::from_edges(4, &edges.map(|(a, b, cost)| Edge::free(a, b, cost)));
-    let multipliers = [0; 4];
+    let (multipliers, denominator) = ([0; 4], 1);
 
-    if let Tree::Found { bound, edges } = tree(&graph, &multipliers)? {
+    if let Tree::Found { bound, edges } = tree(&graph, &multipliers, denominator)? {
         println!("tree {bound}:{}", line(edges.iter().map(|x| *x as u8)));
     }
-    if let Ruled::Within { rulings, .. } = rule(&graph, &multipliers, 12)? {
+    if let Ruled::Within { rulings, .. } = rule(&graph, &multipliers, 12, denominator)? {
         println!("rulings at 12:{}", line(rulings.iter().map(|x| *x as u8)));
     }
 
@@ -29,6 +29,7 @@ fn main() -> Result<(), Refusal> {
         ceiling: 12,
         sweeps: 0,
         step: 0,
+        denominator,
     };
     let mut search = Search::fresh();
     search.open(&graph, &multipliers, settings)?;

@@ -10,11 +10,11 @@
  * r; 6 record met before; 7 not 1 <= a < b <= n; 8 mark above 2 or a zero byte not zero; 9 cost not -100,000,000 to 100,000,000; 10 pair met
  * before.
  * Other calls: 15 a graph that breaks the rules, those of costs as in 9; 11 a list of wrong length; 12 a multiplier not -1,000,000 to 1,000,000,
- * or the first not 0; 13 ceiling not -5,000,000,000 to 5,000,000,000; 14 sweeps not 0 to 15, or step not 0 to 10,000; 30 a preview of no edge,
- * or of a mark that is not 1 or 2; 31 of an edge that is not free; 36 edges that are not a tour of all vertices in sailing order from vertex 1;
- * 37 a student number not 0 to 65,535, or a spread not 0 to 1,000; 38 a window that is not 1 to 32; 39 a log entry that names no edge or a time
- * that is no cost as in 9, with its place from 1. Of a record: 24 it fails its check; 20 no search is open; 21 one is open; 22 show while going
- * on; 23 show after 'none'.
+ * or the first not 0; 13 ceiling not -5,000,000,000 to 5,000,000,000; 14 sweeps not 0 to 15, or step not 0 to 10,000; 32 the denominator is not
+ * 1 to 1,000; 30 a preview of no edge, or of a mark that is not 1 or 2; 31 of an edge that is not free; 36 edges that are not a tour of all
+ * vertices in sailing order from vertex 1; 37 a student number not 0 to 65,535, or a spread not 0 to 1,000; 38 a window that is not 1 to 32; 39 a
+ * log entry that names no edge or a time that is no cost as in 9, with its place from 1. Of a record: 24 it fails its check; 20 no search is open;
+ * 21 one is open; 22 show while going on; 23 show after 'none'.
  */
 #ifndef PLANNER_H
 #define PLANNER_H
@@ -34,6 +34,7 @@ enum {
     PLANNER_PAIRS = 16,      /* at most, in a comparison */
     PLANNER_STUDENT = 65535, /* at most */
     PLANNER_SPREAD = 1000,   /* at most */
+    PLANNER_DENOMINATOR = 1000, /* at most */
     PLANNER_NONE = 1000,     /* tree, preview: no tree; rule: no 1-tree is within the ceiling */
     PLANNER_GOING_ON = 1001, /* run, tell */
     PLANNER_FINISHED = 1002, /* run */
@@ -57,10 +58,12 @@ typedef struct {
     uint8_t n, m;
 } planner_graph;
 
-/* What an opening takes beside the graph and the multipliers. */
+/* What an opening takes beside the graph and the multipliers. Multipliers, step and bounds count in parts of a cost's unit, as many to the unit as
+ * the denominator says (1 to PLANNER_DENOMINATOR; with 1 they count as costs do). Ceilings and the costs of tours count in the unit itself. */
 typedef struct {
     int64_t ceiling;
     uint32_t sweeps, step;
+    uint64_t denominator;
 } planner_settings;
 
 /* What a simulation answers: 0 with the total and the last state, or a refusal. */
@@ -75,6 +78,7 @@ typedef struct {
 typedef struct {
     int64_t ceiling;
     uint64_t budget;
+    uint64_t denominator;
 } planner_terms;
 
 /* A search record (docs/RECORD.md). Begin with planner_fresh; write nothing in it. */
@@ -100,18 +104,20 @@ planner_said planner_read(planner_graph *g, const uint8_t *bytes, size_t length)
 /* The chart file of a graph into out, of 8 + 12 * m bytes; 0, 15 or 11. */
 planner_said planner_write(planner_graph g, uint8_t *out, size_t length);
 
-/* The least 1-tree: 0 with its bound as value, and in out a byte for each edge, 1 in, 0 out; or PLANNER_NONE, which leaves out as it was; 15,
- * 11 or 12. */
-planner_said planner_tree(planner_graph g, const int32_t *multipliers, size_t multipliers_length, uint8_t *out, size_t length);
-
-/* The least 1-tree of a copy of the graph in which the free edge (1 to m) has the mark 1 or 2, as planner_tree answers; 15, 11, 12, 30 or 31. */
-planner_said planner_preview(planner_graph g, const int32_t *multipliers, size_t multipliers_length, size_t edge, uint32_t mark, uint8_t *out,
-                             size_t length);
-
-/* The rulings: 0 with the bound as value, and in out a byte for each edge, 0 keep, 1 force, 2 bar, 3 already required, 4 already excluded; or
- * PLANNER_NONE, which leaves out as it was; 15, 11, 12 or 13. */
-planner_said planner_rule(planner_graph g, const int32_t *multipliers, size_t multipliers_length, int64_t ceiling, uint8_t *out,
+/* The least 1-tree: 0 with its bound as value, in parts as the denominator says, and in out a byte for each edge, 1 in, 0 out; or PLANNER_NONE,
+ * which leaves out as it was; 15, 11, 12 or 32. */
+planner_said planner_tree(planner_graph g, const int32_t *multipliers, size_t multipliers_length, uint64_t denominator, uint8_t *out,
                           size_t length);
+
+/* The least 1-tree of a copy of the graph in which the free edge (1 to m) has the mark 1 or 2, as planner_tree answers; 15, 11, 12, 32, 30 or
+ * 31. */
+planner_said planner_preview(planner_graph g, const int32_t *multipliers, size_t multipliers_length, uint64_t denominator, size_t edge,
+                             uint32_t mark, uint8_t *out, size_t length);
+
+/* The rulings: 0 with the bound as value, in parts as the denominator says, and in out a byte for each edge, 0 keep, 1 force, 2 bar, 3 already
+ * required, 4 already excluded; or PLANNER_NONE, which leaves out as it was; 15, 11, 12, 13 or 32. */
+planner_said planner_rule(planner_graph g, const int32_t *multipliers, size_t multipliers_length, int64_t ceiling, uint64_t denominator,
+                          uint8_t *out, size_t length);
 
 /* Each edge's cost becomes the greatest of its last w times (1 to PLANNER_WINDOW) in a log, entry i of which is edges[i] (1 to m) with times[i]; an
  * edge with fewer times uses those it has, one with none keeps its cost. Nothing else in *g changes; 0, or 15, 11, 38, or 39 with the place of the
@@ -124,7 +130,7 @@ planner_sailed planner_simulate(planner_graph g, const size_t *edges, size_t edg
                                 size_t length);
 
 /* A search without a record for each pair of sweeps and step, of 1 to 16 pairs, each with the whole budget: into report, of one number a pair, the
- * count with which it finishes, or 0 if it is still going on; 0, 15, 11, 12, 13 or 14. */
+ * count with which it finishes, or 0 if it is still going on; 0, 15, 11, 12, 13, 14 or 32. */
 planner_said planner_compare(planner_graph g, const int32_t *multipliers, size_t multipliers_length, planner_terms terms,
                              const uint32_t *sweeps, size_t sweeps_length, const uint32_t *steps, size_t steps_length, uint64_t *report,
                              size_t length);
@@ -132,7 +138,7 @@ planner_said planner_compare(planner_graph g, const int32_t *multipliers, size_t
 /* A fresh record. */
 planner_search planner_fresh(void);
 
-/* Opens a search; 0, 24, 21, 15, 11, 12, 13 or 14. */
+/* Opens a search; 0, 24, 21, 15, 11, 12, 13, 14 or 32. */
 planner_said planner_open(planner_search *s, planner_graph g, const int32_t *multipliers, size_t multipliers_length,
                           planner_settings settings);
 
@@ -162,20 +168,21 @@ planner_said planner_close(planner_search *s);
 PLANNER_ASSERT(sizeof(planner_graph) == 1332);
 PLANNER_ASSERT(offsetof(planner_graph, cost) == 0 && offsetof(planner_graph, a) == 760 && offsetof(planner_graph, b) == 950);
 PLANNER_ASSERT(offsetof(planner_graph, mark) == 1140 && offsetof(planner_graph, n) == 1330 && offsetof(planner_graph, m) == 1331);
-PLANNER_ASSERT(sizeof(planner_settings) == 16);
+PLANNER_ASSERT(sizeof(planner_settings) == 24);
 PLANNER_ASSERT(offsetof(planner_settings, ceiling) == 0 && offsetof(planner_settings, sweeps) == 8);
-PLANNER_ASSERT(offsetof(planner_settings, step) == 12);
-PLANNER_ASSERT(sizeof(planner_search) == 7584);
-PLANNER_ASSERT(offsetof(planner_search, settings) == 0 && offsetof(planner_search, upper) == 16 && offsetof(planner_search, count) == 24);
-PLANNER_ASSERT(offsetof(planner_search, depth) == 32 && offsetof(planner_search, graph) == 40);
-PLANNER_ASSERT(offsetof(planner_search, multipliers) == 1372 && offsetof(planner_search, carried) == 1452);
-PLANNER_ASSERT(offsetof(planner_search, stack) == 3212 && offsetof(planner_search, best) == 7392);
-PLANNER_ASSERT(offsetof(planner_search, open) == 7582 && offsetof(planner_search, has_best) == 7583);
+PLANNER_ASSERT(offsetof(planner_settings, step) == 12 && offsetof(planner_settings, denominator) == 16);
+PLANNER_ASSERT(sizeof(planner_search) == 7592);
+PLANNER_ASSERT(offsetof(planner_search, settings) == 0 && offsetof(planner_search, upper) == 24 && offsetof(planner_search, count) == 32);
+PLANNER_ASSERT(offsetof(planner_search, depth) == 40 && offsetof(planner_search, graph) == 48);
+PLANNER_ASSERT(offsetof(planner_search, multipliers) == 1380 && offsetof(planner_search, carried) == 1460);
+PLANNER_ASSERT(offsetof(planner_search, stack) == 3220 && offsetof(planner_search, best) == 7400);
+PLANNER_ASSERT(offsetof(planner_search, open) == 7590 && offsetof(planner_search, has_best) == 7591);
 PLANNER_ASSERT(sizeof(planner_said) == 32 && offsetof(planner_said, number) == 0 && offsetof(planner_said, place) == 8);
 PLANNER_ASSERT(offsetof(planner_said, value) == 16 && offsetof(planner_said, nodes) == 24);
 PLANNER_ASSERT(sizeof(planner_sailed) == 32 && offsetof(planner_sailed, number) == 0 && offsetof(planner_sailed, place) == 8);
 PLANNER_ASSERT(offsetof(planner_sailed, total) == 16 && offsetof(planner_sailed, state) == 24);
-PLANNER_ASSERT(sizeof(planner_terms) == 16 && offsetof(planner_terms, ceiling) == 0 && offsetof(planner_terms, budget) == 8);
+PLANNER_ASSERT(sizeof(planner_terms) == 24 && offsetof(planner_terms, ceiling) == 0 && offsetof(planner_terms, budget) == 8);
+PLANNER_ASSERT(offsetof(planner_terms, denominator) == 16);
 #undef PLANNER_ASSERT
 #endif
 

@@ -32,6 +32,7 @@ impl Planner for Ours {
             ceiling: job.ceiling,
             sweeps: job.sweeps,
             step: job.step,
+            denominator: 1,
         };
         let record = &mut *self.0;
         let said = unsafe { raw::planner_open(record, job.graph.0, d.as_ptr(), d.len(), settings) };
@@ -67,11 +68,11 @@ impl Planner for Ours {
 
     fn tree(&mut self, graph: &Graph, d: &[i32], out: &mut [u8]) -> Option<i64> {
         let (list, length) = (out.as_mut_ptr(), out.len());
-        bound(unsafe { raw::planner_tree(graph.0, d.as_ptr(), d.len(), list, length) })
+        bound(unsafe { raw::planner_tree(graph.0, d.as_ptr(), d.len(), 1, list, length) })
     }
 
     fn rule(&mut self, graph: &Graph, d: &[i32], ceiling: i64, out: &mut [u8]) -> Option<i64> {
         let (list, length) = (out.as_mut_ptr(), out.len());
-        bound(unsafe { raw::planner_rule(graph.0, d.as_ptr(), d.len(), ceiling, list, length) })
+        bound(unsafe { raw::planner_rule(graph.0, d.as_ptr(), d.len(), ceiling, 1, list, length) })
     }
 }

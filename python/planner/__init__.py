@@ -36,19 +36,22 @@ def solve(chart: Chart, ceiling: int | None = None, nodes: int = LONG, progress:
     return _search.solve(graph_of(chart), ceiling, nodes, progress)
 
 
-def tree(chart: Chart, multipliers: Sequence[int] | None = None) -> Tree | None:
-    """The least 1-tree, or None for 'no tree'."""
-    return _library.tree(graph_of(chart), multipliers)
+def tree(chart: Chart, multipliers: Sequence[int] | None = None, denominator: int = 1) -> Tree | None:
+    """The least 1-tree, or None for 'no tree'.
+
+    Multipliers and the bound count in parts of a minute, so many to the minute as the denominator says (1 to 1,000), here and below.
+    """
+    return _library.tree(graph_of(chart), multipliers, denominator=denominator)
 
 
-def preview(chart: Chart, edge: int, mark: int, multipliers: Sequence[int] | None = None) -> Tree | None:
+def preview(chart: Chart, edge: int, mark: int, multipliers: Sequence[int] | None = None, denominator: int = 1) -> Tree | None:
     """The least 1-tree if this free edge were required (mark 1) or struck (mark 2), or None for 'no tree'. The chart is untouched."""
-    return _library.preview(graph_of(chart), edge, mark, multipliers)
+    return _library.preview(graph_of(chart), edge, mark, multipliers, denominator=denominator)
 
 
-def rule(chart: Chart, ceiling: int, multipliers: Sequence[int] | None = None) -> Rulings | None:
-    """The rulings under a ceiling, or None for 'dead'."""
-    return _library.rule(graph_of(chart), ceiling, multipliers)
+def rule(chart: Chart, ceiling: int, multipliers: Sequence[int] | None = None, denominator: int = 1) -> Rulings | None:
+    """The rulings under a ceiling, in minutes, or None for 'dead'."""
+    return _library.rule(graph_of(chart), ceiling, multipliers, denominator=denominator)
 
 
 def recent_costs(chart: Chart, last: int, log: Iterable[tuple[int, int]]) -> Graph:
@@ -60,9 +63,9 @@ def recent_costs(chart: Chart, last: int, log: Iterable[tuple[int, int]]) -> Gra
     return _library.recent_costs(graph_of(chart), last, [edge for edge, _ in entries], [time for _, time in entries])
 
 
-def falling(chart: Chart, high: int, low: int, multipliers: Sequence[int] | None = None) -> Falling | None:
+def falling(chart: Chart, high: int, low: int, multipliers: Sequence[int] | None = None, denominator: int = 1) -> Falling | None:
     """Which rulings appear where the ceiling falls from `high` to `low`; None where the sea is dead at `high`."""
-    return _ceilings.falling(graph_of(chart), high, low, multipliers)
+    return _ceilings.falling(graph_of(chart), high, low, multipliers, denominator)
 
 
 def simulate(chart: Chart, edges: Sequence[int], student: int, spread: int) -> Sailing:
@@ -71,10 +74,10 @@ def simulate(chart: Chart, edges: Sequence[int], student: int, spread: int) -> S
 
 
 def compare(
-    chart: Chart, ceiling: int, budget: int, pairs: Sequence[tuple[int, int]], multipliers: Sequence[int] | None = None
+    chart: Chart, ceiling: int, budget: int, pairs: Sequence[tuple[int, int]], multipliers: Sequence[int] | None = None, denominator: int = 1
 ) -> tuple[int, ...]:
     """For each pair of sweeps and step the count of nodes with which a search finishes, or 0 if it is still going on after the budget."""
-    return _library.compare(graph_of(chart), ceiling, budget, pairs, multipliers)
+    return _library.compare(graph_of(chart), ceiling, budget, pairs, multipliers, denominator)
 
 
 __all__ = [

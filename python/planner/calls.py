@@ -1,7 +1,7 @@
 """A script of calls, one answer a line: what a line says is sent to the library as it is, and the library judges it.
 
 One search record serves the whole script. Settings print nothing: the current chart ('sea', 'chart'), the dues, the length of the next list
-that is lent ('list'). Calls print one line: tree, preview, rule, recent, simulate, compare, open, run,
+that is lent ('list'), the denominator. Calls print one line: tree, preview, rule, recent, simulate, compare, open, run,
 tell, show, close.
 """
 from __future__ import annotations
@@ -42,7 +42,9 @@ class Script:
     def __init__(self) -> None:
         self.search = Search()
         self.use(Graph(0))
-        self.settings: dict[str, Callable[[list[str]], None]] = {"sea": self.sea, "dues": self.set_dues, "list": self.set_list}
+        self.settings: dict[str, Callable[[list[str]], None]] = {
+            "sea": self.sea, "dues": self.set_dues, "list": self.set_list, "denominator": self.set_denominator,
+        }  # fmt: skip
         self.calls: dict[str, Callable[..., Answer]] = {name: getattr(self, name) for name in FORMS}
 
     # Settings
@@ -51,6 +53,7 @@ class Script:
         """A chart becomes the current one, and every other setting what it is at first."""
         self.graph, self.dues = graph, [0] * graph.n
         self.length: int | None = None
+        self.denominator = 1
 
     def sea(self, words: list[str]) -> None:
         """The chart that a line says."""
@@ -82,6 +85,11 @@ class Script:
         (word,) = taken(words, "list K")
         self.length = whole_number(word, "length", UINT64)
 
+    def set_denominator(self, words: list[str]) -> None:
+        """How many parts of a minute dues, step and bounds count in."""
+        (word,) = taken(words, "denominator Q")
+        self.denominator = whole_number(word, "denominator", UINT64)
+
     def next_length(self) -> int:
         """The length of the list for this call; a length said serves one call."""
         length = self.graph.m if self.length is None else self.length
@@ -92,17 +100,17 @@ class Script:
 
     def tree(self) -> Answer:
         """The least 1-tree."""
-        return said_tree(tree(self.graph, self.dues, self.next_length()))
+        return said_tree(tree(self.graph, self.dues, self.next_length(), self.denominator))
 
     def preview(self, leg: str, mark: str) -> Answer:
         """The least 1-tree if a leg had a mark."""
         number, byte = whole_number(leg, "leg", UINT64), whole_number(mark, "mark", UINT32)
-        return said_tree(preview(self.graph, number, byte, self.dues, self.next_length()))
+        return said_tree(preview(self.graph, number, byte, self.dues, self.next_length(), self.denominator))
 
     def rule(self, ceiling: str) -> Answer:
         """The rulings under a ceiling."""
         number = whole_number(ceiling, "ceiling", INT64)
-        found = rule(self.graph, number, self.dues, self.next_length())
+        found = rule(self.graph, number, self.dues, self.next_length(), self.denominator)
         if found is None:
             return "dead", {"verdict": "dead"}
         return f"bound {found.bound} rulings {listed(found.rulings)}", {"bound": found.bound, "rulings": found.rulings}
@@ -125,13 +133,14 @@ class Script:
     def compare(self, ceiling: str, budget: str, *pairs: str) -> Answer:
         """A hunt for each pair of sweeps and step."""
         read = [pair(word) for word in pairs]
-        counts = compare(self.graph, whole_number(ceiling, "ceiling", INT64), whole_number(budget, "budget", UINT64), read, self.dues)
+        top, allowance = whole_number(ceiling, "ceiling", INT64), whole_number(budget, "budget", UINT64)
+        counts = compare(self.graph, top, allowance, read, self.dues, self.denominator)
         return f"nodes {listed(counts)}", {"nodes": counts}
 
     def open(self, ceiling: str, sweeps: str, step: str) -> Answer:
         """An opening."""
-        number = whole_number(ceiling, "ceiling", INT64)
-        self.search.open(self.graph, number, whole_number(sweeps, "sweeps", UINT32), whole_number(step, "step", UINT32), self.dues)
+        number, passes, gain = whole_number(ceiling, "ceiling", INT64), whole_number(sweeps, "sweeps", UINT32), whole_number(step, "step", UINT32)
+        self.search.open(self.graph, number, passes, gain, self.dues, self.denominator)
         return "accepted", {"verdict": "accepted"}
 
     def run(self, budget: str) -> Answer:
@@ -176,7 +185,7 @@ class Script:
             self.settings[name](rest)
             return None
         if name not in self.calls:
-            raise Faults(f"'{shown(name)}' is unknown; allowed are sea, chart, dues, list, {', '.join(FORMS)}")
+            raise Faults(f"'{shown(name)}' is unknown; allowed are sea, chart, dues, list, denominator, {', '.join(FORMS)}")
         try:
             return self.calls[name](*taken(rest, FORMS[name]))
         except Refused as refused:

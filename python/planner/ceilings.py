@@ -41,12 +41,12 @@ def changes(answer: Callable[[int], T], high: int, low: int) -> Iterator[tuple[i
         yield above, here
 
 
-def falling(graph: Graph, high: int, low: int, multipliers: Sequence[int] | None = None) -> Falling | None:
+def falling(graph: Graph, high: int, low: int, multipliers: Sequence[int] | None = None, denominator: int = 1) -> Falling | None:
     """What the rule call says from the ceiling `high` down to `low`; None where the sea is dead at `high`."""
 
     def answer(ceiling: int) -> Rulings | None:
         """The call at one ceiling."""
-        return rule(graph, ceiling, multipliers)
+        return rule(graph, ceiling, multipliers, denominator=denominator)
 
     before = answer(high)
     if before is None:

@@ -11,8 +11,8 @@ from typing import Any, NamedTuple, NoReturn
 
 from . import formats
 from .calls import pair
-from .faults import Faults, shown, whole_number
-from .library import HIGHEST_TOUR, INT32, INT64, UINT32, UINT64, WINDOWS
+from .faults import Faults, shown, span, whole_number
+from .library import DENOMINATORS, HIGHEST_TOUR, INT32, INT64, UINT32, UINT64, WINDOWS
 from .output import OutputLost, complain, say, silence
 from .search import LONG
 from .subcommands import (
@@ -38,15 +38,19 @@ class Parser(argparse.ArgumentParser):
         self.exit(WRONG)
 
 
-def number_of(what: str, allowed: range) -> Callable[[str], int]:
-    """Reads a number of the command line. Whatever fits the library's number type passes: the library refuses."""
+def number_of(what: str, allowed: range, said: range | None = None) -> Callable[[str], int]:
+    """Reads a number of the command line. Whatever fits the library's number type passes: the library refuses.
+
+    Of a word that does not pass, what is said to be allowed is the number type, or what is to be said instead.
+    """
 
     def read(word: str) -> int:
         """The number."""
         try:
             return whole_number(word, what, allowed)
         except Faults as fault:
-            raise argparse.ArgumentTypeError(str(fault)) from None
+            told = fault if said is None else f"{what} '{shown(word)}' is out of range; allowed is {span(said)}"
+            raise argparse.ArgumentTypeError(str(told)) from None
 
     return read
 
@@ -89,7 +93,13 @@ class Command(NamedTuple):
 FILE = {"file": {"metavar": "FILE", "help": "a table, a chart's bytes, CSV or TSPLIB, told by what stands in it; '-' is standard input"}}
 CEILING = {"metavar": "C", "type": number_of("ceiling", INT64)}
 MOST = {"metavar": "N", "type": number_of("nodes", UINT64), "default": LONG, "help": f"open at most so many nodes in one search ({LONG})"}
-DUES = {"--dues": {"metavar": "D,D,..", "type": dues, "help": "a due for each buoy, the first 0; zeros if not said"}}
+DUES = {
+    "--dues": {"metavar": "D,D,..", "type": dues, "help": "a due for each buoy, the first 0; zeros if not said"},
+    "--denominator": {
+        "metavar": "Q", "type": number_of("denominator", UINT64, DENOMINATORS), "default": 1,
+        "help": f"dues, step and bounds count in Q-ths of a minute, Q {DENOMINATORS[0]} to {DENOMINATORS[-1]:,} (1)",
+    },
+}  # fmt: skip
 JSON = {"--json": {"action": "store_true", "help": "print one JSON object a line"}}
 
 PAIRS_SAID = "0/0,1/1,2/1,5/2,15/1,15/10"

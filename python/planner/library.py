@@ -24,6 +24,7 @@ COSTS = range(-100_000_000, 100_000_001)
 MULTIPLIERS = range(-1_000_000, 1_000_001)
 CEILINGS = range(-5_000_000_000, 5_000_000_001)
 SWEEPS, STEPS = range(16), range(10_001)
+DENOMINATORS = range(1, 1_001)  # dues, step and bounds count in such parts of a minute
 WINDOWS = range(1, 33)  # how many of a leg's last times its recent cost may look at
 HIGHEST_TOUR = MOST_VERTICES * COSTS[-1]
 FREE, REQUIRED, EXCLUDED = range(3)
@@ -60,6 +61,7 @@ MEANINGS = {
     24: "the record fails its check",
     30: "no such leg, or a new mark that is not 1 or 2",
     31: "the leg is not free",
+    32: "the denominator is not 1 to 1,000",
     36: "the legs are not a round of all buoys in sailing order from buoy 1",
     37: "the student number or the spread is out of range",
     38: "the number of last times not 1 to 32",
@@ -95,7 +97,7 @@ class CGraph(ctypes.Structure):
 
 
 class CSettings(ctypes.Structure):
-    _fields_ = [("ceiling", c_int64), ("sweeps", c_uint32), ("step", c_uint32)]
+    _fields_ = [("ceiling", c_int64), ("sweeps", c_uint32), ("step", c_uint32), ("denominator", c_uint64)]
 
 
 class CSailed(ctypes.Structure):
@@ -103,7 +105,7 @@ class CSailed(ctypes.Structure):
 
 
 class CTerms(ctypes.Structure):
-    _fields_ = [("ceiling", c_int64), ("budget", c_uint64)]
+    _fields_ = [("ceiling", c_int64), ("budget", c_uint64), ("denominator", c_uint64)]
 
 
 class CSearch(ctypes.Structure):
@@ -124,7 +126,7 @@ class CSearch(ctypes.Structure):
 
 Said = TypeVar("Said", CSaid, CSailed)
 
-for struct, size in ((CSaid, 32), (CGraph, 1_332), (CSettings, 16), (CSailed, 32), (CTerms, 16), (CSearch, 7_584)):
+for struct, size in ((CSaid, 32), (CGraph, 1_332), (CSettings, 24), (CSailed, 32), (CTerms, 24), (CSearch, 7_592)):
     assert ctypes.sizeof(struct) == size, f"{struct.__name__} is not as the library has it"
 
 _BYTES, _RECORD = POINTER(c_uint8), POINTER(CSearch)
@@ -134,9 +136,9 @@ _CALLS = {
     "planner_check": (CSaid, (CGraph,)),
     "planner_read": (CSaid, (POINTER(CGraph), _BYTES, c_size_t)),
     "planner_write": (CSaid, (CGraph, _BYTES, c_size_t)),
-    "planner_tree": (CSaid, (CGraph, *_DUES, _BYTES, c_size_t)),
-    "planner_preview": (CSaid, (CGraph, *_DUES, c_size_t, c_uint32, _BYTES, c_size_t)),
-    "planner_rule": (CSaid, (CGraph, *_DUES, c_int64, _BYTES, c_size_t)),
+    "planner_tree": (CSaid, (CGraph, *_DUES, c_uint64, _BYTES, c_size_t)),
+    "planner_preview": (CSaid, (CGraph, *_DUES, c_uint64, c_size_t, c_uint32, _BYTES, c_size_t)),
+    "planner_rule": (CSaid, (CGraph, *_DUES, c_int64, c_uint64, _BYTES, c_size_t)),
     "planner_recent": (CSaid, (POINTER(CGraph), c_size_t, POINTER(c_size_t), c_size_t, POINTER(c_int32), c_size_t)),
     "planner_simulate": (CSailed, (CGraph, POINTER(c_size_t), c_size_t, c_uint64, c_uint64, POINTER(c_int64), c_size_t)),
     "planner_compare": (CSaid, (CGraph, *_DUES, CTerms, *_PAIR, *_PAIR, POINTER(c_uint64), c_size_t)),
@@ -288,14 +290,14 @@ def write(graph: Graph) -> bytes:
 
 
 class Tree(NamedTuple):
-    """The least 1-tree: its bound and the numbers of its edges, ascending."""
+    """The least 1-tree: its bound, in parts of a minute as the denominator says, and the numbers of its edges, ascending."""
 
     bound: int
     edges: tuple[int, ...]
 
 
 class Rulings(NamedTuple):
-    """The bound and a ruling for each edge: 0 keep, 1 force, 2 bar, 3 already required, 4 already struck (RULINGS has the words)."""
+    """The bound, in such parts too, and a ruling for each edge: 0 keep, 1 force, 2 bar, 3 already required, 4 already struck (RULINGS has the words)."""
 
     bound: int
     rulings: tuple[int, ...]
@@ -306,29 +308,37 @@ def _chosen(out: ctypes.Array[c_uint8], m: int) -> tuple[int, ...]:
     return tuple(number for number, byte in enumerate(out[:m], 1) if byte)
 
 
-def tree(graph: Graph, multipliers: Sequence[int] | None = None, length: int | None = None) -> Tree | None:
-    """The least 1-tree, or None for 'no tree'. The length is that of the list lent; the right one is m."""
+def tree(graph: Graph, multipliers: Sequence[int] | None = None, length: int | None = None, denominator: int = 1) -> Tree | None:
+    """The least 1-tree, or None for 'no tree'. The length is that of the list lent; the right one is m.
+
+    Multipliers and the bound count in parts of a minute, so many to the minute as the denominator says.
+    """
     out, told = _list(graph.m, length)
     lent, count = _multipliers(graph, multipliers)
-    said = _accepted(library().planner_tree(graph.c, lent, count, out, told))
+    q = _fits(denominator, UINT64, "denominator")
+    said = _accepted(library().planner_tree(graph.c, lent, count, q, out, told))
     return None if said.number == NONE else Tree(said.value, _chosen(out, graph.m))
 
 
-def preview(graph: Graph, edge: int, mark: int, multipliers: Sequence[int] | None = None, length: int | None = None) -> Tree | None:
+def preview(
+    graph: Graph, edge: int, mark: int, multipliers: Sequence[int] | None = None, length: int | None = None, denominator: int = 1
+) -> Tree | None:
     """The least 1-tree of a copy in which this free edge has this mark (1 required, 2 struck), or None for 'no tree'."""
     out, told = _list(graph.m, length)
     lent, count = _multipliers(graph, multipliers)
-    edge, mark = _fits(edge, UINT64, "leg"), _fits(mark, UINT32, "mark")
-    said = _accepted(library().planner_preview(graph.c, lent, count, edge, mark, out, told))
+    edge, mark, q = _fits(edge, UINT64, "leg"), _fits(mark, UINT32, "mark"), _fits(denominator, UINT64, "denominator")
+    said = _accepted(library().planner_preview(graph.c, lent, count, q, edge, mark, out, told))
     return None if said.number == NONE else Tree(said.value, _chosen(out, graph.m))
 
 
-def rule(graph: Graph, ceiling: int, multipliers: Sequence[int] | None = None, length: int | None = None) -> Rulings | None:
-    """The rulings under a ceiling, or None for 'dead'. The length is that of the list lent; the right one is m."""
+def rule(
+    graph: Graph, ceiling: int, multipliers: Sequence[int] | None = None, length: int | None = None, denominator: int = 1
+) -> Rulings | None:
+    """The rulings under a ceiling, in minutes, or None for 'dead'. The length is that of the list lent; the right one is m."""
     out, told = _list(graph.m, length)
     lent, count = _multipliers(graph, multipliers)
-    ceiling = _fits(ceiling, INT64, "ceiling")
-    said = _accepted(library().planner_rule(graph.c, lent, count, ceiling, out, told))
+    ceiling, q = _fits(ceiling, INT64, "ceiling"), _fits(denominator, UINT64, "denominator")
+    said = _accepted(library().planner_rule(graph.c, lent, count, ceiling, q, out, told))
     return None if said.number == NONE else Rulings(said.value, tuple(out[: graph.m]))
 
 
@@ -370,7 +380,7 @@ def simulate(graph: Graph, edges: Sequence[int], student: int, spread: int) -> S
 
 
 def compare(
-    graph: Graph, ceiling: int, budget: int, pairs: Sequence[tuple[int, int]], multipliers: Sequence[int] | None = None
+    graph: Graph, ceiling: int, budget: int, pairs: Sequence[tuple[int, int]], multipliers: Sequence[int] | None = None, denominator: int = 1
 ) -> tuple[int, ...]:
     """For each pair of sweeps and step the count with which a search finishes, or 0 if it is still going on after the whole budget."""
     lent, count = _multipliers(graph, multipliers)
@@ -378,7 +388,7 @@ def compare(
     sweeps = (c_uint32 * room)(*(_fits(pair[0], UINT32, "sweeps") for pair in pairs))
     steps = (c_uint32 * room)(*(_fits(pair[1], UINT32, "step") for pair in pairs))
     report = (c_uint64 * room)()
-    terms = CTerms(_fits(ceiling, INT64, "ceiling"), _fits(budget, UINT64, "budget"))
+    terms = CTerms(_fits(ceiling, INT64, "ceiling"), _fits(budget, UINT64, "budget"), _fits(denominator, UINT64, "denominator"))
     _accepted(library().planner_compare(graph.c, lent, count, terms, sweeps, size, steps, size, report, size))
     return tuple(report[:size])
 
@@ -412,11 +422,13 @@ class Search:
         self.more = more
 
     def open(
-        self, graph: Graph, ceiling: int, sweeps: int = 0, step: int = 0, multipliers: Sequence[int] | None = None
+        self, graph: Graph, ceiling: int, sweeps: int = 0, step: int = 0, multipliers: Sequence[int] | None = None, denominator: int = 1
     ) -> None:
-        """Opens a search."""
+        """Opens a search. Multipliers and step count in parts of a minute, as the denominator says; the ceiling in minutes."""
         lent, count = _multipliers(graph, multipliers)
-        settings = CSettings(_fits(ceiling, INT64, "ceiling"), _fits(sweeps, UINT32, "sweeps"), _fits(step, UINT32, "step"))
+        settings = CSettings(
+            _fits(ceiling, INT64, "ceiling"), _fits(sweeps, UINT32, "sweeps"), _fits(step, UINT32, "step"), _fits(denominator, UINT64, "denominator")
+        )
         _accepted(library().planner_open(self.record, graph.c, lent, count, settings))
 
     def run(self, budget: int, progress: Callable[[Search], None] | None = None) -> Ran:

@@ -6,6 +6,7 @@ import hashlib
 import json
 from base64 import b64encode
 from collections.abc import Iterable, Sequence
+from fractions import Fraction
 from html import escape
 
 from .drawing import STYLES
@@ -90,12 +91,16 @@ class Page:
 
     # What is said
 
+    def minutes(self, bound: int) -> str:
+        """A bound in minutes, as ceilings and costs are: a whole number or a fraction."""
+        return str(Fraction(bound, self.showing.denominator))
+
     def says(self, stop: Stop) -> str:
         """A ceiling in words."""
         if stop.found is None:
             if self.showing.bound is None:
                 return "Dead: there is no 1-tree, so there is no round."
-            return f"Dead: the bound {self.showing.bound} is above the ceiling, so no round costs so little."
+            return f"Dead: the bound {self.minutes(self.showing.bound)} is above the ceiling, so no round costs so little."
         forced, barred, kept = self.counted(stop, (FORCE, BAR, 0))
         return f"{forced} forced, {barred} barred, {kept} kept."
 
@@ -128,7 +133,7 @@ class Page:
         """Both previews of an edge in words."""
         if number not in self.showing.previews:
             return NOTHING, NOTHING
-        required, struck = ("no tree" if bound is None else str(bound) for bound in self.showing.previews[number])
+        required, struck = ("no tree" if bound is None else self.minutes(bound) for bound in self.showing.previews[number])
         return required, struck
 
     def round_words(self) -> str:
@@ -230,7 +235,7 @@ class Page:
     def aside(self) -> str:
         """Beside the picture: the ceiling in words, the leg that is pointed at, the table."""
         first = self.stops[0]
-        bound = NOTHING if self.showing.bound is None else self.showing.bound
+        bound = NOTHING if self.showing.bound is None else self.minutes(self.showing.bound)
         big = f'<span>Ceiling <b id="ceiling">{first.ceiling}</b></span><span class="second">Bound <b id="bound">{bound}</b></span>'
         says = element("p", escape(self.says(first)), id="says", class_=None if first.found else "dead-word")
         words = element("p", big, class_="big") + says + element("p", escape(self.news(first)), id="news")

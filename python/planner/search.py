@@ -19,13 +19,18 @@ LONG = 1_000_000  # nodes that a search opens at most
 SHORT = 10_000  # nodes that it opens where another ceiling may be quicker
 TREES = 1_000  # of the ascent
 
-# Steps are shares of the costs' spread. Tried on complete graphs of 20 vertices, costs up to 1,000 and up to 1,000,000, at the cost of a tour
-# found by 2-opt: random costs, distances in a square, distances with clusters. Zero multipliers and a step of spread / 10 (about a
-# twentieth of the mean) took up to 1,700 nodes, and more than 20,000 with clusters, because 15 sweeps are too few to bring the multipliers
-# near their best values. After an ascent 420 such graphs took at most 141 nodes, most of them 1; first steps of spread / 4 to spread / 8 did
-# alike, and sweeps of spread / 15 to spread / 30 did better than spread / 60. Slow are complete graphs with few different costs, since
-# multipliers are whole numbers: random costs from 1 to 5 took up to 400,000 nodes. A first step of 64 or more helps where all costs are equal.
-FIRST_SHARE, LEAST_FIRST, SWEEP_SHARE = 4, 64, 20
+# Steps are shares of the costs' spread. An ascent comes first: 15 sweeps are too few to bring multipliers near their best values, and with zero
+# multipliers complete graphs of 20 vertices, distances with clusters among them, took more than 20,000 nodes. First steps of spread / 4 to spread / 8 did
+# alike; one of 64 or more helps where all costs are equal. A node goes on from the multipliers of the one above it, so that a step that is too large moves
+# them off on the way down: with sweeps of spread / 20 costs of 1 and 9 by the vertices' remainders by 2 and by 3 were going on after 20,000 nodes, with
+# spread / 100 they took 237 and 475; with spread / 1,000 five graphs of costs from 1 to 100 took 4,229 instead of 103.
+FIRST_SHARE, LEAST_FIRST, SWEEP_SHARE = 4, 64, 100
+
+# Where costs lie near together, on average within 100 of their mean, whole minutes are too coarse for such steps, and multipliers count in hundredths.
+# Chosen among denominators 1 to 1,000, 0 to 15 sweeps and those three shares, on such graphs. Then, on others: complete graphs of 20 vertices, 25 each of
+# random costs up to 1, 2, 3, 5, 10, 30, 100, 300 and 1,000 and of distances up to 5, 10, 30, 100, 300 and 1,000, took at most 213 nodes, equal costs 271; of 25 with
+# costs up to 100,000,000, levelled, one took 12,826. In whole minutes costs from 1 to 3 were going on after 200,000 in 7 of 8.
+FINE, NEAR = 100, 100
 
 # Multipliers end at 1,000,000. With them alone six complete graphs of 20 vertices, costs from 1 to 100,000,000, were undecided after 200,000 nodes;
 # levelled they took 1 node each. Random costs over the whole range, six graphs each of 16 and of 20 vertices, then took at most 10,000.
@@ -53,9 +58,9 @@ def within(value: int, allowed: range) -> int:
     return max(allowed[0], min(allowed[-1], value))
 
 
-def spread(graph: Graph) -> int:
-    """How far costs lie from their mean, on average. Where all costs rise alike it stays as it is, and so does the search."""
-    costs = [edge.cost for edge in graph.edges if edge.mark != EXCLUDED]
+def spread(graph: Graph, denominator: int = 1) -> int:
+    """How far costs, in such parts of a minute, lie from their mean, on average. Where all rise alike it stays as it is, and so does the search."""
+    costs = [denominator * edge.cost for edge in graph.edges if edge.mark != EXCLUDED]
     if not costs:
         return 0
     mean = sum(costs) // len(costs)
@@ -66,19 +71,20 @@ class Ascent:
     """Held and Karp's ascent: of the multipliers on its way, those with the highest bound.
 
     A vertex that the tree touches more than twice becomes dearer, one that it touches once cheaper. The step is halved after n trees that
-    are no better. The way does not depend on a ceiling, so that a higher one goes on where a lower one stopped.
+    are no better. The way does not depend on a ceiling, so that a higher one goes on where a lower one stopped. Multipliers, step and bounds
+    count in parts of a minute, as the denominator says; ceilings in minutes.
     """
 
-    def __init__(self, graph: Graph, step: int):
-        self.graph, self.step = graph, step
+    def __init__(self, graph: Graph, step: int, denominator: int = 1):
+        self.graph, self.step, self.denominator = graph, step, denominator
         self.present, self.best = [0] * graph.n, [0] * graph.n
         self.highest: int | None = None
         self.trees = self.worse = 0
 
     def reach(self, ceiling: int) -> list[int]:
         """The best multipliers. At a bound above the ceiling the ascent stops: one node will do."""
-        while self.trees < TREES and self.step > 0 and (self.highest is None or self.highest <= ceiling):
-            found = tree(self.graph, self.present)
+        while self.trees < TREES and self.step > 0 and (self.highest is None or self.highest <= self.denominator * ceiling):
+            found = tree(self.graph, self.present, denominator=self.denominator)
             if found is None:
                 self.step = 0
                 break
@@ -110,8 +116,10 @@ class Ascent:
 
 
 def ascent_of(graph: Graph) -> Ascent:
-    """An ascent with a first step that fits the graph."""
-    return Ascent(graph, within(spread(graph) // FIRST_SHARE, MULTIPLIERS[MULTIPLIERS.index(LEAST_FIRST) :]))
+    """An ascent with a denominator and a first step that fit the graph."""
+    denominator = FINE if spread(graph) < NEAR else 1
+    first = spread(graph, denominator) // FIRST_SHARE
+    return Ascent(graph, within(first, MULTIPLIERS[MULTIPLIERS.index(LEAST_FIRST) :]), denominator)
 
 
 def levelled(graph: Graph) -> tuple[Graph, int]:
@@ -136,7 +144,6 @@ class Solver:
 
     def __init__(self, graph: Graph, progress: Progress | None = None):
         self.graph, self.progress = graph, progress
-        self.step = within(spread(graph) // SWEEP_SHARE, STEPS[1:])
 
     @cached_property
     def asked(self) -> tuple[Ascent, int]:
@@ -149,7 +156,8 @@ class Solver:
         ascent, more = self.asked
         search = Search(more)
         there = within(ceiling + more, CEILINGS)  # beyond them no tour has its cost
-        search.open(ascent.graph, there, SWEEPS[-1], self.step, ascent.reach(there))
+        step = within(spread(self.graph, ascent.denominator) // SWEEP_SHARE, STEPS[1:])
+        search.open(ascent.graph, there, SWEEPS[-1], step, ascent.reach(there), ascent.denominator)
         search.run(limit, self.progress)
         told = search.tell()
         if told.verdict != "cost":

@@ -29,19 +29,20 @@ class Previews(NamedTuple):
 
 @dataclass(frozen=True)
 class Showing:
-    """What there is to show of a graph, for one set of multipliers."""
+    """What there is to show of a graph, for one set of multipliers. Bounds count in parts of a minute, as the denominator says."""
 
     graph: Graph
     multipliers: Sequence[int] | None = None
+    denominator: int = 1
 
     def rule(self, ceiling: int) -> Rulings | None:
         """The rule call."""
-        return rule(self.graph, ceiling, self.multipliers)
+        return rule(self.graph, ceiling, self.multipliers, denominator=self.denominator)
 
     @cached_property
     def bound(self) -> int | None:
         """The bound, or None for 'no tree'."""
-        found = tree(self.graph, self.multipliers)
+        found = tree(self.graph, self.multipliers, denominator=self.denominator)
         return found.bound if found else None
 
     @cached_property
@@ -52,7 +53,7 @@ class Showing:
 
     def both(self, number: int) -> Iterator[int | None]:
         """The bounds with this edge required and with it struck."""
-        found = (preview(self.graph, number, mark, self.multipliers) for mark in (1, 2))
+        found = (preview(self.graph, number, mark, self.multipliers, denominator=self.denominator) for mark in (1, 2))
         return (each.bound if each else None for each in found)
 
     @cached_property

@@ -103,18 +103,28 @@ def say_answer(graph: Graph, answer: Answer) -> None:
     say("\n".join([*lines, f"nodes {answer.nodes}"]))
 
 
+def fraction(arguments: argparse.Namespace) -> dict[str, int]:
+    """What is said beside a bound that does not count in minutes."""
+    return {} if arguments.denominator == 1 else {"denominator": arguments.denominator}
+
+
+def bound_line(bound: int, **beside: object) -> str:
+    """The first line of an answer: the bound, and what is said beside it."""
+    return " ".join([f"bound {bound}", *(f"{name} {value}" for name, value in beside.items())])
+
+
 def run_tree(arguments: argparse.Namespace, name: str, graph: Graph) -> int:
     """planner tree"""
-    return say_tree(graph, tree(graph, arguments.dues), {"file": name}, arguments.json)
+    return say_tree(arguments, graph, tree(graph, arguments.dues, denominator=arguments.denominator), {"file": name})
 
 
-def say_tree(graph: Graph, found: Tree | None, fields: dict[str, object], as_json: bool) -> int:
+def say_tree(arguments: argparse.Namespace, graph: Graph, found: Tree | None, fields: dict[str, object]) -> int:
     """A 1-tree in lines, or as one object that has these fields too."""
-    if as_json:
-        say_json(**fields, **({"bound": found.bound, "legs": found.edges} if found else {"verdict": "no tree"}))
+    if arguments.json:
+        say_json(**fields, **fraction(arguments), **({"bound": found.bound, "legs": found.edges} if found else {"verdict": "no tree"}))
     elif found:
         legs = ((number, graph.edges[number - 1]) for number in found.edges)
-        say("\n".join([f"bound {found.bound}", *(f"{number} {leg.a}-{leg.b} {leg.cost}" for number, leg in legs)]))
+        say("\n".join([bound_line(found.bound, **fraction(arguments)), *(f"{number} {leg.a}-{leg.b} {leg.cost}" for number, leg in legs)]))
     else:
         say("no tree")
     return ANSWERED if found else NEGATIVE
@@ -126,22 +136,24 @@ def run_preview(arguments: argparse.Namespace, name: str, graph: Graph) -> int:
         return preview_all(arguments, name, graph)
     if arguments.mark is None:
         raise Faults("planner preview: allowed is FILE, or FILE LEG MARK; see planner preview --help")
-    found = preview(graph, arguments.leg, arguments.mark, arguments.dues)
-    return say_tree(graph, found, {"file": name, "leg": arguments.leg, "mark": arguments.mark}, arguments.json)
+    found = preview(graph, arguments.leg, arguments.mark, arguments.dues, denominator=arguments.denominator)
+    return say_tree(arguments, graph, found, {"file": name, "leg": arguments.leg, "mark": arguments.mark})
 
 
 def preview_all(arguments: argparse.Namespace, name: str, graph: Graph) -> int:
     """planner preview without a leg: both bounds for every free leg"""
-    now = tree(graph, arguments.dues)
+    dues, q = arguments.dues, arguments.denominator
+    now = tree(graph, dues, denominator=q)
     free = [(number, leg) for number, leg in enumerate(graph.edges, 1) if leg.mark == FREE]
-    bounds = [[found.bound if found else None for found in (preview(graph, number, mark, arguments.dues) for mark in (1, 2))] for number, _ in free]
+    both = ([preview(graph, number, mark, dues, denominator=q) for mark in (1, 2)] for number, _ in free)
+    bounds = [[found.bound if found else None for found in pair] for pair in both]
     if arguments.json:
         rows = [{"leg": number, "required": one, "struck": two} for (number, _), (one, two) in zip(free, bounds)]
-        say_json(file=name, **({"bound": now.bound} if now else {"verdict": "no tree"}), previews=rows)
+        say_json(file=name, **fraction(arguments), **({"bound": now.bound} if now else {"verdict": "no tree"}), previews=rows)
     else:
         words = [["no tree" if bound is None else str(bound) for bound in pair] for pair in bounds]
         lines = [f"{number} {leg.a}-{leg.b} required {one} struck {two}" for (number, leg), (one, two) in zip(free, words)]
-        say("\n".join([f"bound {now.bound}" if now else "no tree", *lines]))
+        say("\n".join([bound_line(now.bound, **fraction(arguments)) if now else "no tree", *lines]))
     return ANSWERED if now else NEGATIVE
 
 
@@ -157,15 +169,16 @@ def rule_falling(arguments: argparse.Namespace, name: str, graph: Graph) -> int:
     high, low = arguments.ceilings
     if high < low:
         raise Faults(f"--ceilings {high} {low}: the higher ceiling comes first")
-    found = falling(graph, high, low, arguments.dues)
+    found = falling(graph, high, low, arguments.dues, arguments.denominator)
     if arguments.json:
         new = [{"ceiling": at, "leg": leg, "ruling": RULINGS[ruling]} for at, leg, ruling in found.appear] if found else []
         answer = {"bound": found.bound, "appear": new, "dead": found.dead} if found else {"verdict": "dead"}
-        say_json(file=name, ceilings=[high, low], **answer)
+        say_json(file=name, ceilings=[high, low], **fraction(arguments), **answer)
     elif found:
         legs = ((at, number, graph.edges[number - 1], RULINGS[ruling]) for at, number, ruling in found.appear)
         lines = [f"{at}: {number} {leg.a}-{leg.b} {word}" for at, number, leg, word in legs]
-        say("\n".join([f"bound {found.bound} ceilings {high} {low}", *lines, *([] if found.dead is None else [f"{found.dead}: dead"])]))
+        first = bound_line(found.bound, ceilings=f"{high} {low}", **fraction(arguments))
+        say("\n".join([first, *lines, *([] if found.dead is None else [f"{found.dead}: dead"])]))
     else:
         say("dead")
     return ANSWERED if found else NEGATIVE
@@ -173,14 +186,15 @@ def rule_falling(arguments: argparse.Namespace, name: str, graph: Graph) -> int:
 
 def rule_at(arguments: argparse.Namespace, name: str, graph: Graph) -> int:
     """planner rule --ceiling"""
-    found = rule(graph, arguments.ceiling, arguments.dues)
+    found = rule(graph, arguments.ceiling, arguments.dues, denominator=arguments.denominator)
     if arguments.json:
         rulings = [RULINGS[ruling] for ruling in found.rulings] if found else []
-        say_json(file=name, ceiling=arguments.ceiling, **({"bound": found.bound, "rulings": rulings} if found else {"verdict": "dead"}))
+        answer = {"bound": found.bound, "rulings": rulings} if found else {"verdict": "dead"}
+        say_json(file=name, ceiling=arguments.ceiling, **fraction(arguments), **answer)
     elif found:
         legs = zip(graph.edges, found.rulings)
         lines = (f"{number} {leg.a}-{leg.b} {RULINGS[ruling]}" for number, (leg, ruling) in enumerate(legs, 1))
-        say("\n".join([f"bound {found.bound} ceiling {arguments.ceiling}", *lines]))
+        say("\n".join([bound_line(found.bound, ceiling=arguments.ceiling, **fraction(arguments)), *lines]))
     else:
         say("dead")
     return ANSWERED if found else NEGATIVE
@@ -200,10 +214,10 @@ def run_simulate(arguments: argparse.Namespace, name: str, graph: Graph) -> int:
 
 def run_compare(arguments: argparse.Namespace, name: str, graph: Graph) -> int:
     """planner compare"""
-    counts = compare(graph, arguments.ceiling, arguments.allowance, arguments.pairs, arguments.dues)
+    counts = compare(graph, arguments.ceiling, arguments.allowance, arguments.pairs, arguments.dues, arguments.denominator)
     rows = [(sweeps, step, count) for (sweeps, step), count in zip(arguments.pairs, counts)]
     if arguments.json:
-        say_json(file=name, pairs=[{"sweeps": sweeps, "step": step, "nodes": count} for sweeps, step, count in rows])
+        say_json(file=name, **fraction(arguments), pairs=[{"sweeps": sweeps, "step": step, "nodes": count} for sweeps, step, count in rows])
     else:
         say("\n".join(["sweeps  step  nodes", *(f"{sweeps:6} {step:5}  {count or 'going on'}" for sweeps, step, count in rows)]))
     return ANSWERED if all(counts) else UNDECIDED
@@ -291,7 +305,7 @@ def run_page(arguments: argparse.Namespace, name: str, graph: Graph) -> int:
     not_named(arguments.out, NO_PAGE, "a page is HTML, named .html")
     if None not in (arguments.high, arguments.low) and arguments.high < arguments.low:
         raise Faults(f"--high {arguments.high} --low {arguments.low}: allowed is a lowest ceiling that is not above the highest")
-    showing = Showing(graph, arguments.dues)
+    showing = Showing(graph, arguments.dues, arguments.denominator)
     high, low = showing.ends(arguments.high, arguments.low)
     stops = showing.stops(high, low)
     answer = None if arguments.no_round else solved(graph, None, arguments.nodes)

@@ -123,6 +123,39 @@ tell > none nodes 11
 close > accepted
 {FOUR}
 
+# Document 02, C-17: dues in halves, thirds and thousandths of a minute; ceilings and costs stay in minutes. 'sea' makes it 1 again.
+dues 0 0 1 -1
+denominator 2
+tree > bound 22 legs 1 2 4 6
+rule 11 > bound 22 rulings 1 1 2 1 2 1
+rule 10 > dead
+preview 1 2 > bound 23 legs 2 3 4 6
+preview 6 2 > bound 31 legs 1 2 4 5
+denominator 3
+tree > bound 32 legs 1 2 4 6
+rule 11 > bound 32 rulings 1 1 2 1 2 1
+rule 10 > dead
+denominator 1000
+tree > bound 10002 legs 1 2 4 6
+rule 11 > bound 10002 rulings 1 1 2 1 2 1
+rule 12 > bound 10002 rulings 0 0 0 1 2 1
+open 12 0 0 > accepted
+run 99 > finished nodes 5
+tell > cost 12 nodes 5
+show > legs 1 3 4 6
+close > accepted
+denominator 1
+tree > bound 12 legs 1 2 4 6
+denominator 7
+{FOUR}
+tree > bound 10 legs 1 2 4 6
+denominator 1000
+dues 0 1000000 -1000000 1000000
+tree > bound -1990000 legs 1 2 4 6
+rule -1990 > bound -1990000 rulings 1 1 2 1 2 1
+rule -1991 > dead
+{FOUR}
+
 # Marks as letters and as bytes.
 sea 4 1-2:4m0 1-3:3s 1-4:5m1 2-3:-2r 2-4:6 3-4:1m2
 tree > bound 13 legs 1 3 4 5
@@ -198,6 +231,46 @@ open 5000000001 16 0 > refused 13 at 0
 open 5000000000 16 0 > refused 14 at 0
 open 5000000000 15 10001 > refused 14 at 0
 open 5000000000 4294967295 4294967295 > refused 14 at 0
+
+# 32 after 14 and, of a preview, before 30; whatever fits 64 bits is sent.
+denominator 0
+tree > refused 32 at 0
+rule 12 > refused 32 at 0
+preview 0 3 > refused 32 at 0
+open 12 0 0 > refused 32 at 0
+compare 12 5 0/0 > refused 32 at 0
+rule 5000000001 > refused 13 at 0
+open 5000000001 16 0 > refused 13 at 0
+open 12 16 0 > refused 14 at 0
+open 12 0 10001 > refused 14 at 0
+compare 12 5 0/0 0/10001 > refused 14 at 0
+compare 5000000001 5 0/0 > refused 13 at 0
+denominator 1001
+tree > refused 32 at 0
+list 5
+tree > refused 11 at 0
+tree > refused 32 at 0
+dues 1 0 0 0
+tree > refused 12 at 0
+preview 0 3 > refused 12 at 0
+open 5000000001 16 0 > refused 12 at 0
+dues 0 0 0
+tree > refused 11 at 0
+dues 0 0 0 0
+denominator 18446744073709551615
+rule 12 > refused 32 at 0
+denominator 4294967297
+open 12 0 0 > refused 32 at 0
+denominator 1000
+tree > bound 10000 legs 1 2 4 6
+dues 0 0 0 1000001
+tree > refused 12 at 0
+sea 4 2-1:5
+denominator 0
+tree > refused 15 at 0
+preview 1 1 > refused 15 at 0
+open 12 0 0 > refused 15 at 0
+{FOUR}
 
 # Of a preview: 15, 11, 12, then 30, then 31.
 preview 0 3 > refused 30 at 0
@@ -330,7 +403,7 @@ class Scripts(unittest.TestCase):
 
     def test_lines_that_cannot_be_read(self):
         """Each says its line on standard error; the script goes on, settings as they were; the status is 2."""
-        names = "allowed are sea, chart, dues, list, tree, preview, rule, recent, simulate, compare, open, run, tell, show, close"
+        names = "allowed are sea, chart, dues, list, denominator, tree, preview, rule, recent, simulate, compare, open, run, tell, show, close"
         wide = "allowed is -9223372036854775808 to 9223372036854775807"
         no_leg = "is no leg; allowed is A-B:COST, with r, s or mK behind it"
         wrong = (
@@ -349,7 +422,11 @@ class Scripts(unittest.TestCase):
             ("recent 1 1:2147483648", "time 2147483648 is out of range; allowed is -2147483648 to 2147483647"),
             ("save 1", f"'save' is unknown; {names}"),
             ("lifting yes", f"'lifting' is unknown; {names}"),
-            ("denominator 2", f"'denominator' is unknown; {names}"),
+            ("denominator", "too few words; allowed is denominator Q"),
+            ("denominator 2 3", "too many words; allowed is denominator Q"),
+            ("denominator 1/2", "denominator '1/2' is not a whole number; allowed is 0 to 18446744073709551615"),
+            ("denominator -1", "denominator -1 is out of range; allowed is 0 to 18446744073709551615"),
+            ("denominator 18446744073709551616", "denominator 18446744073709551616 is out of range; allowed is 0 to 18446744073709551615"),
             ("TREE", f"'TREE' is unknown; {names}"),
             ("ashore 0 0 0 1", f"'ashore' is unknown; {names}"),
             ("simulate 0", "too few words; allowed is simulate STUDENT E LEG .."),
@@ -475,7 +552,7 @@ class Scripts(unittest.TestCase):
         source = random.Random(16)
         for _ in range(12):
             script, answers, search = [], [], planner.Search()
-            graph = planner.Graph(0)
+            graph, self.q = planner.Graph(0), 1
             for _ in range(60):
                 graph, line, call = self.step(source, graph, search)
                 script.append(line)
@@ -489,17 +566,21 @@ class Scripts(unittest.TestCase):
 
     def step(self, source, graph, search):
         """A random line, the chart after it, and what the line should print."""
-        kind = source.choice(("sea", "tree", "preview", "rule", "recent", "open", "run", "run", "tell", "show", "show", "close"))
+        kinds = ("sea", "denominator", "tree", "preview", "rule", "recent", "open", "run", "run", "tell", "show", "show", "close")
+        kind = source.choice(kinds)
         ceiling = source.choice((-20, 40, 90, 5_000_000_001))
         if kind == "sea":
-            graph = random_graph(source, most=6)
+            graph, self.q = random_graph(source, most=6), 1
             legs = (f"{edge.a}-{edge.b}:{edge.cost}{source.choice(('', 'm0')) if edge.mark == 0 else ' rs'[edge.mark]}" for edge in graph.edges)
             return graph, f"sea {graph.n} {' '.join(legs)}", None
+        if kind == "denominator":
+            self.q = source.choice((0, 1, 2, 7, 1_000, 1_001))
+            return graph, f"denominator {self.q}", None
         if kind == "tree":
-            return graph, kind, lambda: bound_and(library.tree(graph), "legs", "no tree")
+            return graph, kind, lambda: bound_and(library.tree(graph, denominator=self.q), "legs", "no tree")
         if kind == "preview":
             edge, mark = source.randint(0, graph.m + 1), source.choice((0, 1, 1, 2, 2, 3))
-            return graph, f"preview {edge} {mark}", lambda: bound_and(library.preview(graph, edge, mark), "legs", "no tree")
+            return graph, f"preview {edge} {mark}", lambda: bound_and(library.preview(graph, edge, mark, denominator=self.q), "legs", "no tree")
         if kind == "recent":
             last, log = source.choice((0, 1, 2, 32, 33)), [(source.randint(1, graph.m + 1), source.randint(-60, 60)) for _ in range(3)]
             words = " ".join(f"{leg}:{time}" for leg, time in log)
@@ -510,10 +591,10 @@ class Scripts(unittest.TestCase):
                 return graph, f"recent {last} {words}", lambda: line
             return made, f"recent {last} {words}", lambda: f"costs {' '.join(str(edge.cost) for edge in made.edges)}"
         if kind == "rule":
-            return graph, f"rule {ceiling}", lambda: bound_and(library.rule(graph, ceiling), "rulings", "dead")
+            return graph, f"rule {ceiling}", lambda: bound_and(library.rule(graph, ceiling, denominator=self.q), "rulings", "dead")
         if kind == "open":
             sweeps, step = source.choice((0, 3, 16)), source.choice((0, 7, 10_001))
-            return graph, f"open {ceiling} {sweeps} {step}", lambda: search.open(graph, ceiling, sweeps, step) or "accepted"
+            return graph, f"open {ceiling} {sweeps} {step}", lambda: search.open(graph, ceiling, sweeps, step, denominator=self.q) or "accepted"
         if kind == "run":
             budget = source.choice((0, 1, 3, 2**40))
             return graph, f"run {budget}", lambda: ran_line(search.run(budget))

@@ -12,11 +12,11 @@ FOUR_FALLS = (
 )
 
 
-def by_every_ceiling(graph, high, low, dues):
+def by_every_ceiling(graph, high, low, dues, q):
     """The same, by the rule call at each ceiling from high to low."""
     appear, before = [], None
     for ceiling in range(high, low - 1, -1):
-        found = planner.rule(graph, ceiling, dues)
+        found = planner.rule(graph, ceiling, dues, q)
         if found is None:
             return None if before is None else (before.bound, tuple(appear), ceiling)
         was = before.rulings if before else [0] * graph.m
@@ -36,8 +36,9 @@ class Falls(unittest.TestCase):
             dues = [0] + [generator.randint(-3, 3) for _ in range(graph.n - 1)]
             high, low = generator.randint(-20, 90), generator.randint(-60, 20)
             high, low = max(high, low), min(high, low)
-            wanted = by_every_ceiling(graph, high, low, dues)
-            self.assertEqual(planner.falling(graph, high, low, dues), wanted)
+            q = generator.choice((1, 1, 2, 7))
+            wanted = by_every_ceiling(graph, high, low, dues, q)
+            self.assertEqual(planner.falling(graph, high, low, dues, q), wanted)
             seen["none" if wanted is None else "alive" if wanted[2] is None else "dead"] += 1
         self.assertTrue(all(count > 5 for count in seen.values()), seen)
 

@@ -40,6 +40,21 @@ class Answers(unittest.TestCase):
             (("tree", "examples/four.txt", "--dues", "0,0,1,-1"), ("bound 12\n1 1-2 4\n2 1-3 3\n4 2-3 2\n6 3-4 1\n", "", 0)),
             (("tree", "examples/four.txt", "--dues=-1,0,0,0"),
                 ("", "examples/four.txt: refused 12 at 0: a due out of range, or the first not 0; allowed is -1000000 to 1000000\n", 2)),
+            (("tree", "examples/four.txt", "--dues", "0,0,1,-1", "--denominator", 2),
+                ("bound 22 denominator 2\n1 1-2 4\n2 1-3 3\n4 2-3 2\n6 3-4 1\n", "", 0)),
+            (("tree", "examples/four.txt", "--denominator", 1001), ("", "examples/four.txt: refused 32 at 0: the denominator is not 1 to 1,000\n", 2)),
+            (("rule", "examples/four.txt", "--ceiling", 10, "--dues", "0,0,1,-1", "--denominator", 2), ("dead\n", "", 1)),
+            (("rule", "examples/four.txt", "--ceiling", 11, "--dues", "0,0,1,-1", "--denominator", 2),
+                ("bound 22 ceiling 11 denominator 2\n1 1-2 force\n2 1-3 force\n3 1-4 bar\n4 2-3 force\n5 2-4 bar\n6 3-4 force\n", "", 0)),
+            (("rule", "examples/four.txt", "--ceilings", 11, 10, "--dues", "0,0,1,-1", "--denominator", 2),
+                ("bound 22 ceilings 11 10 denominator 2\n11: 1 1-2 force\n11: 2 1-3 force\n11: 3 1-4 bar\n11: 4 2-3 force\n11: 5 2-4 bar\n"
+                 "11: 6 3-4 force\n10: dead\n", "", 0)),
+            (("preview", "examples/four.txt", 1, 2, "--dues", "0,0,1,-1", "--denominator", 2),
+                ("bound 23 denominator 2\n2 1-3 3\n3 1-4 5\n4 2-3 2\n6 3-4 1\n", "", 0)),
+            (("preview", "examples/four.txt", 7, 3, "--denominator", 0),
+                ("", "examples/four.txt: refused 32 at 0: the denominator is not 1 to 1,000\n", 2)),
+            (("compare", "examples/four.txt", "--denominator", 1001), ("", "examples/four.txt: refused 32 at 0: the denominator is not 1 to 1,000\n", 2)),
+            (("page", "examples/four.txt", "--denominator", 1001), ("", "examples/four.txt: refused 32 at 0: the denominator is not 1 to 1,000\n", 2)),
             (("preview", "examples/four.txt", 5, "required"), ("bound 14\n1 1-2 4\n2 1-3 3\n5 2-4 6\n6 3-4 1\n", "", 0)),
             (("preview", "examples/four.txt", 6, 2), ("bound 15\n1 1-2 4\n2 1-3 3\n4 2-3 2\n5 2-4 6\n", "", 0)),
             (("preview", "examples/four.txt", 7, 1),
@@ -67,6 +82,13 @@ class Answers(unittest.TestCase):
                 "rulings": ["keep", "keep", "keep", "force", "bar", "force"]}, 0),
             (("rule", "examples/four.txt", "--ceiling", 9), four | {"ceiling": 9, "verdict": "dead"}, 1),
             (("tree", "examples/four.txt"), four | {"bound": 10, "legs": [1, 2, 4, 6]}, 0),
+            (("tree", "examples/four.txt", "--denominator", 1), four | {"bound": 10, "legs": [1, 2, 4, 6]}, 0),
+            (("tree", "examples/four.txt", "--denominator", 7), four | {"denominator": 7, "bound": 70, "legs": [1, 2, 4, 6]}, 0),
+            (("rule", "examples/four.txt", "--ceiling", 9, "--denominator", 7), four | {"ceiling": 9, "denominator": 7, "verdict": "dead"}, 1),
+            (("compare", "examples/four.txt", "--ceiling", 12, "--pairs", "0/0", "--denominator", 7),
+                four | {"denominator": 7, "pairs": [{"sweeps": 0, "step": 0, "nodes": 5}]}, 0),
+            (("tree", "examples/four.txt", "--denominator", 0),
+                four | {"refused": 32, "place": 0, "meaning": "the denominator is not 1 to 1,000"}, 2),
             (("solve", "examples/regrade/loop.chart"), refused, 2),
             (("rule", "examples/regrade/loop.chart", "--ceiling", 3), refused, 2),
         ):
@@ -159,6 +181,18 @@ class Usage(unittest.TestCase):
             out, complaints, status = command(*words)
             self.assertEqual((out, complaints.count("\n"), status), ("", 1, 2), words)
             self.assertTrue(complaints.startswith("planner") and complaints.endswith(" --help\n") and len(complaints) < 260, complaints[:300])
+
+    def test_bad_denominators(self):
+        """Whatever is sent, what is allowed is said; by the library where the number fits."""
+        for verb, *more in (("tree",), ("rule", "--ceiling", 9), ("preview",), ("compare",), ("page",)):
+            for word in ("x", "1/2", -1, 2**64, "0.5"):
+                out, complaints, status = command(verb, "examples/four.txt", *more, "--denominator", word)
+                said = f"planner {verb}: argument --denominator: denominator '{word}' is out of range; allowed is 1 to 1000; see planner {verb} --help\n"
+                self.assertEqual((out, complaints, status), ("", said, 2))
+            for word in (0, 1_001, 2**64 - 1):
+                said = "examples/four.txt: refused 32 at 0: the denominator is not 1 to 1,000\n"
+                self.assertEqual(command(verb, "examples/four.txt", *more, "--denominator", word), ("", said, 2))
+        self.assertEqual(command("solve", "examples/four.txt", "--denominator", 2)[2], 2)
 
     def test_files(self):
         """What cannot be read: one line, status 2, for every command that takes a file."""

@@ -36,6 +36,36 @@ class Calls(unittest.TestCase):
         self.assertIsNone(planner.tree(planner.Graph(3)))
         self.assertIsNone(planner.tree(planner.Graph(4, [edge if edge.a > 1 else (*edge[:3], 1) for edge in FOUR.edges])))
 
+    def test_fractions(self):
+        """Document 02, C-17: d(3) and d(4) of half a minute; bounds in halves, ceilings and costs in minutes."""
+        dues = [0, 0, 1, -1]
+        self.assertEqual(planner.tree(FOUR, dues, 2), (22, (1, 2, 4, 6)))
+        self.assertIsNone(planner.rule(FOUR, 10, dues, 2))
+        self.assertEqual(planner.rule(FOUR, 11, dues, 2), (22, (1, 1, 2, 1, 2, 1)))
+        self.assertEqual(planner.preview(FOUR, 1, 2, dues, 2), (23, (2, 3, 4, 6)))
+        self.assertEqual(planner.falling(FOUR, 11, 10, dues, 2).dead, 10)
+        for q in (1, 2, 3, 7, 1_000):
+            search = planner.Search()
+            search.open(FOUR, 12, 2, 1, dues, q)
+            search.run(99)
+            self.assertEqual((search.tell().verdict, search.tell().cost, search.best_so_far(), search.record.upper), ("cost", 12, 12, 11))
+
+    def test_fractions_by_copies(self):
+        """As the same sea with each cost multiplied, where that fits; and with denominator 1 as without."""
+        source = random.Random(17)
+        for _ in range(200):
+            graph, q = random_graph(source, most=9, costs=source.choice((3, 60, 1_000))), source.choice((1, 2, 3, 7, 1_000))
+            dues = [0, *(source.choice((source.randint(-9, 9), 1_000_000, -1_000_000)) for _ in range(graph.n - 1))]
+            copy = graph.recosted(q * edge.cost for edge in graph.edges)
+            found, ceiling = planner.tree(graph, dues, q), source.randint(-200, 400)
+            ceiling = source.choice((ceiling, found.bound // q, found.bound // q + 1)) if found else ceiling
+            self.assertEqual(found, planner.tree(copy, dues))
+            self.assertEqual(planner.rule(graph, ceiling, dues, q), planner.rule(copy, q * ceiling, dues))
+            edge, mark = source.randint(1, max(1, graph.m)), source.choice((1, 2))
+            asked = [(refusal(planner.preview, *words) or planner.preview(*words)) for words in ((graph, edge, mark, dues, q), (copy, edge, mark, dues))]
+            self.assertEqual(asked[0], asked[1])
+            self.assertEqual(planner.tree(graph, dues, 1), planner.tree(graph, dues))
+
     def test_search(self):
         search = planner.Search()
         for ceiling, sweeps, told in ((12, 0, ("cost", 5, 12)), (11, 0, ("none", 3, None))):
@@ -57,6 +87,8 @@ class Calls(unittest.TestCase):
             (15, lambda: search.open(two, 12)), (11, lambda: search.open(FOUR, 12, 0, 0, [0] * 3)),
             (12, lambda: search.open(FOUR, 12, 0, 0, [1, 0, 0, 0])),
             (13, lambda: search.open(FOUR, 5_000_000_001)), (14, lambda: search.open(FOUR, 12, 16)), (14, lambda: search.open(FOUR, 12, 0, 10_001)),
+            (32, lambda: search.open(FOUR, 12, denominator=0)), (32, lambda: search.open(FOUR, 12, denominator=1_001)),
+            (14, lambda: search.open(FOUR, 12, 16, denominator=0)),
             (0, lambda: search.open(FOUR, 11)), (21, lambda: search.open(two, 11)), (22, search.show),
             (0, lambda: search.run(9)), (23, search.show),
         )  # fmt: skip
@@ -68,6 +100,11 @@ class Calls(unittest.TestCase):
         search.record.count = 2**63
         for call in (search.tell, search.close, lambda: search.run(1), search.show, lambda: search.open(FOUR, 12)):
             self.assertEqual(refusal(call), (24, 0))
+        for denominator, number in ((0, 24), (1, None), (1_000, None), (1_001, 24), (2**32 + 1, 24), (2**64 - 1, 24)):
+            search = planner.Search()
+            search.open(FOUR, 12, denominator=7)
+            search.record.settings.denominator = denominator
+            self.assertEqual(refusal(search.tell), number and (number, 0), denominator)
 
     def test_refusals_of_values(self):
         """Whatever fits the number types is sent; the library refuses."""
@@ -85,11 +122,15 @@ class Calls(unittest.TestCase):
             (11, lambda: library.rule(FOUR, 12, None, 2**64 - 1)),
             (11, lambda: planner.tree(FOUR, [])),
             (12, lambda: planner.tree(FOUR, [0, 2**31 - 1, 0, 0])),
+            (32, lambda: planner.tree(FOUR, denominator=0)), (32, lambda: planner.rule(FOUR, 12, denominator=1_001)),
+            (32, lambda: planner.preview(FOUR, 7, 3, denominator=2**64 - 1)), (32, lambda: planner.compare(FOUR, 12, 5, [(0, 0)], denominator=0)),
+            (32, lambda: planner.falling(FOUR, 20, 9, denominator=0)),
         ):
             self.assertEqual(refusal(call), (number, 0))
         for call in (
             lambda: planner.tree(planner.Graph(256)), lambda: planner.tree(planner.Graph(4, [(1, 2, 2**31)])), lambda: planner.rule(FOUR, 2**63),
             lambda: planner.tree(planner.Graph(20, pairs * 2)), lambda: planner.tree(FOUR, [2**31]), lambda: planner.Search().run(-1),
+            lambda: planner.tree(FOUR, denominator=-1), lambda: planner.Search().open(FOUR, 12, denominator=2**64),
         ):  # fmt: skip
             self.assertRaises(ValueError, call)
 
@@ -116,13 +157,13 @@ class Calls(unittest.TestCase):
     def test_sizes(self):
         """The structs are those of the header, compiled."""
         with tempfile.TemporaryDirectory() as folder:
-            lines = "".join(f'printf("%zu\\n", sizeof(planner_{name}));' for name in ("said", "graph", "settings", "search"))
+            lines = "".join(f'printf("%zu\\n", sizeof(planner_{name}));' for name in ("said", "graph", "settings", "terms", "search"))
             Path(folder, "s.c").write_text('#include <stdio.h>\n#include "planner.h"\nint main(void){' + lines + "}")
             if not shutil.which("cc"):
                 self.skipTest("no C compiler")
             subprocess.run(["cc", f"-I{ROOT}/include", f"{folder}/s.c", "-o", f"{folder}/s"], check=True)
             said = subprocess.run([f"{folder}/s"], stdout=subprocess.PIPE, check=True).stdout.split()
-        structs = (library.CSaid, library.CGraph, library.CSettings, library.CSearch)
+        structs = (library.CSaid, library.CGraph, library.CSettings, library.CTerms, library.CSearch)
         self.assertEqual([int(size) for size in said], [ctypes.sizeof(struct) for struct in structs])
 
 

@@ -9,6 +9,7 @@ import socket
 import sys
 import tempfile
 import unittest
+from fractions import Fraction
 from html.parser import HTMLParser
 from pathlib import Path
 from unittest import mock
@@ -146,6 +147,27 @@ class Facts(unittest.TestCase):
                     self.assertEqual(leg["from"], "never" if now else NOTHING)
                     self.assertEqual(words_at(graph, now.bound, dues)[number - 1] if now else "dead", "kept" if now else "dead")
 
+    def test_fractions(self):
+        """With a denominator: ceilings as the rule call has them, bounds as fractions of a minute."""
+        source = random.Random(38)
+        for graph, dues in seas(source, 30):
+            q = source.choice((2, 3, 7, 1_000))
+            showing = Showing(graph, dues, q)
+            high, low = showing.ends(None, None)
+            page = Page("t", showing, None, showing.stops(high, low))
+            for ceiling in range(high, low - 1, -1) if high - low < 200 else ():
+                stop = [stop for stop in page.stops if stop.ceiling >= ceiling][-1]
+                self.assertEqual(stop.found, planner.rule(graph, ceiling, dues, q))
+            now = planner.tree(graph, dues, q)
+            self.assertEqual(showing.bound, now.bound if now else None)
+            for number, edge in enumerate(graph.edges, 1):
+                if edge.mark == planner.FREE:
+                    found = [planner.preview(graph, number, mark, dues, q) for mark in (1, 2)]
+                    words = [str(Fraction(each.bound, q)) if each else "no tree" for each in found]
+                    self.assertEqual(list(page.previewed(number)), words)
+        page = Page("t", Showing(FOUR, [0, 0, 1, 0], 2), None, Showing(FOUR, [0, 0, 1, 0], 2).stops(11, 10))
+        self.assertEqual(page.says(page.stops[-1]), "Dead: the bound 21/2 is above the ceiling, so no round costs so little.")
+
     def test_ends(self):
         """By itself a page begins where the next ceiling rules something, as much ruled as at the highest, and ends where the sea is dead."""
         for graph, _ in seas(random.Random(33), 40):
@@ -249,6 +271,8 @@ class Files(unittest.TestCase):
             self.assertEqual((elements.facts["round"], "lay" in elements.texts), (None, False))
             self.assertEqual(command("page", "examples/four.txt", "-o", out, "--dues", "0,0,1,-1")[2], 0)
             self.assertEqual(Elements(out.read_text("utf-8")).texts["bound"], "12")
+            self.assertEqual(command("page", "examples/four.txt", "-o", out, "--dues", "0,0,1,-1", "--denominator", 2)[2], 0)
+            self.assertEqual(Elements(out.read_text("utf-8")).texts["bound"], "11")
 
     def test_picture_of_it(self):
         """README shows one, and it is small."""

@@ -31,17 +31,17 @@ class Previews(unittest.TestCase):
         seen = {0: 0, 1: 0, 2: 0}
         for _ in range(60):
             graph = random_graph(source, most=9, costs=20)
-            dues = [0] + [source.randint(-5, 5) for _ in range(graph.n - 1)]
-            now = planner.tree(graph, dues)
-            ceiling = 0 if now is None else now.bound + source.randint(0, 12)
-            ruled = planner.rule(graph, ceiling, dues)
+            dues, q = [0] + [source.randint(-5, 5) for _ in range(graph.n - 1)], source.choice((1, 1, 2, 7))
+            now = planner.tree(graph, dues, q)
+            ceiling = 0 if now is None else now.bound // q + source.randint(0, 12)
+            ruled = planner.rule(graph, ceiling, dues, q)
             for edge, leg in enumerate(graph.edges, 1):
                 if leg.mark != planner.FREE:
                     continue
-                one, two = (planner.preview(graph, edge, mark, dues) for mark in (1, 2))
-                self.assertEqual([one, two], [planner.tree(marked(graph, edge, mark), dues) for mark in (1, 2)])
+                one, two = (planner.preview(graph, edge, mark, dues, q) for mark in (1, 2))
+                self.assertEqual([one, two], [planner.tree(marked(graph, edge, mark), dues, q) for mark in (1, 2)])
                 if ruled:
-                    beyond = [found is None or found.bound > ceiling for found in (one, two)]
+                    beyond = [found is None or found.bound > q * ceiling for found in (one, two)]
                     ruling = ruled.rulings[edge - 1]
                     self.assertEqual(beyond, [ruling == 2, ruling == 1])
                     seen[ruling] += 1

@@ -53,15 +53,15 @@ class Sailings(unittest.TestCase):
         self.assertEqual(planner.compare(FOUR, 16, 5, pairs), (0, 0, 3, 1, 1, 5))
         source = random.Random(22)
         for _ in range(20):
-            graph = random_graph(source, most=8, costs=30)
+            graph, q = random_graph(source, most=8, costs=30), source.choice((1, 2, 10, 1_000))
             chosen = [(source.choice((0, 1, 3, 15)), source.choice((0, 1, 20))) for _ in range(source.randint(1, 16))]
             counts = []
             for sweeps, step in chosen:
                 search = planner.Search()
-                search.open(graph, 300, sweeps, step)
+                search.open(graph, 300, sweeps, step, denominator=q)
                 ran = search.run(20)
                 counts.append(ran.nodes if ran.finished else 0)
-            self.assertEqual(planner.compare(graph, 300, 20, chosen), tuple(counts))
+            self.assertEqual(planner.compare(graph, 300, 20, chosen, denominator=q), tuple(counts))
         for wrong, number in (([], 11), ([(0, 0)] * 17, 11), ([(0, 0), (16, 0)], 14), ([(0, 0), (0, 10_001)], 14)):
             with self.subTest(wrong), self.assertRaises(planner.Refused) as caught:
                 planner.compare(FOUR, 12, 5, wrong)

@@ -25,30 +25,33 @@ AT(planner_graph, mark, 1140);
 AT(planner_graph, n, 1330);
 AT(planner_graph, m, 1331);
 
-CLAIM(sizeof(planner_settings) == 16);
+CLAIM(sizeof(planner_settings) == 24);
 AT(planner_settings, ceiling, 0);
 AT(planner_settings, sweeps, 8);
 AT(planner_settings, step, 12);
+AT(planner_settings, denominator, 16);
 CLAIM(sizeof(planner_sailed) == 32);
 AT(planner_sailed, number, 0);
 AT(planner_sailed, place, 8);
 AT(planner_sailed, total, 16);
 AT(planner_sailed, state, 24);
-CLAIM(sizeof(planner_terms) == 16);
+CLAIM(sizeof(planner_terms) == 24);
 AT(planner_terms, ceiling, 0);
 AT(planner_terms, budget, 8);
+AT(planner_terms, denominator, 16);
 
-CLAIM(sizeof(planner_search) == 5824);
+CLAIM(sizeof(planner_search) == 7592);
 AT(planner_search, settings, 0);
-AT(planner_search, upper, 16);
-AT(planner_search, count, 24);
-AT(planner_search, depth, 32);
-AT(planner_search, graph, 40);
-AT(planner_search, multipliers, 1372);
-AT(planner_search, stack, 1452);
-AT(planner_search, best, 5632);
-AT(planner_search, open, 5822);
-AT(planner_search, has_best, 5823);
+AT(planner_search, upper, 24);
+AT(planner_search, count, 32);
+AT(planner_search, depth, 40);
+AT(planner_search, graph, 48);
+AT(planner_search, multipliers, 1380);
+AT(planner_search, carried, 1460);
+AT(planner_search, stack, 3220);
+AT(planner_search, best, 7400);
+AT(planner_search, open, 7590);
+AT(planner_search, has_best, 7591);
 
 static int passed, failed;
 
@@ -106,20 +109,25 @@ static void record(const planner_search *s, const planner_graph *g, const int32_
     size_t depth = s->depth;
     memcpy(padded, multipliers, N * sizeof *multipliers);
     expect("settings", stands(s, 0, &settings, sizeof settings) && s->settings.ceiling == settings.ceiling
-                           && s->settings.sweeps == settings.sweeps && s->settings.step == settings.step);
-    expect("upper", stands(s, 16, &upper, 8) && s->upper == upper);
-    expect("count", stands(s, 24, &count, 8) && s->count == count);
-    expect("depth", stands(s, 32, &depth, 8) && 0 < depth && depth <= N + 2);
-    expect("graph", stands(s, 40, g, sizeof *g));
-    expect("multipliers", stands(s, 1372, padded, sizeof padded));
-    expect("best past m", stands(s, 5632 + M, zeros, PLANNER_EDGES - M));
-    expect("open", stands(s, 5822, "\1", 1) && s->open == 1);
+                           && s->settings.sweeps == settings.sweeps && s->settings.step == settings.step
+                           && s->settings.denominator == settings.denominator);
+    expect("upper", stands(s, 24, &upper, 8) && s->upper == upper);
+    expect("count", stands(s, 32, &count, 8) && s->count == count);
+    expect("depth", stands(s, 40, &depth, 8) && 0 < depth && depth <= N + 2);
+    expect("graph", stands(s, 48, g, sizeof *g));
+    expect("multipliers", stands(s, 1380, padded, sizeof padded));
+    expect("best past m", stands(s, 7400 + M, zeros, PLANNER_EDGES - M));
+    expect("open", stands(s, 7590, "\1", 1) && s->open == 1);
     for (size_t p = 0; p < PLANNER_NODES; p++) {
         const uint8_t *node = s->stack + PLANNER_EDGES * p;
         size_t required = 0, used = p < depth ? M : 0;
         for (size_t k = 0; k < used; k++) required += node[k] == 1;
-        expect("a node", stands(s, 1452 + PLANNER_EDGES * p, node, PLANNER_EDGES) && (p >= depth || required >= p));
+        expect("a node", stands(s, 3220 + PLANNER_EDGES * p, node, PLANNER_EDGES) && (p >= depth || required >= p));
         expect("a node's unused places", memcmp(node + used, zeros, PLANNER_EDGES - used) == 0);
+        const int32_t *carried = s->carried + PLANNER_VERTICES * p;
+        size_t vertices = p < depth ? N : 0;
+        expect("what a node carries", stands(s, 1460 + 4 * PLANNER_VERTICES * p, carried, 4 * PLANNER_VERTICES) && carried[0] == 0);
+        expect("carried past n", memcmp(carried + vertices, zeros, 4 * (PLANNER_VERTICES - vertices)) == 0);
     }
 }
 
@@ -127,7 +135,7 @@ int main(void) {
     static planner_search s, fresh;
     static uint8_t bytes[FILE_LENGTH], out[FILE_LENGTH];
     int32_t multipliers[N] = {0, 10, -20, 30, -40, 50, 60};
-    planner_settings settings = {INT64_C(4900000000), 4, 370}; /* wider than 4 bytes */
+    planner_settings settings = {INT64_C(4900000000), 4, 370, 7}; /* a ceiling wider than 4 bytes */
     planner_graph g = sample(bytes), read;
     planner_said said;
     uint64_t nodes = 0;
@@ -159,12 +167,38 @@ int main(void) {
         expect("a refused log leaves the graph", memcmp(&read, &made, sizeof made) == 0);
     }
 
+    {
+        /* Each argument where the call looks for it: the same tree with each denominator, its bound so many times as high. */
+        planner_terms terms = {settings.ceiling, 1, 1001};
+        const uint32_t pair[1] = {0};
+        uint64_t report[1] = {9};
+        uint8_t one[M], ten[M];
+        const int32_t zeros[N] = {0};
+        int64_t bound = planner_tree(g, zeros, N, 1, one, M).value;
+        said_so("a bound in tenths", planner_tree(g, zeros, N, 10, ten, M), 0, 0, 10 * bound, 0);
+        expect("the same tree", memcmp(one, ten, M) == 0);
+        said_so("rulings in tenths", planner_rule(g, zeros, N, settings.ceiling, 10, ten, M), 0, 0, 10 * bound, 0);
+        expect("a preview in tenths", planner_preview(g, zeros, N, 10, 1, 2, ten, M).value
+                                          == 10 * planner_preview(g, zeros, N, 1, 1, 2, one, M).value);
+        said_so("a tree's denominator", planner_tree(g, zeros, N, 1001, ten, M), 32, 0, 0, 0);
+        said_so("rulings' denominator", planner_rule(g, zeros, N, settings.ceiling, 0, ten, M), 32, 0, 0, 0);
+        said_so("a preview's denominator", planner_preview(g, zeros, N, 0, 0, 0, ten, M), 32, 0, 0, 0);
+        said_so("a comparison's denominator", planner_compare(g, zeros, N, terms, pair, 1, pair, 1, report, 1), 32, 0, 0, 0);
+        terms.denominator = PLANNER_DENOMINATOR;
+        said_so("a comparison", planner_compare(g, zeros, N, terms, pair, 1, pair, 1, report, 1), 0, 0, 0, 0);
+        expect("a report of 'going on'", report[0] == 0);
+    }
+
     memset(&s, 0xa5, sizeof s);
     s = planner_fresh();
     expect("a fresh record is zero", memcmp(&s, &fresh, sizeof s) == 0);
+    settings.denominator = 1001;
+    said_so("an opening's denominator", planner_open(&s, g, multipliers, N, settings), 32, 0, 0, 0);
+    settings.denominator = 7;
     said_so("open", planner_open(&s, g, multipliers, N, settings), 0, 0, 0, 0);
     record(&s, &g, multipliers, settings, settings.ceiling, 0);
-    expect("the opening's node", s.depth == 1 && memcmp(s.stack, g.mark, sizeof g.mark) == 0);
+    expect("the opening's node", s.depth == 1 && memcmp(s.stack, g.mark, sizeof g.mark) == 0
+                                     && memcmp(s.carried, multipliers, sizeof multipliers) == 0);
     while (s.depth > 0 && s.has_best == 0 && failed == 0) {
         said = planner_run(&s, 1);
         nodes++;
@@ -173,13 +207,13 @@ int main(void) {
 
     for (int k = 0; k < M; k++) cost += s.best[k] * g.cost[k];
     record(&s, &g, multipliers, settings, cost - 1, nodes);
-    expect("an incumbent while nodes wait", s.depth > 0 && s.has_best == 1 && stands(&s, 5823, "\1", 1) && nodes > 1);
+    expect("an incumbent while nodes wait", s.depth > 0 && s.has_best == 1 && stands(&s, 7591, "\1", 1) && nodes > 1);
     said_so("tell", planner_tell(&s), PLANNER_GOING_ON, 0, 0, nodes);
     said = planner_run(&s, 1000000);
     said_so("finished", said, PLANNER_FINISHED, 0, 0, s.count);
     said_so("the best cost", planner_tell(&s), PLANNER_BEST, 0, s.upper + 1, s.count);
     said_so("show", planner_show(&s, out, M), 0, 0, 0, 0);
-    expect("the tour", stands(&s, 5632, out, M) && s.depth == 0);
+    expect("the tour", stands(&s, 7400, out, M) && s.depth == 0);
     said_so("close", planner_close(&s), 0, 0, 0, 0);
     expect("closed, a record is fresh", memcmp(&s, &fresh, sizeof s) == 0);
 

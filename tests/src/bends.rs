@@ -381,3 +381,93 @@ pub const ONE_BUDGET: Bend = Bend {
     what: "all pairs share one allowance",
     bend: |law| law.budget_each = false,
 };
+
+pub const BOUND_DIVIDED: Bend = Bend {
+    what: "the bound is told in minutes",
+    bend: |law| law.bound_scaled = false,
+};
+
+pub const CEILING_NOT_SCALED: Bend = Bend {
+    what: "the bound is compared with the ceiling itself",
+    bend: |law| law.ceiling_scaled = false,
+};
+
+pub const PARTS_NOT_COMPARED: Bend = Bend {
+    what: "of a bound only whole minutes are compared with the ceiling",
+    bend: |law| law.parts_compared = false,
+};
+
+pub const NO_REPLACEMENT_OF_ONE: Bend = Bend {
+    what: "an edge that nothing can replace is kept at a slack that only q above 1 makes, 8,000,000,000",
+    bend: |law| law.no_replacement = Some(8_000_000_000),
+};
+
+pub const MULTIPLIERS_TIMES: Bend = Bend {
+    what: "multipliers are multiplied by q",
+    bend: |law| law.multipliers_in_units = false,
+};
+
+pub const STEP_TIMES: Bend = Bend {
+    what: "the step is multiplied by q",
+    bend: |law| law.step_in_units = false,
+};
+
+pub const RANGE_IN_MINUTES: Bend = Bend {
+    what: "the range of multipliers counts minutes",
+    bend: |law| law.range_counts_units = false,
+};
+
+pub const UPPER_NOT_SCALED: Bend = Bend {
+    what: "a node's bound is compared with U itself",
+    bend: |law| law.upper_scaled = false,
+};
+
+pub const UPPER_IN_PARTS: Bend = Bend {
+    what: "U becomes q times a tour's cost, less 1",
+    bend: |law| law.upper_in_minutes = false,
+};
+
+pub const COSTS_IN_PARTS: Bend = Bend {
+    what: "the cost told is in q-ths",
+    bend: |law| law.costs_in_minutes = false,
+};
+
+pub const PREVIEW_NOT_SCALED: Bend = Bend {
+    what: "a preview takes q for 1",
+    bend: |law| law.preview_scaled = false,
+};
+
+pub const DENOMINATOR_OF_ZERO: Bend = Bend {
+    what: "q may be 0",
+    bend: |law| law.min_denominator = 0,
+};
+
+pub const HIGHER_DENOMINATOR: Bend = Bend {
+    what: "q may be 1,001",
+    bend: |law| law.max_denominator += 1,
+};
+
+pub const DENOMINATOR_BEFORE_MULTIPLIERS: Bend = Bend {
+    what: "32 comes before 12",
+    bend: |law| law.denominator_before = 12,
+};
+
+pub const DENOMINATOR_BEFORE_CEILING: Bend = Bend {
+    what: "32 comes before 13",
+    bend: |law| law.denominator_before = 13,
+};
+
+pub const DENOMINATOR_BEFORE_STEP: Bend = Bend {
+    what: "32 comes before 14",
+    bend: |law| law.denominator_before = 14,
+};
+
+pub const LEG_BEFORE_DENOMINATOR: Bend = Bend {
+    what: "30 and 31 come before 32",
+    bend: |law| law.denominator_before_leg = false,
+};
+
+pub const DENOMINATOR_NOT_CHECKED: Bend = Bend {
+    what: "a record's q counts for nothing",
+    bend: |law| law.denominator_checked = false,
+};

@@ -9,6 +9,7 @@ use crate::random::Random;
 pub const MAX_COST: i32 = Law::AS_WRITTEN.max_cost as i32;
 pub const MAX_MULTIPLIER: i32 = Law::AS_WRITTEN.max_multiplier as i32;
 pub const MAX_CEILING: i64 = Law::AS_WRITTEN.max_ceiling;
+pub const MAX_DENOMINATOR: u64 = Law::AS_WRITTEN.max_denominator;
 
 /// How costs and multipliers are drawn: few values make ties, the ends of the range make extremes.
 #[derive(Clone, Copy)]
@@ -164,6 +165,31 @@ pub fn multipliers_of(random: &mut Random, n: usize, spread: Spread) -> Vec<i32>
     drawn
 }
 
+/// A denominator; 1 every third time.
+pub fn denominator(random: &mut Random) -> u64 {
+    match random.below(6) {
+        0 | 1 => 1,
+        2 => 1 + random.below(1_000) as u64,
+        3 => MAX_DENOMINATOR - random.below(2) as u64,
+        _ => random.pick(&[2, 3, 7, 10, 60, MAX_DENOMINATOR]),
+    }
+}
+
+/// A denominator out of range: one past each end, or one whose low bytes alone would do.
+pub fn wrong_denominator(random: &mut Random) -> u64 {
+    let past = MAX_DENOMINATOR + 1;
+    random.pick(&[
+        0,
+        0,
+        past,
+        past,
+        past + 1,
+        1 << 16 | 1,
+        1 << 32 | 2,
+        u64::MAX,
+    ])
+}
+
 /// A way to break 'Legs and marks', or none, at a random edge.
 pub fn break_value(random: &mut Random, graph: &mut Graph) {
     let k = random.below(graph.m.clamp(1, PLACES));
@@ -302,13 +328,15 @@ pub fn opening(random: &mut Random, max_vertices: usize, most: usize, wrong: boo
         random.below(16) as u32
     };
     let mut step = random.pick(&[0, 1, 2, 10, 1_000, 10_000]);
+    let mut denominator = denominator(random);
     let faults = if wrong { random.pick(&[1, 1, 2, 3]) } else { 0 };
     for _ in 0..faults {
-        match random.below(5) {
+        match random.below(6) {
             0 => break_value(random, &mut graph),
             1 => multipliers.resize(random.below(24), 0),
             2 => break_multipliers(random, &mut multipliers),
             3 => ceiling = wrong_ceiling(random),
+            4 => denominator = wrong_denominator(random),
             _ if random.one_in(2) => sweeps = random.pick(&[16, 16, 17, u32::MAX]),
             _ => step = random.pick(&[10_001, u32::MAX]),
         }
@@ -319,6 +347,7 @@ pub fn opening(random: &mut Random, max_vertices: usize, most: usize, wrong: boo
         ceiling,
         sweeps,
         step,
+        denominator,
     }
 }
 

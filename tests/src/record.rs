@@ -22,7 +22,7 @@ pub const CARRIED: usize = NODES * VERTICES;
 pub const GRAPH: usize = 7 * PLACES + 2;
 
 /// Bytes of a record before its stack: settings, three numbers, the graph, the multipliers and what the nodes carry.
-pub const BEFORE_STACK: usize = 16 + 3 * 8 + GRAPH + 4 * VERTICES + 4 * CARRIED;
+pub const BEFORE_STACK: usize = 24 + 3 * 8 + GRAPH + 4 * VERTICES + 4 * CARRIED;
 
 /// Bytes of a record: behind the stack are the incumbent and two flags.
 pub const SIZE: usize = BEFORE_STACK + STACK + PLACES + 2;
@@ -34,6 +34,7 @@ pub struct Record {
     pub ceiling: i64,
     pub sweeps: u32,
     pub step: u32,
+    pub denominator: u64,
     pub upper: i64,
     pub count: u64,
     pub depth: usize,
@@ -64,6 +65,7 @@ impl Record {
         record.ceiling = search.ceiling;
         record.sweeps = search.sweeps;
         record.step = search.step;
+        record.denominator = search.denominator;
         record.upper = search.upper;
         record.depth = search.stack.len();
         for (p, Node { marks, multipliers }) in search.stack.iter().enumerate() {
@@ -84,6 +86,7 @@ impl Record {
         let mut bytes = Vec::with_capacity(SIZE);
         bytes.extend(self.ceiling.to_ne_bytes());
         bytes.extend([self.sweeps, self.step].map(u32::to_ne_bytes).concat());
+        bytes.extend(self.denominator.to_ne_bytes());
         bytes.extend(self.upper.to_ne_bytes());
         bytes.extend(self.count.to_ne_bytes());
         bytes.extend(self.depth.to_ne_bytes());
@@ -103,6 +106,7 @@ impl Record {
             ceiling: i64::from_ne_bytes(next(&mut rest)),
             sweeps: u32::from_ne_bytes(next(&mut rest)),
             step: u32::from_ne_bytes(next(&mut rest)),
+            denominator: u64::from_ne_bytes(next(&mut rest)),
             upper: i64::from_ne_bytes(next(&mut rest)),
             count: u64::from_ne_bytes(next(&mut rest)),
             depth: usize::from_ne_bytes(next(&mut rest)),
@@ -136,6 +140,7 @@ impl Record {
             ceiling: self.ceiling,
             sweeps: self.sweeps,
             step: self.step,
+            denominator: self.denominator,
         });
         let search = machine.search.as_mut()?;
         search.upper = self.upper;
@@ -207,6 +212,7 @@ impl Record {
             && self.ceiling == 0
             && self.sweeps == 0
             && self.step == 0
+            && self.denominator == 0
             && self.upper == 0
             && self.depth == 0
             && self.has_best == 0
@@ -218,10 +224,18 @@ impl Record {
     fn fits(&self, law: &Law) -> bool {
         let m = self.graph.m;
         graph::fits(law, &self.graph)
-            && tree::admit(law, &self.graph, &self.multipliers[..self.graph.n], None).is_ok()
+            && tree::admit(
+                law,
+                &self.graph,
+                &self.multipliers[..self.graph.n],
+                self.denominator,
+                None,
+            )
+            .is_ok()
             && ceiling_fits(law, self.ceiling)
             && self.sweeps <= law.max_sweeps
             && self.step <= law.max_step
+            && (tree::denominator_fits(law, self.denominator) || !law.denominator_checked)
             && ceiling_fits(law, self.upper)
             && self.depth <= NODES.min(self.graph.n + law.nodes_above_vertices)
             && (0..self.depth).all(|p| {
@@ -231,7 +245,8 @@ impl Record {
             })
             && (0..self.depth).all(|p| {
                 let carried = &self.carried_by(p)[..self.graph.n];
-                !law.carried_fit || tree::admit(law, &self.graph, carried, None).is_ok()
+                let q = self.denominator;
+                !law.carried_fit || tree::admit(law, &self.graph, carried, q, None).is_ok()
             })
             && self.best.iter().all(|x| *x <= 1)
             && self.count < 1 << 63
@@ -276,8 +291,8 @@ impl fmt::Debug for Record {
         )?;
         write!(
             f,
-            " ceiling {} sweeps {} step {}",
-            self.ceiling, self.sweeps, self.step
+            " ceiling {} sweeps {} step {} denominator {}",
+            self.ceiling, self.sweeps, self.step, self.denominator
         )?;
         write!(
             f,

@@ -68,6 +68,7 @@ pub fn record_fits(record: &Record) -> bool {
             && multipliers_fit(&record.multipliers[..graph.n()])
             && ceiling_fits(record.ceiling)
             && sweeps_fit(record.sweeps, record.step)
+            && record.denominator == 1
             && ceiling_fits(record.upper)
             && record.depth <= graph.n() + 2
             && nodes_fit(&record.stack[..record.depth], graph.m())
@@ -106,6 +107,7 @@ fn closed(record: &Record) -> bool {
         && record.ceiling == 0
         && record.sweeps == 0
         && record.step == 0
+        && record.denominator == 0
         && record.upper == 0
         && record.depth == 0
         && record.count == 0

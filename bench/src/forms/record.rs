@@ -15,6 +15,8 @@ pub struct Record {
     pub ceiling: i64,
     pub sweeps: u32,
     pub step: u32,
+    /// 1 in a search: the references know no fractions (document 02, C-17)
+    pub denominator: u64,
     pub upper: i64,
     pub depth: usize,
     pub stack: [Marks; NODES],
@@ -54,6 +56,7 @@ impl Record {
             ceiling: 0,
             sweeps: 0,
             step: 0,
+            denominator: 0,
             upper: 0,
             depth: 0,
             stack: [[0; PLACES]; NODES],

@@ -50,6 +50,7 @@ pub fn open(
     record.multipliers[..d.len()].copy_from_slice(d);
     (record.ceiling, record.upper) = (ceiling, ceiling);
     (record.sweeps, record.step) = (sweeps, gain);
+    record.denominator = 1;
     record.stack[0] = record.graph.mark;
     record.carried[0] = record.multipliers;
     record.depth = 1;

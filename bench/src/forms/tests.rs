@@ -81,7 +81,7 @@ fn plain_check(r: &Record) -> bool {
     if r.open == 0 {
         let numbers = [r.ceiling, r.upper, r.sweeps as i64, r.step as i64];
         let zero = numbers == [0; 4] && r.count == 0 && n == 0 && m == 0 && depth == 0;
-        return unused && zero && r.has_best == 0;
+        return unused && zero && r.denominator == 0 && r.has_best == 0;
     }
     let within = |value: i32, most: i32| (-most..=most).contains(&value);
     let mut pairs: Vec<_> = (0..m).map(|k| (g.a[k], g.b[k])).collect();
@@ -100,6 +100,7 @@ fn plain_check(r: &Record) -> bool {
         && (-MAX_CEILING..=MAX_CEILING).contains(&r.upper)
         && r.sweeps <= 15
         && r.step <= 10_000
+        && r.denominator == 1
         && (0..depth).all(|p| {
             let required = r.stack[p][..m].iter().filter(|mark| **mark == 1).count();
             r.stack[p].iter().all(|mark| *mark <= 2) && p <= required
@@ -117,7 +118,7 @@ fn bend(r: &mut Record, random: &mut Random) {
     let byte = [0, 1, 2, 3, 21, 255][random.below(6)];
     let past = MAX_CEILING + 1;
     let wide = [-1, 0, 1, MAX_CEILING, past, -past, i64::MIN][random.below(7)];
-    match random.below(20) {
+    match random.below(21) {
         0 => r.open = byte,
         1 => r.graph.n = byte,
         2 => r.graph.m = r.graph.m.wrapping_add(1),
@@ -137,6 +138,7 @@ fn bend(r: &mut Record, random: &mut Random) {
         17 => r.carried[p][k % VERTICES] = [0, 1, MAX_MULTIPLIER + 1, i32::MIN][random.below(4)],
         18 => r.carried[random.below(r.depth + 1) % 22][k % VERTICES] = [0, 1][random.below(2)],
         16 => r.best[k] = byte,
+        19 => r.denominator = [0, 1, 2, 1_001][random.below(4)],
         _ => r.count = [0, (1 << 63) - 1, 1 << 63][random.below(3)],
     }
 }

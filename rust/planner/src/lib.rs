@@ -8,7 +8,7 @@
 //!
 //! let graph = Graph::from_edges(3, &[Edge::free(1, 2, 4), Edge::free(1, 3, 3), Edge::free(2, 3, 2)]);
 //! let mut search = Search::fresh();
-//! search.open(&graph, &[0; 3], Settings { ceiling: 100, sweeps: 0, step: 0 })?;
+//! search.open(&graph, &[0; 3], Settings { ceiling: 100, sweeps: 0, step: 0, denominator: 1 })?;
 //! search.run(1_000_000)?;
 //! assert_eq!(search.tell()?.verdict, Verdict::Best(9));
 //! assert_eq!(search.show()?, [true; 3]);
@@ -55,6 +55,7 @@ impl Refusal {
             24 => "the record fails its own check",
             30 => "a preview of no edge, or of a mark that is not 1 or 2",
             31 => "a preview of an edge that is not free",
+            32 => "the denominator is not 1 to 1,000",
             36 => "edges that are not a tour of all vertices in sailing order from vertex 1",
             37 => "a student number or a spread out of range",
             38 => "a window that is not 1 to 32",
@@ -195,7 +196,7 @@ impl Graph {
 pub enum Tree {
     /// The graph has no 1-tree.
     None,
-    /// Its bound, and for each edge whether it is in.
+    /// Its bound, in parts as the denominator says, and for each edge whether it is in.
     Found { bound: i64, edges: Vec<bool> },
 }
 
@@ -239,12 +240,22 @@ impl Ruling {
 pub enum Ruled {
     /// No 1-tree has a bound at or below the ceiling.
     Infeasible,
-    /// The least bound, and a ruling for each edge.
+    /// The least bound, in parts as the denominator says, and a ruling for each edge.
     Within { bound: i64, rulings: Vec<Ruling> },
 }
 
-/// The least 1-tree of a graph under n multipliers; 15, 11, 12.
-pub fn tree(graph: &Graph, multipliers: &[i32]) -> Result<Tree, Refusal> {
+/// The least 1-tree of a graph under n multipliers; 15, 11, 12, 32. Multipliers and bounds count in parts of a cost's unit, `denominator` of them to
+/// the unit (1 to 1,000; with 1 they count as costs do).
+///
+/// ```
+/// use planner::{tree, Edge, Graph, Tree};
+///
+/// let graph = Graph::from_edges(3, &[Edge::free(1, 2, 4), Edge::free(1, 3, 3), Edge::free(2, 3, 2)]);
+/// assert_eq!(tree(&graph, &[0; 3], 1)?, Tree::Found { bound: 9, edges: vec![true; 3] });
+/// assert_eq!(tree(&graph, &[0; 3], 10)?, Tree::Found { bound: 90, edges: vec![true; 3] });
+/// # Ok::<(), planner::Refusal>(())
+/// ```
+pub fn tree(graph: &Graph, multipliers: &[i32], denominator: u64) -> Result<Tree, Refusal> {
     let mut out = vec![0; graph.places()];
     // SAFETY: `multipliers` and `out` have the lengths that are passed with them; only `out` is written, and it is borrowed here alone.
     let said = unsafe {
@@ -252,6 +263,7 @@ pub fn tree(graph: &Graph, multipliers: &[i32]) -> Result<Tree, Refusal> {
             *graph,
             multipliers.as_ptr(),
             multipliers.len(),
+            denominator,
             out.as_mut_ptr(),
             out.len(),
         )
@@ -259,10 +271,11 @@ pub fn tree(graph: &Graph, multipliers: &[i32]) -> Result<Tree, Refusal> {
     Tree::of(said, &out)
 }
 
-/// The least 1-tree of a copy of the graph in which a free edge, numbered from 1, is required or excluded; 15, 11, 12, 30, 31.
+/// The least 1-tree of a copy of the graph in which a free edge, numbered from 1, is required or excluded; 15, 11, 12, 32, 30, 31.
 pub fn preview(
     graph: &Graph,
     multipliers: &[i32],
+    denominator: u64,
     edge: usize,
     mark: Mark,
 ) -> Result<Tree, Refusal> {
@@ -273,6 +286,7 @@ pub fn preview(
             *graph,
             multipliers.as_ptr(),
             multipliers.len(),
+            denominator,
             edge,
             mark as u32,
             out.as_mut_ptr(),
@@ -326,7 +340,7 @@ pub fn simulate(
 }
 
 /// A search for each pair of sweeps and step, 1 to 16 of them, each with the whole budget: the count of nodes with which it finishes, or none
-/// if it is still going on; 15, 11, 12, 13, 14.
+/// if it is still going on; 15, 11, 12, 13, 14, 32.
 pub fn compare(
     graph: &Graph,
     multipliers: &[i32],
@@ -355,8 +369,13 @@ pub fn compare(
     Ok(report.into_iter().map(|k| (k != 0).then_some(k)).collect())
 }
 
-/// What a ceiling rules for each edge, under n multipliers; 15, 11, 12, 13.
-pub fn rule(graph: &Graph, multipliers: &[i32], ceiling: i64) -> Result<Ruled, Refusal> {
+/// What a ceiling rules for each edge, under n multipliers; 15, 11, 12, 13, 32. The ceiling counts as costs do, whatever the denominator.
+pub fn rule(
+    graph: &Graph,
+    multipliers: &[i32],
+    ceiling: i64,
+    denominator: u64,
+) -> Result<Ruled, Refusal> {
     let mut out = vec![0; graph.places()];
     // SAFETY: as in `tree`.
     let said = unsafe {
@@ -365,6 +384,7 @@ pub fn rule(graph: &Graph, multipliers: &[i32], ceiling: i64) -> Result<Ruled, R
             multipliers.as_ptr(),
             multipliers.len(),
             ceiling,
+            denominator,
             out.as_mut_ptr(),
             out.len(),
         )
@@ -436,7 +456,7 @@ pub struct Told {
     pub nodes: u64,
 }
 
-/// A search for the cheapest tour. It owns its record, 7,584 bytes on the heap.
+/// A search for the cheapest tour. It owns its record, 7,592 bytes on the heap.
 #[derive(Clone, Debug)]
 pub struct Search {
     record: Box<Record>,
@@ -466,7 +486,7 @@ impl Search {
         &self.record
     }
 
-    /// Opens a search of a graph with n multipliers; 24, 21, 15, 11, 12, 13, 14.
+    /// Opens a search of a graph with n multipliers; 24, 21, 15, 11, 12, 13, 14, 32.
     pub fn open(
         &mut self,
         graph: &Graph,

@@ -15,6 +15,8 @@ pub const PAIRS: usize = 16;
 pub const STUDENT: u64 = 65_535;
 /// The greatest spread of delays.
 pub const SPREAD: u64 = 1_000;
+/// The greatest denominator.
+pub const DENOMINATOR: u64 = 1_000;
 
 /// A call is accepted. No refusal has this number or one of those below.
 pub const ACCEPTED: u32 = 0;
@@ -52,13 +54,15 @@ pub struct Graph {
     pub m: u8,
 }
 
-/// What an opening takes beside the graph and the multipliers.
+/// What an opening takes beside the graph and the multipliers. These and the step count in parts of a cost's unit, so many as the denominator
+/// says; the ceiling counts in the unit itself.
 #[repr(C)]
 #[derive(Clone, Copy, PartialEq, Eq, Debug)]
 pub struct Settings {
     pub ceiling: i64,
     pub sweeps: u32,
     pub step: u32,
+    pub denominator: u64,
 }
 
 /// What a simulation answers. A field without a value is 0.
@@ -77,6 +81,7 @@ pub struct Sailed {
 pub struct Terms {
     pub ceiling: i64,
     pub budget: u64,
+    pub denominator: u64,
 }
 
 /// The record that the calls on a search work on (docs/RECORD.md). With contents that fail its check every call is refused 24.
@@ -106,13 +111,13 @@ macro_rules! layout {
 
 layout!(Said, 32, number at 0, place at 8, value at 16, nodes at 24);
 layout!(Graph, 1_332, cost at 0, a at 760, b at 950, mark at 1_140, n at 1_330, m at 1_331);
-layout!(Settings, 16, ceiling at 0, sweeps at 8, step at 12);
+layout!(Settings, 24, ceiling at 0, sweeps at 8, step at 12, denominator at 16);
 layout!(Sailed, 32, number at 0, place at 8, total at 16, state at 24);
-layout!(Terms, 16, ceiling at 0, budget at 8);
+layout!(Terms, 24, ceiling at 0, budget at 8, denominator at 16);
 layout!(
-    Record, 7_584,
-    settings at 0, upper at 16, count at 24, depth at 32, graph at 40, multipliers at 1_372, carried at 1_452, stack at 3_212, best at 7_392,
-    open at 7_582, has_best at 7_583
+    Record, 7_592,
+    settings at 0, upper at 24, count at 32, depth at 40, graph at 48, multipliers at 1_380, carried at 1_460, stack at 3_220, best at 7_400,
+    open at 7_590, has_best at 7_591
 );
 
 // A pointer must lead to as much memory as the call is told, also where the length is 0, and no two that are lent may overlap.
@@ -124,6 +129,7 @@ extern "C" {
         g: Graph,
         multipliers: *const i32,
         multipliers_length: usize,
+        denominator: u64,
         out: *mut u8,
         length: usize,
     ) -> Said;
@@ -131,6 +137,7 @@ extern "C" {
         g: Graph,
         multipliers: *const i32,
         multipliers_length: usize,
+        denominator: u64,
         edge: usize,
         mark: u32,
         out: *mut u8,
@@ -141,6 +148,7 @@ extern "C" {
         multipliers: *const i32,
         multipliers_length: usize,
         ceiling: i64,
+        denominator: u64,
         out: *mut u8,
         length: usize,
     ) -> Said;

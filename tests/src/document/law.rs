@@ -68,6 +68,34 @@ pub struct Law {
     /// C-11: "a copy of the chart with that mark"
     pub preview_marks: bool,
 
+    /// C-17: "a denominator q, 1 to 1,000"
+    pub min_denominator: u64,
+    pub max_denominator: u64,
+    /// C-17: "dues and step count in q-ths": neither is multiplied
+    pub multipliers_in_units: bool,
+    pub step_in_units: bool,
+    /// C-17: "The due range counts units."
+    pub range_counts_units: bool,
+    /// C-17: "the bound is scaled likewise", and answered so
+    pub bound_scaled: bool,
+    /// C-17: "it is compared with q × ceiling"
+    pub ceiling_scaled: bool,
+    /// C-17: and all of it is compared, not its whole minutes alone
+    pub parts_compared: bool,
+    /// C-17: U is a ceiling, in minutes too
+    pub upper_scaled: bool,
+    /// C-17: "the costs of rounds stay in minutes", and so does what is made of them
+    pub costs_in_minutes: bool,
+    pub upper_in_minutes: bool,
+    /// C-17: the preview takes q
+    pub preview_scaled: bool,
+    /// C-17: 32 is "tested after 14": before no other number
+    pub denominator_before: u32,
+    /// C-17: "in the preview, before 30"
+    pub denominator_before_leg: bool,
+    /// C-17: a record's q is such as an opening accepts
+    pub denominator_checked: bool,
+
     /// C-12: "ends as soon as those buoys are connected": with no part left to join
     pub parts_left: usize,
     /// C-12: and looks at no leg beyond
@@ -187,6 +215,21 @@ impl Law {
         max_new_mark: 2,
         preview_free_last: true,
         preview_marks: true,
+        min_denominator: 1,
+        max_denominator: 1_000,
+        multipliers_in_units: true,
+        step_in_units: true,
+        range_counts_units: true,
+        bound_scaled: true,
+        ceiling_scaled: true,
+        parts_compared: true,
+        upper_scaled: true,
+        costs_in_minutes: true,
+        upper_in_minutes: true,
+        preview_scaled: true,
+        denominator_before: 0,
+        denominator_before_leg: true,
+        denominator_checked: true,
         parts_left: 0,
         looked_beyond: 0,
         required_first: true,

@@ -18,7 +18,9 @@ pub struct Search {
     pub ceiling: i64,
     pub sweeps: u32,
     pub step: u32,
-    /// U
+    /// C-17's q
+    pub denominator: u64,
+    /// U, in minutes
     pub upper: i64,
     /// "a pile of waiting nodes", from bottom to top
     pub stack: Vec<Node>,
@@ -43,6 +45,7 @@ pub enum Call {
         ceiling: i64,
         sweeps: u32,
         step: u32,
+        denominator: u64,
     },
     Run {
         budget: u64,
@@ -93,6 +96,24 @@ impl Search {
         }
     }
 
+    /// The verdict as it is told: of C-17 "the costs of rounds stay in minutes".
+    fn told(&self, law: &Law) -> Verdict {
+        match self.verdict() {
+            Verdict::Cost(cost) if !law.costs_in_minutes => {
+                Verdict::Cost(self.denominator as i64 * cost)
+            }
+            verdict => verdict,
+        }
+    }
+
+    /// The highest bound, in q-ths, that is not above U.
+    fn top(&self, law: &Law) -> i64 {
+        match law.upper_scaled {
+            true => tree::top(law, self.upper, self.denominator),
+            false => self.upper,
+        }
+    }
+
     fn run(&mut self, law: &Law, method: Method, budget: u64) {
         let mut left = budget;
         while left > 0 && self.count < (1 << 63) - 1 {
@@ -119,18 +140,24 @@ impl Search {
         }
         for pass in 0..=self.sweeps {
             let graph = self.graph.with_marks(&marks);
-            let tree = match tree::least(law, method, &graph, &multipliers) {
-                Some(tree) if tree.bound <= self.upper => tree,
+            let tree = match tree::least(law, method, &graph, &multipliers, self.denominator) {
+                Some(tree) if tree.bound <= self.top(law) => tree,
                 _ => return,
             };
             if is_tour(&graph, &tree.edges) {
                 if law.upper_lowered {
-                    self.upper = cost(&graph, &tree.edges) - law.below_tour;
+                    let times = if law.upper_in_minutes {
+                        1
+                    } else {
+                        self.denominator
+                    };
+                    self.upper = times as i64 * cost(&graph, &tree.edges) - law.below_tour;
                 }
                 self.incumbent = Some(tree.edges);
                 return;
             }
-            let ruled = rulings::rule(law, method, &graph, &multipliers, self.upper);
+            let q = self.denominator;
+            let ruled = rulings::rule(law, method, &graph, &multipliers, q, self.upper);
             let Ruled::Bound { rulings, .. } = ruled else {
                 return;
             };
@@ -139,7 +166,9 @@ impl Search {
                 apply(&mut below.marks, &rulings);
             }
             if pass < self.sweeps || law.last_pass_gains {
-                adjust(law, &graph, &tree.edges, self.step, &mut multipliers);
+                let times = if law.step_in_units { 1 } else { q as u32 };
+                let step = times * self.step;
+                adjust(law, &graph, &tree.edges, step, &mut multipliers);
             }
             if !law.multipliers_apart {
                 self.shared = Some(multipliers.clone());
@@ -231,7 +260,7 @@ impl Machine {
                 })
             }
             Call::Tell => Ok(Answer::Told {
-                verdict: search.verdict(),
+                verdict: search.told(&law),
                 count: search.count,
             }),
             Call::Show { length } => show(&law, search, *length),
@@ -242,7 +271,7 @@ impl Machine {
         }
     }
 
-    /// Refusals 21, 15, 11, 12, 13, 14; then "Opening piles one node, the chart's marks; count 0, no
+    /// Refusals 21, 15, 11, 12, 13, 14 and, of C-17, 32; then "Opening piles one node, the chart's marks; count 0, no
     /// best, U the ceiling." Document 02, C-16: "the first node still has the opening dues".
     fn open(&mut self, call: &Call) -> Result<Answer, Refusal> {
         let Call::Open {
@@ -251,6 +280,7 @@ impl Machine {
             ceiling,
             sweeps,
             step,
+            denominator,
         } = call
         else {
             unreachable!("only an opening comes here");
@@ -258,19 +288,24 @@ impl Machine {
         if self.search.is_some() {
             return refuse(21, 0);
         }
-        tree::admit(&self.law, graph, multipliers, None)?;
-        if !ceiling_fits(&self.law, *ceiling) {
+        let (law, q) = (&self.law, *denominator);
+        tree::admit(law, graph, multipliers, q, None)?;
+        tree::admit_denominator_before(law, q, 13)?;
+        if !ceiling_fits(law, *ceiling) {
             return refuse(13, 0);
         }
-        if *sweeps > self.law.max_sweeps || *step > self.law.max_step {
+        tree::admit_denominator_before(law, q, 14)?;
+        if *sweeps > law.max_sweeps || *step > law.max_step {
             return refuse(14, 0);
         }
+        tree::admit_denominator(law, q)?;
         self.search = Some(Search {
             graph: Graph::from_edges(graph.n, &graph.edges()),
             multipliers: multipliers.clone(),
             ceiling: *ceiling,
             sweeps: *sweeps,
             step: *step,
+            denominator: *denominator,
             upper: *ceiling,
             stack: vec![Node {
                 marks: graph.marks(),

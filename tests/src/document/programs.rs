@@ -32,14 +32,14 @@ fn refused(refusal: Refusal) -> String {
     format!("refused {} at {}\n", refusal.number, refusal.place)
 }
 
-/// Program 'rulings'.
+/// Program 'rulings'. C-17: "q = 1, which the programs use".
 pub fn rulings(law: &Law, input: &[u8]) -> String {
     let (ceiling, graph) = match split(law, input) {
         Ok(parts) => parts,
         Err(refusal) => return refused(refusal),
     };
     let zeros = vec![0; graph.n];
-    match rulings::call(law, Method::Kruskal, &graph, &zeros, ceiling, graph.m) {
+    match rulings::call(law, Method::Kruskal, &graph, &zeros, 1, ceiling, graph.m) {
         Err(refusal) => refused(refusal),
         Ok(Ruled::Infeasible) => "dead\n".to_string(),
         Ok(Ruled::Bound { bound, rulings }) => {
@@ -67,6 +67,7 @@ pub fn search(law: &Law, input: &[u8]) -> String {
         ceiling,
         sweeps: 0,
         step: 0,
+        denominator: 1,
     };
     if let Answer::Refused(refusal) = machine.call(&open) {
         return refused(refusal);

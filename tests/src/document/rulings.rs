@@ -2,7 +2,10 @@
 
 use super::graph::{Graph, EXCLUDED, FREE, REQUIRED};
 use super::law::Law;
-use super::tree::{admit, all_one_trees, bound, kruskal, least, order, Method};
+use super::tree::{
+    admit, admit_denominator, admit_denominator_before, all_one_trees, bound, kruskal, least,
+    order, told, top, Method,
+};
 use super::{refuse, Refusal};
 
 pub const KEEP: u8 = 0;
@@ -41,8 +44,8 @@ fn ruling(mark: u8, some_with: bool, some_without: bool) -> u8 {
     }
 }
 
-fn by_definition(law: &Law, graph: &Graph, multipliers: &[i32], ceiling: i64) -> Ruled {
-    let all = all_one_trees(law, graph, multipliers);
+fn by_definition(law: &Law, graph: &Graph, multipliers: &[i32], q: u64, ceiling: i64) -> Ruled {
+    let all = all_one_trees(law, graph, multipliers, q);
     let Some(bound) = all.iter().map(|(_, bound)| *bound).min() else {
         return Ruled::Infeasible;
     };
@@ -99,20 +102,28 @@ fn by_marking(
     }
 }
 
-/// "The rule call": the graph, the multipliers and the ceiling must be fit. Kruskal sorts once: the
-/// order of the edges does not depend on marks.
-pub fn rule(law: &Law, method: Method, graph: &Graph, multipliers: &[i32], ceiling: i64) -> Ruled {
+/// "The rule call": the graph, the multipliers, the ceiling and q must be fit. Bounds are compared in q-ths. Kruskal
+/// sorts once: the order of the edges does not depend on marks.
+pub fn rule(
+    law: &Law,
+    method: Method,
+    graph: &Graph,
+    multipliers: &[i32],
+    q: u64,
+    ceiling: i64,
+) -> Ruled {
+    let ceiling = top(law, ceiling, q);
     match method {
-        Method::Definition => by_definition(law, graph, multipliers, ceiling),
+        Method::Definition => by_definition(law, graph, multipliers, q, ceiling),
         Method::Kruskal => {
-            let order = order(law, graph, multipliers);
+            let order = order(law, graph, multipliers, q);
             by_marking(law, graph, ceiling, |graph| {
                 let edges = kruskal(law, graph, &order)?;
-                Some(bound(law, graph, multipliers, &edges))
+                Some(bound(law, graph, multipliers, q, &edges))
             })
         }
         Method::Prim => by_marking(law, graph, ceiling, |graph| {
-            least(law, Method::Prim, graph, multipliers).map(|tree| tree.bound)
+            least(law, Method::Prim, graph, multipliers, q).map(|tree| tree.bound)
         }),
     }
 }
@@ -122,18 +133,27 @@ pub fn ceiling_fits(law: &Law, ceiling: i64) -> bool {
     (-law.max_ceiling..=law.max_ceiling).contains(&ceiling)
 }
 
-/// The rule call on a lent list of `length` bytes.
+/// The rule call on a lent list of `length` bytes. C-17 adds 32 at the end.
 pub fn call(
     law: &Law,
     method: Method,
     graph: &Graph,
     multipliers: &[i32],
+    q: u64,
     ceiling: i64,
     length: usize,
 ) -> Result<Ruled, Refusal> {
-    admit(law, graph, multipliers, Some(length))?;
+    admit(law, graph, multipliers, q, Some(length))?;
+    admit_denominator_before(law, q, 13)?;
     if !ceiling_fits(law, ceiling) {
         return refuse(13, 0);
     }
-    Ok(rule(law, method, graph, multipliers, ceiling))
+    admit_denominator(law, q)?;
+    Ok(match rule(law, method, graph, multipliers, q, ceiling) {
+        Ruled::Bound { bound, rulings } => Ruled::Bound {
+            bound: told(law, bound, q),
+            rulings,
+        },
+        Ruled::Infeasible => Ruled::Infeasible,
+    })
 }

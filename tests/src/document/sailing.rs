@@ -130,6 +130,7 @@ pub struct Trial {
     pub multipliers: Vec<i32>,
     pub ceiling: i64,
     pub budget: u64,
+    pub denominator: u64,
     pub sweeps: Vec<u32>,
     pub steps: Vec<u32>,
     /// how many entries the report has
@@ -137,7 +138,7 @@ pub struct Trial {
 }
 
 /// "it reports the count with which each pair's hunt finishes, or 0 if still going on after the whole allowance. .. No pairs, or more than 16, come
-/// under 11, as do .. a report list without one entry a pair."
+/// under 11, as do .. a report list without one entry a pair." It takes the arguments of opening, so of C-17 q too, and 32 comes after 14.
 pub fn compare(law: &Law, method: Method, trial: &Trial) -> Result<Vec<u64>, Refusal> {
     let pairs = trial.sweeps.len();
     let wrong_pairs = !(1..=law.max_pairs).contains(&pairs)
@@ -147,10 +148,13 @@ pub fn compare(law: &Law, method: Method, trial: &Trial) -> Result<Vec<u64>, Ref
     if wrong_pairs && (fits(law, graph) || !law.value_before_length) {
         return refuse(11, 0);
     }
-    tree::admit(law, graph, multipliers, None)?;
+    let q = trial.denominator;
+    tree::admit(law, graph, multipliers, q, None)?;
+    tree::admit_denominator_before(law, q, 13)?;
     if !ceiling_fits(law, trial.ceiling) {
         return refuse(13, 0);
     }
+    tree::admit_denominator_before(law, q, 14)?;
     let mut counts = Vec::new();
     let mut left = trial.budget;
     let openings = trial.sweeps.iter().zip(&trial.steps);
@@ -159,6 +163,7 @@ pub fn compare(law: &Law, method: Method, trial: &Trial) -> Result<Vec<u64>, Ref
             return refuse(14, 0);
         }
     }
+    tree::admit_denominator(law, q)?;
     for (sweeps, step) in openings {
         let mut machine = Machine::new(law, method);
         machine.call(&Call::Open {
@@ -167,6 +172,7 @@ pub fn compare(law: &Law, method: Method, trial: &Trial) -> Result<Vec<u64>, Ref
             ceiling: trial.ceiling,
             sweeps: *sweeps,
             step: *step,
+            denominator: q,
         });
         let Answer::Ran { finished, count } = machine.call(&Call::Run { budget: left }) else {
             unreachable!("the opening was tested");

@@ -69,6 +69,7 @@ pub fn compare(trial: &Trial) -> ComparedReply {
     let terms = Terms {
         ceiling: trial.ceiling,
         budget: trial.budget,
+        denominator: trial.denominator,
     };
     let said = call!(planner_compare(
         g,

@@ -38,11 +38,13 @@ impl Record {
                 ceiling,
                 sweeps,
                 step,
+                denominator,
             } => {
                 let settings = Settings {
                     ceiling: *ceiling,
                     sweeps: *sweeps,
                     step: *step,
+                    denominator: *denominator,
                 };
                 let g = by_value(graph);
                 let mut given = Lent::numbers(multipliers);

@@ -22,16 +22,17 @@ fn lending(
     }
 }
 
-pub fn tree(graph: &Graph, multipliers: &[i32], length: usize) -> Reply {
+pub fn tree(graph: &Graph, multipliers: &[i32], q: u64, length: usize) -> Reply {
     let g = by_value(graph);
     lending(multipliers, length, |d, out| {
-        call!(planner_tree(g, d, multipliers.len(), out, length))
+        call!(planner_tree(g, d, multipliers.len(), q, out, length))
     })
 }
 
 pub fn preview(
     graph: &Graph,
     multipliers: &[i32],
+    q: u64,
     (leg, mark): (usize, u32),
     length: usize,
 ) -> Reply {
@@ -41,6 +42,7 @@ pub fn preview(
             g,
             d,
             multipliers.len(),
+            q,
             leg,
             mark,
             out,
@@ -49,9 +51,17 @@ pub fn preview(
     })
 }
 
-pub fn rule(graph: &Graph, multipliers: &[i32], ceiling: i64, length: usize) -> Reply {
+pub fn rule(graph: &Graph, multipliers: &[i32], q: u64, ceiling: i64, length: usize) -> Reply {
     let g = by_value(graph);
     lending(multipliers, length, |d, out| {
-        call!(planner_rule(g, d, multipliers.len(), ceiling, out, length))
+        call!(planner_rule(
+            g,
+            d,
+            multipliers.len(),
+            ceiling,
+            q,
+            out,
+            length
+        ))
     })
 }

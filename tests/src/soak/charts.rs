@@ -52,6 +52,11 @@ pub const VALUES: Kind = Kind {
         bends::NUMBERS_BEFORE_ORDER,
         bends::DELAY_BEFORE_STEP,
         bends::ONE_BUDGET,
+        bends::BOUND_DIVIDED,
+        bends::CEILING_NOT_SCALED,
+        bends::HIGHER_DENOMINATOR,
+        bends::DENOMINATOR_BEFORE_CEILING,
+        bends::LEG_BEFORE_DENOMINATOR,
     ],
 };
 
@@ -116,30 +121,31 @@ fn values(random: &mut Random, watch: &mut Watch) -> Outcome {
     let Arguments {
         graph,
         multipliers,
+        denominator: q,
         ceiling,
         length,
     } = &given;
     let input = || {
         format!(
-            "{graph:?}, multipliers {multipliers:?}, ceiling {ceiling}, a list of {length} bytes"
+            "{graph:?}, multipliers {multipliers:?}, denominator {q}, ceiling {ceiling}, a list of {length} bytes"
         )
     };
     let expected = check::expected(watch.law, graph);
     watch.compare("check", input, expected, || ffi::check(graph))?;
     written(watch, graph, *length)?;
-    let expected = tree::expected(watch.law, Method::Kruskal, graph, multipliers, *length);
+    let expected = tree::expected(watch.law, Method::Kruskal, graph, multipliers, *q, *length);
     watch.compare("tree", input, expected, || {
-        trees::tree(graph, multipliers, *length)
+        trees::tree(graph, multipliers, *q, *length)
     })?;
     let asked = preview::asked(random, graph);
     let (law, method) = (watch.law, Method::Kruskal);
-    let expected = preview::expected(law, method, graph, multipliers, asked, *length);
+    let expected = preview::expected(law, method, graph, multipliers, *q, asked, *length);
     watch.compare("preview", input, expected, || {
-        trees::preview(graph, multipliers, asked, *length)
+        trees::preview(graph, multipliers, *q, asked, *length)
     })?;
     let expected = rule::expected(watch.law, Method::Kruskal, &given);
     watch.compare("rule", input, expected, || {
-        trees::rule(graph, multipliers, *ceiling, *length)
+        trees::rule(graph, multipliers, *q, *ceiling, *length)
     })?;
     logs(random, watch, graph)?;
     sailings(random, watch)
@@ -179,7 +185,7 @@ fn sailings(random: &mut Random, watch: &mut Watch) -> Outcome {
 /// The ends of every type, any contents at all, and lists that are wrong by one, empty or far too long.
 fn exaggerate(random: &mut Random, given: &mut Arguments) {
     let graph = &mut given.graph;
-    match random.below(16) {
+    match random.below(17) {
         0 => {
             let end = random.pick(&[i32::MIN, i32::MAX, 0]);
             given.multipliers.iter_mut().for_each(|d| *d ^= end);
@@ -202,6 +208,7 @@ fn exaggerate(random: &mut Random, given: &mut Arguments) {
         11 => given.length = random.pick(&[given.length + 1, given.length.saturating_sub(1)]),
         12 => given.length = random.pick(&[0, OVER_LONG]),
         13 => generate::junk_past_m(random, graph),
+        14 => given.denominator = random.word() >> random.below(64),
         _ => {}
     }
 }

@@ -27,6 +27,7 @@ pub const RECORDS: Kind = Kind {
         bends::JUNK_PAST_DEPTH,
         bends::CARRIED_NOT_JUDGED,
         bends::CARRIED_PAST_N,
+        bends::HIGHER_DENOMINATOR,
     ],
 };
 
@@ -43,6 +44,8 @@ pub const LISTS: Kind = Kind {
         bends::UPPER_NOT_LOWERED,
         bends::LENGTH_BEFORE_RECORD,
         bends::MORE_SWEEPS,
+        bends::UPPER_IN_PARTS,
+        bends::STEP_TIMES,
     ],
 };
 
@@ -70,7 +73,7 @@ fn hostile_record(random: &mut Random) -> Record {
     let mut record = sound(random);
     let mut bytes = record.bytes();
     let (at, other) = (a_place(random, &bytes), a_place(random, &bytes));
-    match random.below(9) {
+    match random.below(12) {
         0..=2 => bytes[at] ^= 1 << random.below(8),
         3 | 4 => bytes[at..].copy_from_slice(&sound(random).bytes()[at..]),
         5 => random.fill(&mut bytes[at.min(other)..at.max(other)]),

@@ -28,6 +28,11 @@ pub const SUITE: Suite = Suite {
         bends::FIRST_MULTIPLIER_FREE,
         bends::LENGTH_BEFORE_RECORD,
         bends::HIGHER_NUMBERED_FIRST,
+        bends::COSTS_IN_PARTS,
+        bends::UPPER_IN_PARTS,
+        bends::STEP_TIMES,
+        bends::DENOMINATOR_OF_ZERO,
+        bends::DENOMINATOR_BEFORE_STEP,
     ],
 };
 

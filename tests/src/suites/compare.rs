@@ -23,6 +23,13 @@ pub const SUITE: Suite = Suite {
         bends::UPPER_AT_COST,
         bends::LENGTH_BEFORE_VALUE,
         bends::HIGHER_MULTIPLIER,
+        bends::CEILING_NOT_SCALED,
+        bends::STEP_TIMES,
+        bends::DENOMINATOR_OF_ZERO,
+        bends::HIGHER_DENOMINATOR,
+        bends::DENOMINATOR_BEFORE_MULTIPLIERS,
+        bends::DENOMINATOR_BEFORE_CEILING,
+        bends::DENOMINATOR_BEFORE_STEP,
     ],
 };
 
@@ -43,6 +50,7 @@ pub fn trial(random: &mut Random, wrong: bool) -> Trial {
     let Arguments {
         graph,
         multipliers,
+        denominator,
         ceiling,
         ..
     } = arguments(random, true, false);
@@ -53,6 +61,7 @@ pub fn trial(random: &mut Random, wrong: bool) -> Trial {
         multipliers,
         ceiling,
         budget: random.pick(&[0, 1, 2, 3, 5, 8, 40, 300]),
+        denominator,
         sweeps: (0..pairs).map(|_| random.pick(&[0, 0, 1, 2, 15])).collect(),
         steps: (0..pairs)
             .map(|_| random.pick(&[0, 1, 3, 100, 10_000]))
@@ -67,7 +76,7 @@ pub fn trial(random: &mut Random, wrong: bool) -> Trial {
 
 fn damage(random: &mut Random, trial: &mut Trial) {
     let last = trial.sweeps.len().saturating_sub(1);
-    match random.below(9) {
+    match random.below(10) {
         0 => generate::break_value(random, &mut trial.graph),
         1 => trial.multipliers.push(0),
         2 => generate::break_multipliers(random, &mut trial.multipliers),
@@ -80,7 +89,8 @@ fn damage(random: &mut Random, trial: &mut Trial) {
             trial.steps.resize(pairs, 0);
             trial.length = pairs;
         }
-        7 if !trial.sweeps.is_empty() => trial.sweeps[last] = random.pick(&[16, 17, u32::MAX]),
+        7 => trial.denominator = generate::wrong_denominator(random),
+        8 if !trial.sweeps.is_empty() => trial.sweeps[last] = random.pick(&[16, 17, u32::MAX]),
         _ if !trial.steps.is_empty() => {
             let place = random.below(trial.steps.len());
             trial.steps[place] = random.pick(&[10_001, u32::MAX]);
@@ -113,6 +123,7 @@ fn facts(law: &Law, tally: &mut Tally) -> Outcome {
             multipliers: vec![0; 4],
             ceiling,
             budget: 5,
+            denominator: 1,
             sweeps: vec![0, 0, 1, 2, 15, 15],
             steps: vec![0, 10_000, 1, 1, 1, 10],
             length: 6,

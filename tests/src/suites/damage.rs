@@ -6,7 +6,9 @@ use crate::document::law::Law;
 use crate::document::machine::{Call, Machine, Node};
 use crate::document::tree::Method;
 use crate::ffi::{only, Reply};
-use crate::generate::{self, past, wrong_ceiling, MAX_CEILING, MAX_COST, MAX_MULTIPLIER};
+use crate::generate::{
+    self, past, wrong_ceiling, MAX_CEILING, MAX_COST, MAX_DENOMINATOR, MAX_MULTIPLIER,
+};
 use crate::random::Random;
 use crate::record::{Record, CARRIED, NODES, STACK, VERTICES};
 use crate::report::{Outcome, Suite, Tally};
@@ -31,6 +33,10 @@ pub const SUITE: Suite = Suite {
         bends::JUNK_PAST_DEPTH,
         bends::CARRIED_NOT_JUDGED,
         bends::CARRIED_PAST_N,
+        bends::DENOMINATOR_OF_ZERO,
+        bends::HIGHER_DENOMINATOR,
+        bends::DENOMINATOR_NOT_CHECKED,
+        bends::RANGE_IN_MINUTES,
     ],
 };
 
@@ -80,7 +86,7 @@ pub fn harm(random: &mut Random, record: &mut Record) {
     let node = PLACES * random.below(record.depth.clamp(1, NODES));
     let mut marks = record.stack[node..node + PLACES].iter_mut();
     let required = marks.find(|mark| **mark == REQUIRED);
-    match random.below(19) {
+    match random.below(20) {
         0 => record.open = byte,
         1 => record.graph.n = random.pick(&[0, 2, 3, 4, 20, 21, 255]),
         2 => record.graph.m = random.pick(&[0, m - 1, m + 1, 190, 191, 255]),
@@ -99,6 +105,10 @@ pub fn harm(random: &mut Random, record: &mut Record) {
         15 => record.best[k] = byte,
         16 => record.carried[number] = about(random, MAX_MULTIPLIER),
         17 => required.into_iter().for_each(|mark| *mark = FREE),
+        18 => {
+            let wrong = generate::wrong_denominator(random);
+            record.denominator = random.pick(&[1, 2, MAX_DENOMINATOR, wrong, wrong, wrong]);
+        }
         _ => record.count = random.pick(&[0, 1, (1 << 63) - 1, 1 << 63, u64::MAX]),
     }
 }
@@ -251,6 +261,7 @@ fn waiting(random: &mut Random, n: usize, depth: usize) -> Record {
         ceiling: 0,
         sweeps: 0,
         step: 0,
+        denominator: generate::denominator(random),
     });
     if let Some(search) = &mut machine.search {
         search.stack = (0..depth)

@@ -23,6 +23,8 @@ pub const SUITE: Suite = Suite {
         bends::FORMER_CEILING,
         bends::FORMER_COST,
         bends::CHEAP_NO_REPLACEMENT,
+        bends::CEILING_NOT_SCALED,
+        bends::MULTIPLIERS_TIMES,
     ],
 };
 
@@ -79,33 +81,51 @@ fn trees(law: &Law, method: Method, tally: &mut Tally) -> Outcome {
         })
     };
     let cases = [
-        ("zero multipliers", four(), vec![0; 4], tree(10)),
-        ("d(3) = 1, d(4) = -1", four(), vec![0, 0, 1, -1], tree(12)),
-        ("three vertices, no edge", free(3, &[]), vec![0; 3], None),
-        ("three required at vertex 1", required, vec![0; 4], None),
+        ("zero multipliers", four(), vec![0; 4], 1, tree(10)),
+        (
+            "d(3) = 1, d(4) = -1",
+            four(),
+            vec![0, 0, 1, -1],
+            1,
+            tree(12),
+        ),
+        ("the same in halves", four(), vec![0, 0, 1, -1], 2, tree(22)),
+        (
+            "in thousandths",
+            four(),
+            vec![0, 0, 1, -1],
+            1_000,
+            tree(10_002),
+        ),
+        ("three vertices, no edge", free(3, &[]), vec![0; 3], 1, None),
+        ("three required at vertex 1", required, vec![0; 4], 1, None),
     ];
-    for (case, graph, multipliers, expected) in cases {
-        let got = least(law, method, &graph, &multipliers);
-        let input = || format!("{method:?}, {graph:?}, {multipliers:?}");
+    for (case, graph, multipliers, q, expected) in cases {
+        let got = least(law, method, &graph, &multipliers, q);
+        let input = || format!("{method:?}, {graph:?}, {multipliers:?}, {q}");
         tally.compare(case, input, &expected, &got)?;
     }
     Ok(())
 }
 
 fn rulings(law: &Law, method: Method, tally: &mut Tally) -> Outcome {
-    let ruled = |rulings: [u8; 6]| Ruled::Bound {
-        bound: 10,
+    let ruled = |bound: i64, rulings: [u8; 6]| Ruled::Bound {
+        bound,
         rulings: rulings.to_vec(),
     };
+    let (zeros, halves) = (([0; 4], 1), ([0, 0, 1, -1], 2));
     let cases = [
-        (14, ruled([0, 0, 0, 0, 0, 1])),
-        (12, ruled([0, 0, 0, 1, 2, 1])),
-        (10, ruled([1, 1, 2, 1, 2, 1])),
-        (9, Ruled::Infeasible),
+        (zeros, 14, ruled(10, [0, 0, 0, 0, 0, 1])),
+        (zeros, 12, ruled(10, [0, 0, 0, 1, 2, 1])),
+        (zeros, 10, ruled(10, [1, 1, 2, 1, 2, 1])),
+        (zeros, 9, Ruled::Infeasible),
+        // d(3) and d(4) of half a minute: the bound is 11 minutes
+        (halves, 11, ruled(22, [1, 1, 2, 1, 2, 1])),
+        (halves, 10, Ruled::Infeasible),
     ];
-    for (ceiling, expected) in cases {
-        let got = rule(law, method, &four(), &[0; 4], ceiling);
-        let input = || format!("{method:?}, {:?}, ceiling {ceiling}", four());
+    for ((multipliers, q), ceiling, expected) in cases {
+        let got = rule(law, method, &four(), &multipliers, q, ceiling);
+        let input = || format!("{method:?}, {multipliers:?}, {q}, ceiling {ceiling}");
         tally.compare("rulings", input, &expected, &got)?;
     }
     Ok(())
@@ -128,6 +148,7 @@ fn searches(law: &Law, method: Method, tally: &mut Tally) -> Outcome {
             ceiling,
             sweeps: 0,
             step: 0,
+            denominator: 1,
         });
         machine.call(&Call::Run { budget: u64::MAX });
         let got = machine.call(&Call::Tell);

@@ -48,19 +48,20 @@ fn run(law: &Law, tally: &mut Tally) -> Outcome {
     for round in 0..6_000 {
         let graph = graph_for(random, round % 2 == 0);
         let multipliers = generate::multipliers(random, graph.n);
+        let q = generate::denominator(random);
         let mut ceilings = Vec::with_capacity(CEILINGS);
         for _ in 0..CEILINGS {
-            ceilings.push(turning_ceiling(random, &graph, &multipliers));
+            ceilings.push(turning_ceiling(random, &graph, &multipliers, q));
         }
         ceilings.sort_unstable_by(|x, y| y.cmp(x));
         let replies: Vec<Reply> = ceilings
             .iter()
-            .map(|ceiling| rule(&graph, &multipliers, *ceiling, graph.m))
+            .map(|ceiling| rule(&graph, &multipliers, q, *ceiling, graph.m))
             .collect();
         for (at, pair) in replies.windows(2).enumerate() {
             let input = || {
                 let (high, low) = (ceilings[at], ceilings[at + 1]);
-                format!("{graph:?}, multipliers {multipliers:?}, ceilings {high} and {low}")
+                format!("{graph:?}, multipliers {multipliers:?}, denominator {q}, ceilings {high} and {low}")
             };
             let (high, low) = (&pair[0], &pair[1]);
             if high.said.number == NONE {

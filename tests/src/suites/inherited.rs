@@ -52,6 +52,7 @@ fn calls(random: &mut Random, graph: &Graph) -> Vec<Call> {
         ceiling: random.pick(&[generate::MAX_CEILING, 60, 30, 12]),
         sweeps: random.pick(&[1, 1, 1, 2, 3, 5]),
         step: random.pick(&STEPS),
+        denominator: random.pick(&[1, 1, 2, 7]),
     };
     let mut list = vec![open];
     for _ in 0..2 + random.below(8) {
@@ -107,6 +108,7 @@ fn separating(law: &Law, tally: &mut Tally) -> Outcome {
         ceiling: 40,
         sweeps: 1,
         step: 2,
+        denominator: 1,
     };
     let counts = [
         (Law::AS_WRITTEN, 11),

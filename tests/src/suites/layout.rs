@@ -123,23 +123,29 @@ fn record_fields(search: &Search, named: &raw::Record) -> Vec<Field> {
         number("ceiling", 0, search.ceiling, settings.ceiling),
         half("sweeps", 8, search.sweeps, settings.sweeps),
         half("step", 12, search.step, settings.step),
-        number("upper", 16, search.upper, named.upper),
-        number("count", 24, search.count as i64, named.count as i64),
-        number("depth", 32, waiting as i64, named.depth as i64),
+        number(
+            "denominator",
+            16,
+            search.denominator as i64,
+            settings.denominator as i64,
+        ),
+        number("upper", 24, search.upper, named.upper),
+        number("count", 32, search.count as i64, named.count as i64),
+        number("depth", 40, waiting as i64, named.depth as i64),
     ];
-    fields.extend(graph_fields(40, &search.graph, &named.graph));
+    fields.extend(graph_fields(48, &search.graph, &named.graph));
     fields.extend([
         field(
             "multipliers",
-            1_372,
+            1_380,
             multipliers,
             &numbers(&named.multipliers),
         ),
-        field("carried", 1_452, carried, &numbers(&named.carried)),
-        field("stack", 3_212, stack, &named.stack),
-        field("best", 7_392, best, &named.best),
-        field("open", 7_582, vec![1], &[named.open]),
-        field("has_best", 7_583, vec![1], &[named.has_best]),
+        field("carried", 1_460, carried, &numbers(&named.carried)),
+        field("stack", 3_220, stack, &named.stack),
+        field("best", 7_400, best, &named.best),
+        field("open", 7_590, vec![1], &[named.open]),
+        field("has_best", 7_591, vec![1], &[named.has_best]),
     ]);
     fields
 }
@@ -192,6 +198,7 @@ fn record_left(law: &Law, tally: &mut Tally, random: &mut Random) -> Result<bool
         ceiling: generate::MAX_CEILING - random.below(1_000) as i64,
         sweeps: 1 + random.below(3) as u32,
         step: 7 + random.below(900) as u32,
+        denominator: generate::denominator(random),
     };
     let (mut machine, mut search) = (Machine::new(law, Method::Kruskal), planner::Search::fresh());
     let mut next = &open;

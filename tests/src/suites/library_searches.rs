@@ -1,5 +1,5 @@
 //! Searches through the library: the verdict against all tours; two searches of one graph, with its edges in two orders, other multipliers,
-//! sweeps and steps, agree.
+//! sweeps, steps and denominators, agree.
 
 use super::searches::opening;
 use crate::bends;
@@ -17,7 +17,11 @@ use planner::raw::{BEST, FINISHED, NO_TOUR};
 pub const SUITE: Suite = Suite {
     name: "library searches",
     run,
-    bends: &[bends::UPPER_TOO_LOW, bends::MARKS_FROM_BELOW],
+    bends: &[
+        bends::UPPER_TOO_LOW,
+        bends::MARKS_FROM_BELOW,
+        bends::UPPER_NOT_SCALED,
+    ],
 };
 
 fn run(law: &Law, tally: &mut Tally) -> Outcome {

@@ -1,4 +1,4 @@
-//! The ends of every range (document 02, C-14): answers written down by hand, held to the library and, with the bends, to the reference.
+//! The ends of every range (document 02, C-14; with every limit of C-17's denominator): answers written down by hand, held to the library and, with the bends, to the reference.
 
 use super::facts::free;
 use crate::bends;
@@ -29,6 +29,15 @@ pub const SUITE: Suite = Suite {
         bends::CHEAP_NO_REPLACEMENT,
         bends::CEILING_NOT_WITHIN,
         bends::MULTIPLIERS_OFF_ONCE,
+        bends::BOUND_DIVIDED,
+        bends::CEILING_NOT_SCALED,
+        bends::PARTS_NOT_COMPARED,
+        bends::NO_REPLACEMENT_OF_ONE,
+        bends::MULTIPLIERS_TIMES,
+        bends::RANGE_IN_MINUTES,
+        bends::COSTS_IN_PARTS,
+        bends::UPPER_IN_PARTS,
+        bends::UPPER_NOT_SCALED,
     ],
 };
 
@@ -55,6 +64,8 @@ struct Sea {
     what: &'static str,
     graph: Graph,
     multipliers: Vec<i32>,
+    denominator: u64,
+    /// in q-ths
     bound: i64,
     rulings: Vec<(i64, Says)>,
 }
@@ -86,15 +97,22 @@ fn others(n: usize, multiplier: i32) -> Vec<i32> {
     all
 }
 
-fn seas() -> Vec<Sea> {
+/// The lowest ceiling that a bound in q-ths is not above.
+fn up(bound: i64, q: i64) -> i64 {
+    -(-bound).div_euclid(q)
+}
+
+fn seas(denominator: u64) -> Vec<Sea> {
     let mut seas = Vec::new();
+    let q = denominator as i64;
     for cost in [0, COST, -COST] {
         let total = 3 * cost as i64;
         seas.push(Sea {
             what: "three edges and no other 1-tree",
             graph: ring(3, cost),
             multipliers: vec![0; 3],
-            bound: total,
+            denominator,
+            bound: q * total,
             rulings: vec![
                 (CEILING, FORCE),
                 (total, FORCE),
@@ -108,14 +126,16 @@ fn seas() -> Vec<Sea> {
                 what: "every edge of 20 vertices",
                 graph: complete(20, cost),
                 multipliers: others(20, multiplier),
-                bound: total,
+                denominator,
+                bound: q * total,
                 rulings: vec![(CEILING, KEEP), (total - 1, Dead), (-CEILING, Dead)],
             });
             seas.push(Sea {
                 what: "a ring of 20",
                 graph: ring(20, cost),
                 multipliers: others(20, multiplier),
-                bound: total,
+                denominator,
+                bound: q * total,
                 rulings: vec![(CEILING, FORCE), (total, FORCE), (total - 1, Dead)],
             });
         }
@@ -123,13 +143,15 @@ fn seas() -> Vec<Sea> {
         for multiplier in [MULTIPLIER, -MULTIPLIER] {
             let mut multipliers = others(20, -multiplier);
             (multipliers[1], multipliers[2]) = (multiplier, 0);
-            let bound = total + 34 * multiplier as i64;
+            let bound = q * total + 34 * multiplier as i64;
+            let lowest = up(bound, q);
             seas.push(Sea {
                 what: "a star of 20",
                 graph: star(20, cost),
                 multipliers,
+                denominator,
                 bound,
-                rulings: vec![(CEILING, FORCE), (bound, FORCE), (bound - 1, Dead)],
+                rulings: vec![(CEILING, FORCE), (lowest, FORCE), (lowest - 1, Dead)],
             });
         }
     }
@@ -145,7 +167,8 @@ fn seas() -> Vec<Sea> {
         what: "both ends of the costs",
         graph: free(4, &ends),
         multipliers: vec![0; 4],
-        bound: -400_000_000,
+        denominator,
+        bound: -400_000_000 * q,
         rulings: vec![
             (CEILING, KEEP),
             (-200_000_000, KEEP),
@@ -154,17 +177,21 @@ fn seas() -> Vec<Sea> {
             (-400_000_001, Dead),
         ],
     });
+    let (bound, turn) = (-400_000_000 * q - 2_000_000, -200_000_000 * q - 2_000_000);
     seas.push(Sea {
         what: "both ends of the costs and of the multipliers",
         graph: free(4, &ends),
         multipliers: vec![0, -MULTIPLIER, -MULTIPLIER, MULTIPLIER],
-        bound: -402_000_000,
+        denominator,
+        bound,
         rulings: vec![
             (CEILING, KEEP),
             (-200_000_000, KEEP),
             (-200_000_001, Each(&[1, 1, 2, 1, 0, 0])),
-            (-202_000_001, Each(&[1, 1, 2, 1, 2, 1])),
-            (-402_000_001, Dead),
+            (up(turn, q), Each(&[1, 1, 2, 1, 0, 0])),
+            (up(turn, q) - 1, Each(&[1, 1, 2, 1, 2, 1])),
+            (up(bound, q), Each(&[1, 1, 2, 1, 2, 1])),
+            (up(bound, q) - 1, Dead),
         ],
     });
     seas
@@ -189,7 +216,7 @@ fn searches() -> Vec<(Graph, i64, Verdict)> {
 }
 
 fn run(law: &Law, tally: &mut Tally) -> Outcome {
-    for sea in seas() {
+    for sea in [1, 7, 1_000].into_iter().flat_map(seas) {
         bounds(law, tally, &sea)?;
         for (ceiling, says) in &sea.rulings {
             ruled(law, tally, &sea, *ceiling, says)?;
@@ -200,7 +227,9 @@ fn run(law: &Law, tally: &mut Tally) -> Outcome {
         }
     }
     for (graph, ceiling, verdict) in searches() {
-        searched(law, tally, &graph, ceiling, verdict)?;
+        for q in [1, 7, 1_000] {
+            searched(law, tally, &graph, q, ceiling, verdict)?;
+        }
     }
     beyond(law, tally)
 }
@@ -210,9 +239,10 @@ fn shown(sea: &Sea, ceiling: Option<i64>) -> String {
         what,
         graph,
         multipliers,
+        denominator,
         ..
     } = sea;
-    format!("{what}: {graph:?}, multipliers {multipliers:?}, ceiling {ceiling:?}")
+    format!("{what}: {graph:?}, multipliers {multipliers:?}, denominator {denominator}, ceiling {ceiling:?}")
 }
 
 /// A reply that changes the whole list, or nothing.
@@ -226,11 +256,11 @@ fn said(said: planner::raw::Said, out: Option<Vec<u8>>) -> Reply {
 
 /// The tree call; which edges it takes is the reference's to say.
 fn bounds(law: &Law, tally: &mut Tally, sea: &Sea) -> Outcome {
-    let (graph, d) = (&sea.graph, &sea.multipliers);
+    let (graph, d, q) = (&sea.graph, &sea.multipliers, sea.denominator);
     let input = || shown(sea, None);
-    let got = tree(graph, d, graph.m);
+    let got = tree(graph, d, q, graph.m);
     tally.compare("bound", input, &bound(sea.bound), &got.said)?;
-    let expected = match tree::call(law, Method::Kruskal, graph, d, graph.m) {
+    let expected = match tree::call(law, Method::Kruskal, graph, d, q, graph.m) {
         Ok(Some(Tree {
             bound: least,
             edges,
@@ -243,7 +273,7 @@ fn bounds(law: &Law, tally: &mut Tally, sea: &Sea) -> Outcome {
 
 /// The rule call, and what the reference says of it.
 fn ruled(law: &Law, tally: &mut Tally, sea: &Sea, ceiling: i64, says: &Says) -> Outcome {
-    let (graph, d) = (&sea.graph, &sea.multipliers);
+    let (graph, d, q) = (&sea.graph, &sea.multipliers, sea.denominator);
     let expected = match says {
         Says::Refused => said(only(13), None),
         Says::Dead => said(only(NONE), None),
@@ -251,12 +281,13 @@ fn ruled(law: &Law, tally: &mut Tally, sea: &Sea, ceiling: i64, says: &Says) -> 
         Says::Each(rulings) => said(bound(sea.bound), Some(rulings.to_vec())),
     };
     let input = || shown(sea, Some(ceiling));
-    tally.compare("rule", input, &expected, &rule(graph, d, ceiling, graph.m))?;
+    let got = rule(graph, d, q, ceiling, graph.m);
+    tally.compare("rule", input, &expected, &got)?;
     for method in [Method::Definition, Method::Kruskal, Method::Prim] {
         if method == Method::Definition && graph.m > 16 {
             continue;
         }
-        let reference = match rulings::call(law, method, graph, d, ceiling, graph.m) {
+        let reference = match rulings::call(law, method, graph, d, q, ceiling, graph.m) {
             Ok(Ruled::Bound {
                 bound: least,
                 rulings,
@@ -275,10 +306,11 @@ fn searched(
     law: &Law,
     tally: &mut Tally,
     graph: &Graph,
+    q: u64,
     ceiling: i64,
     verdict: Verdict,
 ) -> Outcome {
-    let open = opening(graph, ceiling);
+    let open = opening(graph, q, ceiling);
     let input = || format!("{open:?}");
     let told = Answer::Told { verdict, count: 1 };
     let finished = Answer::Ran {
@@ -299,13 +331,14 @@ fn searched(
     tally.compare("passes its check", input, &true, &record.passes(law))
 }
 
-fn opening(graph: &Graph, ceiling: i64) -> Call {
+fn opening(graph: &Graph, denominator: u64, ceiling: i64) -> Call {
     Call::Open {
         graph: Box::new(graph.clone()),
         multipliers: vec![0; graph.n],
         ceiling,
         sweeps: 0,
         step: 0,
+        denominator,
     }
 }
 
@@ -318,14 +351,14 @@ fn beyond(law: &Law, tally: &mut Tally) -> Outcome {
         let input = || format!("{graph:?}");
         let unfit = said(only(15), None);
         tally.compare("check", input, &unfit, &check(&graph))?;
-        tally.compare("tree", input, &unfit, &tree(&graph, &[0; 3], 3))?;
+        tally.compare("tree", input, &unfit, &tree(&graph, &[0; 3], 0, 3))?;
         tally.compare(
             "rule",
             input,
             &unfit,
-            &rule(&graph, &[0; 3], CEILING + 1, 3),
+            &rule(&graph, &[0; 3], 0, CEILING + 1, 3),
         )?;
-        refuses(law, tally, &opening(&graph, CEILING + 1), 15)?;
+        refuses(law, tally, &opening(&graph, 0, CEILING + 1), 15)?;
         let mut file = chart::write(&Law::AS_WRITTEN, &ring(3, cost), 44).expect("a fit graph");
         file[8 + 2 * 12 + 4..][..4].copy_from_slice(&dearer.to_le_bytes());
         let costly = Refusal {
@@ -339,9 +372,9 @@ fn beyond(law: &Law, tally: &mut Tally) -> Outcome {
     for multiplier in [MULTIPLIER + 1, -MULTIPLIER - 1] {
         let multipliers = [0, 0, multiplier];
         let input = || format!("{graph:?}, {multipliers:?}");
-        let got = rule(&graph, &multipliers, CEILING + 1, 3);
+        let got = rule(&graph, &multipliers, 1_000, CEILING + 1, 3);
         tally.compare("rule", input, &said(only(12), None), &got)?;
-        let reference = tree::admit(law, &graph, &multipliers, None);
+        let reference = tree::admit(law, &graph, &multipliers, 1_000, None);
         let refusal = Refusal {
             number: 12,
             place: 0,
@@ -349,7 +382,7 @@ fn beyond(law: &Law, tally: &mut Tally) -> Outcome {
         tally.compare("by the reference", input, &reference, &Err(refusal))?;
     }
     for ceiling in [CEILING + 1, -CEILING - 1, i64::MAX, i64::MIN] {
-        refuses(law, tally, &opening(&graph, ceiling), 13)?;
+        refuses(law, tally, &opening(&graph, 1_000, ceiling), 13)?;
     }
     Ok(())
 }

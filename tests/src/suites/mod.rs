@@ -4,6 +4,7 @@ use crate::report::Suite;
 
 pub mod calls;
 pub mod facts;
+pub mod former_rules;
 pub mod own_charts;
 pub mod own_looks;
 pub mod own_rulings;
@@ -16,6 +17,8 @@ pub mod check;
 pub mod compare;
 #[cfg(feature = "library")]
 pub mod damage;
+#[cfg(feature = "library")]
+pub mod denominators;
 #[cfg(feature = "library")]
 pub mod falling_ceilings;
 #[cfg(feature = "library")]
@@ -58,6 +61,7 @@ pub fn all() -> Vec<Suite> {
         own_rulings::SUITE,
         searches::SUITE,
         calls::SUITE,
+        former_rules::SUITE,
         #[cfg(feature = "library")]
         check::SUITE,
         #[cfg(feature = "library")]
@@ -76,6 +80,8 @@ pub fn all() -> Vec<Suite> {
         limits::SUITE,
         #[cfg(feature = "library")]
         falling_ceilings::SUITE,
+        #[cfg(feature = "library")]
+        denominators::SUITE,
         #[cfg(feature = "library")]
         recent::SUITE,
         #[cfg(feature = "library")]

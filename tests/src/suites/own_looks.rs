@@ -64,8 +64,13 @@ fn run(law: &Law, tally: &mut Tally) -> Outcome {
     for (graph, p, any) in examples() {
         let multipliers = vec![0; graph.n];
         let input = || format!("{graph:?}");
-        tally.compare("example", input, &p, &looked(law, &graph, &multipliers).0)?;
-        let tree = least(law, Method::Kruskal, &graph, &multipliers);
+        tally.compare(
+            "example",
+            input,
+            &p,
+            &looked(law, &graph, &multipliers, 1).0,
+        )?;
+        let tree = least(law, Method::Kruskal, &graph, &multipliers, 1);
         tally.compare("example's tree", input, &any, &tree.is_some())?;
     }
     let random = &mut Random::new(0x6c6f_6f6b_7321);
@@ -81,12 +86,13 @@ fn run(law: &Law, tally: &mut Tally) -> Outcome {
             }
         }
         let multipliers = generate::multipliers(random, graph.n);
-        let input = || format!("{graph:?}, multipliers {multipliers:?}");
+        let q = generate::denominator(random);
+        let input = || format!("{graph:?}, multipliers {multipliers:?}, denominator {q}");
         let written = &Law::AS_WRITTEN;
-        let (p, took) = looked(law, &graph, &multipliers);
-        let expected = looked_by_definition(written, &graph, &multipliers);
+        let (p, took) = looked(law, &graph, &multipliers, q);
+        let expected = looked_by_definition(written, &graph, &multipliers, q);
         tally.compare("definition and loop", input, &expected, &p)?;
-        match least(written, Method::Kruskal, &graph, &multipliers) {
+        match least(written, Method::Kruskal, &graph, &multipliers, q) {
             None => none += 1,
             Some(tree) => {
                 trees += 1;

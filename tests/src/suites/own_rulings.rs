@@ -19,19 +19,21 @@ pub const SUITE: Suite = Suite {
         bends::REQUIRED_SWAPPED_OUT,
         bends::MULTIPLIERS_OFF_ONCE,
         bends::CHEAP_NO_REPLACEMENT,
+        bends::CEILING_NOT_SCALED,
+        bends::PARTS_NOT_COMPARED,
     ],
 };
 
-/// A ceiling at which a ruling may turn: the bound with some edge marked, or near it.
-pub fn turning_ceiling(random: &mut Random, graph: &Graph, multipliers: &[i32]) -> i64 {
+/// A ceiling at which a ruling may turn: the bound with some edge marked, in whole minutes, or near it.
+pub fn turning_ceiling(random: &mut Random, graph: &Graph, multipliers: &[i32], q: u64) -> i64 {
     let mut marked = graph.clone();
     if graph.m > 0 && !random.one_in(3) {
         let mark = random.pick(&[REQUIRED, EXCLUDED]);
         marked.mark[random.below(graph.m)] = mark;
     }
-    let tree = least(&Law::AS_WRITTEN, Method::Kruskal, &marked, multipliers);
+    let tree = least(&Law::AS_WRITTEN, Method::Kruskal, &marked, multipliers, q);
     let bound = tree.map_or(0, |tree| tree.bound);
-    generate::ceiling(random, bound)
+    generate::ceiling(random, bound.div_euclid(q as i64))
 }
 
 fn run(law: &Law, tally: &mut Tally) -> Outcome {
@@ -40,15 +42,18 @@ fn run(law: &Law, tally: &mut Tally) -> Outcome {
         let small = round % 4 != 0;
         let graph = graph_for(random, small);
         let multipliers = generate::multipliers(random, graph.n);
-        let ceiling = turning_ceiling(random, &graph, &multipliers);
-        let input = || format!("{graph:?}, multipliers {multipliers:?}, ceiling {ceiling}");
-        let got = rule(law, Method::Kruskal, &graph, &multipliers, ceiling);
+        let q = generate::denominator(random);
+        let ceiling = turning_ceiling(random, &graph, &multipliers, q);
+        let input = || {
+            format!("{graph:?}, multipliers {multipliers:?}, denominator {q}, ceiling {ceiling}")
+        };
+        let got = rule(law, Method::Kruskal, &graph, &multipliers, q, ceiling);
         let method = if small {
             Method::Definition
         } else {
             Method::Prim
         };
-        let other = rule(&Law::AS_WRITTEN, method, &graph, &multipliers, ceiling);
+        let other = rule(&Law::AS_WRITTEN, method, &graph, &multipliers, q, ceiling);
         let case = format!("{method:?} and Kruskal");
         tally.compare(&case, input, &other, &got)?;
     }

@@ -16,6 +16,7 @@ pub const SUITE: Suite = Suite {
         bends::HIGHER_NUMBERED_FIRST,
         bends::MULTIPLIERS_OFF_ONCE,
         bends::REQUIRED_LEFT_OUT,
+        bends::MULTIPLIERS_TIMES,
     ],
 };
 
@@ -37,13 +38,14 @@ fn run(law: &Law, tally: &mut Tally) -> Outcome {
         let small = round % 2 == 0;
         let graph = graph_for(random, small);
         let multipliers = generate::multipliers(random, graph.n);
-        let input = || format!("{graph:?}, multipliers {multipliers:?}");
+        let q = generate::denominator(random);
+        let input = || format!("{graph:?}, multipliers {multipliers:?}, denominator {q}");
         let written = &Law::AS_WRITTEN;
-        let got = least(law, Method::Kruskal, &graph, &multipliers);
-        let prim = least(written, Method::Prim, &graph, &multipliers);
+        let got = least(law, Method::Kruskal, &graph, &multipliers, q);
+        let prim = least(written, Method::Prim, &graph, &multipliers, q);
         tally.compare("Prim and Kruskal", input, &prim, &got)?;
         if small {
-            let all = least(written, Method::Definition, &graph, &multipliers);
+            let all = least(written, Method::Definition, &graph, &multipliers, q);
             tally.compare("definition and Kruskal", input, &all, &got)?;
         }
         let is_tree = got.is_none_or(|tree| is_one_tree(written, &graph, &tree.edges));

@@ -23,6 +23,12 @@ pub const SUITE: Suite = Suite {
         bends::PREVIEW_WITHOUT_MARK,
         bends::LENGTH_BEFORE_VALUE,
         bends::HIGHER_MULTIPLIER,
+        bends::BOUND_DIVIDED,
+        bends::PREVIEW_NOT_SCALED,
+        bends::DENOMINATOR_OF_ZERO,
+        bends::HIGHER_DENOMINATOR,
+        bends::DENOMINATOR_BEFORE_MULTIPLIERS,
+        bends::LEG_BEFORE_DENOMINATOR,
     ],
 };
 
@@ -31,10 +37,11 @@ pub fn expected(
     method: Method,
     graph: &Graph,
     multipliers: &[i32],
+    q: u64,
     asked: (usize, u32),
     length: usize,
 ) -> Reply {
-    let answer = tree::preview(law, method, graph, multipliers, asked, length);
+    let answer = tree::preview(law, method, graph, multipliers, q, asked, length);
     let (said, out) = match answer {
         Ok(Some(tree)) => (bound(tree.bound), Some(Hex(tree.edges))),
         Ok(None) => (only(NONE), None),
@@ -70,34 +77,40 @@ fn run(law: &Law, tally: &mut Tally) -> Outcome {
     for round in 0..30_000 {
         let small = round % 2 == 0;
         let wrong = round % 6 >= 4;
-        let (graph, multipliers, length) = arguments(random, small, wrong);
+        let (graph, multipliers, q, length) = arguments(random, small, wrong);
         let asked = asked(random, &graph);
         let input = || {
             let (leg, mark) = asked;
-            format!("{graph:?}, multipliers {multipliers:?}, leg {leg}, mark {mark}, a list of {length} bytes")
+            format!("{graph:?}, multipliers {multipliers:?}, denominator {q}, leg {leg}, mark {mark}, a list of {length} bytes")
         };
-        let reply = preview(&graph, &multipliers, asked, length);
+        let reply = preview(&graph, &multipliers, q, asked, length);
         let methods = if small && graph.m <= 16 {
             &[Method::Definition, Method::Kruskal][..]
         } else {
             &[Method::Kruskal][..]
         };
         for method in methods {
-            let wanted = expected(law, *method, &graph, &multipliers, asked, length);
+            let wanted = expected(law, *method, &graph, &multipliers, q, asked, length);
             tally.compare(&format!("{method:?}"), input, &wanted, &reply)?;
         }
         if !wrong {
-            decides(random, tally, &graph, &multipliers)?;
+            decides(random, tally, &graph, &multipliers, q)?;
         }
     }
     Ok(())
 }
 
 /// Where rulings are given, a free leg is barred exactly when the preview with mark 1 is 'no tree' or
-/// above the ceiling, and forced exactly when the preview with mark 2 is.
-fn decides(random: &mut Random, tally: &mut Tally, graph: &Graph, multipliers: &[i32]) -> Outcome {
-    let ceiling = turning_ceiling(random, graph, multipliers);
-    let ruled = rule(graph, multipliers, ceiling, graph.m);
+/// above q × ceiling, and forced exactly when the preview with mark 2 is.
+fn decides(
+    random: &mut Random,
+    tally: &mut Tally,
+    graph: &Graph,
+    multipliers: &[i32],
+    q: u64,
+) -> Outcome {
+    let ceiling = turning_ceiling(random, graph, multipliers, q);
+    let ruled = rule(graph, multipliers, q, ceiling, graph.m);
     let Some(Hex(rulings)) = ruled.out else {
         return Ok(());
     };
@@ -106,12 +119,12 @@ fn decides(random: &mut Random, tally: &mut Tally, graph: &Graph, multipliers: &
             continue;
         }
         let beyond = |mark| {
-            let said = preview(graph, multipliers, (place + 1, mark), graph.m).said;
-            said.number == NONE || said.value > ceiling
+            let said = preview(graph, multipliers, q, (place + 1, mark), graph.m).said;
+            said.number == NONE || said.value > q as i64 * ceiling
         };
         let input = || {
             let leg = place + 1;
-            format!("{graph:?}, multipliers {multipliers:?}, ceiling {ceiling}, leg {leg}")
+            format!("{graph:?}, multipliers {multipliers:?}, denominator {q}, ceiling {ceiling}, leg {leg}")
         };
         let wanted = (*ruling == 2, *ruling == 1);
         tally.compare("rulings", input, &wanted, &(beyond(1), beyond(2)))?;

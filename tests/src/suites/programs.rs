@@ -90,7 +90,7 @@ pub fn input(random: &mut Random, graph: &Graph) -> Vec<u8> {
     let zeros = vec![0; graph.n];
     let ceiling = match random.below(12) {
         0 => generate::wrong_ceiling(random),
-        _ => turning_ceiling(random, graph, &zeros),
+        _ => turning_ceiling(random, graph, &zeros, 1),
     };
     let mut chart = any_form(random, graph).bytes();
     if random.one_in(5) {

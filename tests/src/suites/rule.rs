@@ -29,12 +29,23 @@ pub const SUITE: Suite = Suite {
         bends::CHEAP_NO_REPLACEMENT,
         bends::HIGHER_MULTIPLIER,
         bends::LENGTH_BEFORE_VALUE,
+        bends::BOUND_DIVIDED,
+        bends::CEILING_NOT_SCALED,
+        bends::PARTS_NOT_COMPARED,
+        bends::NO_REPLACEMENT_OF_ONE,
+        bends::MULTIPLIERS_TIMES,
+        bends::RANGE_IN_MINUTES,
+        bends::DENOMINATOR_OF_ZERO,
+        bends::HIGHER_DENOMINATOR,
+        bends::DENOMINATOR_BEFORE_MULTIPLIERS,
+        bends::DENOMINATOR_BEFORE_CEILING,
     ],
 };
 
 pub struct Arguments {
     pub graph: Graph,
     pub multipliers: Vec<i32>,
+    pub denominator: u64,
     pub ceiling: i64,
     pub length: usize,
 }
@@ -43,10 +54,11 @@ pub fn expected(law: &Law, method: Method, given: &Arguments) -> Reply {
     let Arguments {
         graph,
         multipliers,
+        denominator: q,
         ceiling,
         length,
     } = given;
-    let ruled = rulings::call(law, method, graph, multipliers, *ceiling, *length);
+    let ruled = rulings::call(law, method, graph, multipliers, *q, *ceiling, *length);
     let (said, out) = match ruled {
         Ok(Ruled::Bound {
             bound: least,
@@ -65,23 +77,26 @@ pub fn expected(law: &Law, method: Method, given: &Arguments) -> Reply {
 pub fn arguments(random: &mut Random, small: bool, wrong: bool) -> Arguments {
     let mut graph = graph_for(random, small);
     let mut multipliers = generate::multipliers(random, graph.n);
-    let mut ceiling = turning_ceiling(random, &graph, &multipliers);
+    let mut denominator = generate::denominator(random);
+    let mut ceiling = turning_ceiling(random, &graph, &multipliers, denominator);
     let mut length = graph.m;
     if random.one_in(2) {
         generate::junk_past_m(random, &mut graph);
     }
     for _ in 0..if wrong { 1 + random.below(2) } else { 0 } {
-        match random.below(5) {
+        match random.below(6) {
             0 => generate::break_value(random, &mut graph),
             1 => multipliers.resize(generate::length(random, graph.n.min(30), true), 0),
             2 => generate::break_multipliers(random, &mut multipliers),
             3 => ceiling = generate::wrong_ceiling(random),
+            4 => denominator = generate::wrong_denominator(random),
             _ => length = generate::length(random, length, true),
         }
     }
     Arguments {
         graph,
         multipliers,
+        denominator,
         ceiling,
         length,
     }
@@ -95,13 +110,14 @@ fn run(law: &Law, tally: &mut Tally) -> Outcome {
         let given = arguments(random, small, wrong);
         let input = || {
             format!(
-                "{:?}, multipliers {:?}, ceiling {}, a list of {} bytes",
-                given.graph, given.multipliers, given.ceiling, given.length
+                "{:?}, multipliers {:?}, denominator {}, ceiling {}, a list of {} bytes",
+                given.graph, given.multipliers, given.denominator, given.ceiling, given.length
             )
         };
         let reply = rule(
             &given.graph,
             &given.multipliers,
+            given.denominator,
             given.ceiling,
             given.length,
         );

@@ -1,5 +1,5 @@
 //! The reference machine against all tours: two searches of one graph, with its edges in two orders,
-//! other multipliers, sweeps and steps, both with the budget that must finish them.
+//! other multipliers, sweeps, steps and denominators, both with the budget that must finish them.
 
 use crate::bends;
 use crate::document::graph::{Graph, FREE};
@@ -19,6 +19,8 @@ pub const SUITE: Suite = Suite {
         bends::MULTIPLIERS_OFF_ONCE,
         bends::MARKS_FROM_BELOW,
         bends::UPPER_TOO_LOW,
+        bends::UPPER_NOT_SCALED,
+        bends::CEILING_NOT_SCALED,
     ],
 };
 
@@ -49,7 +51,7 @@ fn run(law: &Law, tally: &mut Tally) -> Outcome {
     Ok(())
 }
 
-/// An opening with multipliers, sweeps and step of its own. Far multipliers give poor bounds and
+/// An opening with multipliers, sweeps, step and denominator of its own. Far multipliers give poor bounds and
 /// long searches: only graphs with few edges get them.
 pub fn opening(random: &mut Random, graph: &Graph, ceiling: i64) -> Call {
     let few = graph.m <= 12;
@@ -65,6 +67,7 @@ pub fn opening(random: &mut Random, graph: &Graph, ceiling: i64) -> Call {
         ceiling,
         sweeps: random.pick(&[0, 0, 1, 2, 5, 15]),
         step: random.pick(if few { &STEPS } else { &STEPS[..4] }),
+        denominator: generate::denominator(random),
     }
 }
 

@@ -34,6 +34,11 @@ pub const SUITE: Suite = Suite {
         bends::ENTRIES_FROM_ZERO,
         bends::UPPER_AT_COST,
         bends::MORE_SWEEPS,
+        bends::BOUND_DIVIDED,
+        bends::COSTS_IN_PARTS,
+        bends::HIGHER_DENOMINATOR,
+        bends::DENOMINATOR_BEFORE_STEP,
+        bends::LEG_BEFORE_DENOMINATOR,
     ],
 };
 
@@ -146,6 +151,7 @@ fn sailings(law: &Law, tally: &mut Tally, random: &mut Random, wrong: bool) -> O
     let terms = Terms {
         ceiling: trial.ceiling,
         budget: trial.budget,
+        denominator: trial.denominator,
     };
     let input = || format!("{trial:?}");
     let wanted = sailing::compare(law, Method::Kruskal, &trial).map_err(refusal);
@@ -167,6 +173,7 @@ fn expected_tree(law: &Law, given: &Arguments) -> Result<Tree, planner::Refusal>
         Method::Kruskal,
         graph,
         multipliers,
+        given.denominator,
         graph.m,
     ))
 }
@@ -184,8 +191,8 @@ fn found(answer: Result<Option<tree::Tree>, Refusal>) -> Result<Tree, planner::R
 /// What the rule call must answer; its list has the right length.
 fn expected_rulings(law: &Law, given: &Arguments) -> Result<Ruled, planner::Refusal> {
     let (graph, multipliers) = (&given.graph, &given.multipliers);
-    let method = Method::Kruskal;
-    let ruled = rulings::call(law, method, graph, multipliers, given.ceiling, graph.m);
+    let (method, q) = (Method::Kruskal, given.denominator);
+    let ruled = rulings::call(law, method, graph, multipliers, q, given.ceiling, graph.m);
     Ok(match ruled.map_err(refusal)? {
         rulings::Ruled::Bound { bound, rulings } => Ruled::Within {
             bound,
@@ -201,23 +208,23 @@ fn trees(law: &Law, tally: &mut Tally, random: &mut Random, wrong: bool) -> Outc
     let given = arguments(random, small, wrong);
     edges(tally, &given.graph)?;
     let graph = by_value(&given.graph);
-    let (multipliers, ceiling) = (&given.multipliers, given.ceiling);
+    let (multipliers, q, ceiling) = (&given.multipliers, given.denominator, given.ceiling);
     let input = || {
         let graph = &given.graph;
-        format!("{graph:?}, multipliers {multipliers:?}, ceiling {ceiling}")
+        format!("{graph:?}, multipliers {multipliers:?}, denominator {q}, ceiling {ceiling}")
     };
     let fits = graph::fits(law, &given.graph);
     tally.compare("check", input, &fits, &graph.check().is_ok())?;
-    let got = planner::tree(&graph, multipliers);
+    let got = planner::tree(&graph, multipliers, q);
     tally.compare("tree", input, &expected_tree(law, &given), &got)?;
     let edge = random.below(given.graph.m.min(190) + 2);
     let mark = random.pick(&[Mark::Required, Mark::Excluded, Mark::Free]);
-    let asked = (edge, mark as u32);
+    let (asked, m) = ((edge, mark as u32), given.graph.m);
     let method = Method::Kruskal;
-    let wanted = tree::preview(law, method, &given.graph, multipliers, asked, given.graph.m);
-    let got = planner::preview(&graph, multipliers, edge, mark);
+    let wanted = tree::preview(law, method, &given.graph, multipliers, q, asked, m);
+    let got = planner::preview(&graph, multipliers, q, edge, mark);
     tally.compare("preview", input, &found(wanted), &got)?;
-    let got = planner::rule(&graph, multipliers, ceiling);
+    let got = planner::rule(&graph, multipliers, ceiling, q);
     tally.compare("rule", input, &expected_rulings(law, &given), &got)
 }
 
@@ -276,11 +283,13 @@ pub fn answer(search: &mut Search, call: &Call) -> Result<Said, planner::Refusal
             ceiling,
             sweeps,
             step,
+            denominator,
         } => {
             let settings = Settings {
                 ceiling: *ceiling,
                 sweeps: *sweeps,
                 step: *step,
+                denominator: *denominator,
             };
             let opened = search.open(&by_value(graph), multipliers, settings);
             opened.map(|()| Said::Accepted)
@@ -340,6 +349,7 @@ fn too_many(tally: &mut Tally) -> Outcome {
         ceiling: 0,
         sweeps: 0,
         step: 0,
+        denominator: 1,
     };
     for (n, m) in [
         (20, PLACES + 1),
@@ -352,8 +362,8 @@ fn too_many(tally: &mut Tally) -> Outcome {
         let got = [
             graph.check().err(),
             graph.write().err(),
-            planner::tree(&graph, &[0; 20]).err(),
-            planner::rule(&graph, &[0; 20], 0).err(),
+            planner::tree(&graph, &[0; 20], 1).err(),
+            planner::rule(&graph, &[0; 20], 0, 1).err(),
             Search::fresh().open(&graph, &[0; 20], settings).err(),
         ];
         let input = || format!("{n} vertices, {m} edges");

@@ -1,9 +1,10 @@
--- The answer, a struct, and its pairs with the record and with a graph, as crate thin takes them. Assumes nothing.
+-- The answer, a struct, and its pairs with the record, with a shelf and with a graph, as crate thin takes them. Assumes nothing.
 use denote.Struct.Laws as LL
 use denote.Struct.Struct.{Plains, layout}
 use denote.Struct.Declared.{Declared, row, shape, fields}
 use Rattle.thin.specs.Parts.{Lent, Ans, Pair}
 use Rattle.search.proofs.ThinTypes.{search}
+use Rattle.shelf.proofs.ThinTypes.{shelf}
 use Rattle.graph.proofs.Graph as G
 use Rattle.graph.proofs.Graph.Laws as G′
 use Rattle.ffi.proofs.Filled as F
@@ -12,6 +13,8 @@ use Rattle.ffi.proofs.Said as B
 use Rattle.ffi.proofs.Said.Laws as B′
 use Rattle.ffi.proofs.searches.Replied as R
 use Rattle.ffi.proofs.searches.Replied.Laws as R′
+use Rattle.ffi.proofs.shelves.Stored as K
+use Rattle.ffi.proofs.shelves.Stored.Laws as K′
 
 -- an answer that is a struct
 abbrev struct-ans : (D : Declared) → LL.Laws D → Plains (fields D) → Ans
@@ -36,6 +39,19 @@ replied = record {
   R-tells = LL.tells R.the-type R′.the-laws;
   S-is = λ r vs p. LL.owed R.the-type R′.the-laws r vs p .0;
   B-is = λ r vs p. LL.owed R.the-type R′.the-laws r vs p .1 .0;
+}
+
+abbrev pub stored : Pair shelf said
+stored = record {
+  R = K.the-row;
+  R-name = K.struct .name;
+  R-typed = λ 𝓤 H A W r v p. LL.lawful K.the-type K′.the-laws 𝓤 H A W .typed r _ p .0;
+  the-s = λ r. r .shelf;
+  the-b = λ r. r .said;
+  b-val = λ r. LL.val B.the-type B′.the-laws (r .said);
+  R-tells = LL.tells K.the-type K′.the-laws;
+  S-is = λ r vs p. LL.owed K.the-type K′.the-laws r vs p .0;
+  B-is = λ r vs p. LL.owed K.the-type K′.the-laws r vs p .1 .0;
 }
 
 -- a graph that is lent to be filled

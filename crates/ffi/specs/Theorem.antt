@@ -1,27 +1,39 @@
--- DEMAND 3 HOLDS OF THE EXPORTED CALLS: the calls of crate search follow the machine, however their answers are said. Assumes nothing.
-use Rattle.machine.specs.Demand3.{Demand3}
+-- DEMAND 3 HOLDS OF THE EXPORTED CALLS: crate shelf proves it however the answers are said, if no refusal is said as 'accepted' is. Assumes
+-- nothing.
+use mathlib.Core.Path.{_≡_, ap}
+use Prim.Native.Nat.{ℕ, suc}
+use native.Mathlib.Omega.{arith}
 use Rattle.machine.specs.Following.{follows-demand-3}
-use Rattle.ffi.specs.Answers.{saidOf}
-use Rattle.ffi.specs.Demand3.{exported}
 use Rattle.onetree_theorems.specs.AtOne.{EveryAnswerIsTheOldOne, search-at-one}
 use Rattle.recent_theorems.specs.Recent.{Searched}
 use Rattle.recent_theorems.specs.Theorems.{searched}
-use Rattle.search.specs.Demand3.{calls}
-use Rattle.search.specs.Theorem.{calls-follow, demand-3}
+use Rattle.search.specs.declared.Answer.{Answer}
+use Rattle.search.specs.declared.Answer.the-variants.{Refused, Accepted}
+use Rattle.search.specs.Demand3.{callsSaid, calls}
+use Rattle.search.specs.Theorem.{calls-follow}
+use Rattle.shelf.specs.Demand3.{LeavesFinished, SaysAfter}
+use Rattle.shelf.specs.Theorem.{demand-3-said, demand-3}
+use Rattle.ffi.specs.declared.Said.{Said}
+use Rattle.ffi.specs.Answers.{saidOf}
+use Rattle.ffi.specs.Demand3.{Exported}
 
-pub demand-3-exported : Demand3 exported
-demand-3-exported = follows-demand-3 exported (calls-follow saidOf)
+apart : (n : ℕ) → ¬ (saidOf (Refused (suc n) 0) ≡ saidOf Accepted)
+unfolding saidOf
+apart n e = let z : suc n ≡ 0 = ap (λ (s : Said). s .number) e in omega arith
 
--- document 02's "Hunts are then about the chart so made.", of the exported calls and of crate search's
-pub recent-exported : Searched exported
-recent-exported = searched exported demand-3-exported
+pub demand-3-exported : Exported
+demand-3-exported = demand-3-said saidOf apart
 
-pub recent-calls : Searched calls
-recent-calls = searched calls demand-3
+-- document 02's "Hunts are then about the chart so made.", of the exported calls and of crate shelf's
+pub recent-exported : Searched LeavesFinished (SaysAfter saidOf)
+recent-exported = searched LeavesFinished (SaysAfter saidOf) (demand-3-exported .agree)
+
+pub recent-calls : Searched LeavesFinished (SaysAfter {A = Answer} (λ a. a))
+recent-calls = searched LeavesFinished (SaysAfter {A = Answer} (λ a. a)) (demand-3 .agree)
 
 -- document 02, C-17: "With q = 1, which the programs use, every answer is the old one", of both too
-pub at-one-exported : EveryAnswerIsTheOldOne exported
-at-one-exported = search-at-one exported demand-3-exported
+pub at-one-exported : EveryAnswerIsTheOldOne (callsSaid saidOf)
+at-one-exported = search-at-one (callsSaid saidOf) (follows-demand-3 (callsSaid saidOf) (calls-follow saidOf))
 
 pub at-one-calls : EveryAnswerIsTheOldOne calls
-at-one-calls = search-at-one calls demand-3
+at-one-calls = search-at-one calls (follows-demand-3 calls (calls-follow {A = Answer} (λ a. a)))

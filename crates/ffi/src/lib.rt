@@ -8,6 +8,7 @@ ghost use Rattle.ffi.specs.Answers.{plain, saidOutcome, checkOutcome, fi
 
 mod logs;
 mod searches;
+mod shelves;
 mod simulations;
 mod trees;
 

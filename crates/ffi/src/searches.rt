@@ -64,7 +64,7 @@ pub(crate) fn said_of(answer: Answer) -> Said
     }
 }
 
-fn in_numbers(out: Outcome) -> Replied
+pub(crate) fn in_numbers(out: Outcome) -> Replied
     ensures { λ r. ⌜ r ≡ inNumbers out ⌝ }
 {
     let s = out.search;

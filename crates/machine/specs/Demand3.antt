@@ -1,7 +1,7 @@
--- DEMAND 3, over whole lists of calls from a fresh record, refused calls included: the statement, once, for every way in which the calls
--- can be made (`Interface`). Nothing is proved here. Two ways are: crate search has the calls on a record (its Demand3: `calls`), crate ffi the
--- exported ones (`exported`); each proves `Demand3` of its own, by Following. What it speaks of is defined in Tours (a tour), Machine (the
--- machine) and Calls (calls and lists).
+-- WHAT A FINISHED SEARCH SAYS (`Says`, `Shows`), which crate shelf's Demand3 takes up: that is the statement of demand 3, over all seven calls. Here
+-- it is for the five calls alone, for every way in which they can be made (`Interface`): a step on the way, proved by Following of crate search's
+-- calls (its Demand3: `calls`). What it speaks of is defined in Tours (a tour), Machine (the machine) and Calls (calls and lists). Nothing is proved
+-- here.
 use mathlib.Core.Path.{_≡_}
 use mathlib.Core.Logic.{_↔_}
 use mathlib.Core.Bool.{Bool, true}

@@ -22,8 +22,7 @@ use Rattle.tree_theory.specs.OneTree.{Edges}
 use Rattle.tours.specs.Tours.{cost}
 use Rattle.machine.specs.declared.Settings.{Settings}
 use Rattle.machine.specs.Machine.{Opening}
-use Rattle.machine.specs.Calls.{Call, Verdict, fault}
-use Rattle.machine.specs.Demand3.{Interface, LeavesFinished, SaysAfter}
+use Rattle.machine.specs.Calls.{Verdict, fault}
 
 -- ---- refusals
 
@@ -89,15 +88,17 @@ AfterEvery = (g : Graph) (w : ℕ) (edges : List ℕ) (times : List ℤ) → len
 abbrev pub opening : Graph → List ℤ → Settings → Opening
 opening g d settings = record { graph = g; multipliers = d; settings = settings }
 
-pub record SearchedAfter (i : Interface) (g : Graph) (w : ℕ) (log : List Entry) (h : Graph) : Type 0 where
+-- of the lists L of any calls: which leave a finished search that was opened with o, and what is then said
+pub record SearchedAfter {L : Type 0} (LeavesFinished : L → Opening → Type 0) (SaysAfter : L → Opening → Verdict → Type 0)
+    (g : Graph) (w : ℕ) (log : List Entry) (h : Graph) : Type 0 where
   -- it can be opened wherever the chart could be
   pub opens : (d : List ℤ) (settings : Settings) → fault (opening h d settings) ≡ fault (opening g d settings)
   -- a tour's cost is the sum of its edges' recent costs
   pub priced : (t : Edges) → cost (network h) t ≡ sumZ (λ k. recentCost w (network g .cost k) log k) (select t (upTo (g .m)))
   -- demand 3 at it: whatever list leaves a finished search that was opened with it, the verdict is of its tours
-  pub says : (cs : List Call) (d : List ℤ) (settings : Settings) → LeavesFinished cs (opening h d settings)
-      → (v : Verdict) × SaysAfter i cs (opening h d settings) v
+  pub says : (cs : L) (d : List ℤ) (settings : Settings) → LeavesFinished cs (opening h d settings)
+      → (v : Verdict) × SaysAfter cs (opening h d settings) v
 
-abbrev pub Searched : Interface → Type 0
-Searched i = (g : Graph) (w : ℕ) (edges : List ℕ) (times : List ℤ) → length (g .cost) ≡ maxEdges → recentReply g w edges times ≡ made
-    → SearchedAfter i g w (logOf edges times) (recentLeaves g w edges times)
+abbrev pub Searched : {L : Type 0} → (L → Opening → Type 0) → (L → Opening → Verdict → Type 0) → Type 0
+Searched LeavesFinished SaysAfter = (g : Graph) (w : ℕ) (edges : List ℕ) (times : List ℤ) → length (g .cost) ≡ maxEdges
+    → recentReply g w edges times ≡ made → SearchedAfter LeavesFinished SaysAfter g w (logOf edges times) (recentLeaves g w edges times)

@@ -34,8 +34,7 @@ use Rattle.tree_theory.specs.OneTree.{Edges}
 use Rattle.tours.specs.Tours.{cost}
 use Rattle.machine.specs.declared.Settings.{Settings}
 use Rattle.machine.specs.Machine.{Opening}
-use Rattle.machine.specs.Calls.{fault}
-use Rattle.machine.specs.Demand3.{Interface, Demand3}
+use Rattle.machine.specs.Calls.{Verdict, fault}
 use Rattle.tours.specs.OneNetwork.{OneNetwork}
 use Rattle.recent_theorems.specs.Recent.{Bad, FirstBad, Refuses, AfterEvery, CostIs, Makes, Made, opening, Searched}
 
@@ -288,8 +287,12 @@ after-every g w edges times full e =
 one-self : (o : Opening) → OneNetwork (network (o .graph)) (network (o .graph))
 one-self o = record { n = refl; m = refl; there = λ k i. (k, i, record { a = refl; b = refl; cost = refl; mark = refl }) }
 
-pub searched : (i : Interface) → Demand3 i → Searched i
-searched i demand g w edges times full e =
+-- of any calls whose finished searches agree
+pub searched : {L : Type 0} (Left : L → Opening → Type 0) (Says : L → Opening → Verdict → Type 0)
+    → ((cs ds : L) (o p : Opening) → Left cs o → Left ds p → OneNetwork (network (o .graph)) (network (p .graph))
+    → o .settings .ceiling ≡ p .settings .ceiling → (v : Verdict) × Says cs o v × Says ds p v)
+    → Searched Left Says
+searched Left Says agree g w edges times full e =
     let p = accepted-knows g w edges times e in
     let log = logOf edges times in
     rw (leaves-made g w edges times e) (record {
@@ -297,5 +300,5 @@ searched i demand g w edges times full e =
       priced = priced g w log full p;
       says = λ cs d settings l.
           let o = opening (recentGraph w log g) d settings in
-          let r = demand .agree cs cs o o l l (one-self o) refl in (r .0, r .1);
+          let r = agree cs cs o o l l (one-self o) refl in (r .0, r .1);
     })

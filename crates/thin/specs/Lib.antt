@@ -7,3 +7,4 @@ pub mod Bytes
 pub mod List
 pub mod Opening
 pub mod Log
+pub mod Beside

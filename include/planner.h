@@ -14,7 +14,8 @@
  * 1 to 1,000; 30 a preview of no edge, or of a mark that is not 1 or 2; 31 of an edge that is not free; 36 edges that are not a tour of all
  * vertices in sailing order from vertex 1; 37 a student number not 0 to 65,535, or a spread not 0 to 1,000; 38 a window that is not 1 to 32; 39 a
  * log entry that names no edge or a time that is no cost as in 9, with its place from 1. Of a record: 24 it fails its check; 20 no search is open;
- * 21 one is open; 22 show while going on; 23 show after 'none'.
+ * 21 one is open; 22 show while going on; 23 show after 'none'. Of a shelf: 24 a place fails its check; 33 a name that
+ * is not 1 to 8; 34 nothing stands under the name.
  */
 #ifndef PLANNER_H
 #define PLANNER_H
@@ -30,6 +31,7 @@ enum {
     PLANNER_VERTICES = 20,   /* at most */
     PLANNER_EDGES = 190,     /* at most */
     PLANNER_NODES = 22,      /* a search has at most n + 2 nodes waiting */
+    PLANNER_PLACES = 8,      /* of a shelf */
     PLANNER_WINDOW = 32,     /* at most */
     PLANNER_PAIRS = 16,      /* at most, in a comparison */
     PLANNER_STUDENT = 65535, /* at most */
@@ -95,6 +97,12 @@ typedef struct {
     uint8_t open, has_best;
 } planner_search;
 
+/* A shelf of searches saved under the names 1 to PLANNER_PLACES (docs/RECORD.md): name k stands at places[k - 1]. Begin with
+ * planner_fresh_shelf; write nothing in it. */
+typedef struct {
+    planner_search places[PLANNER_PLACES];
+} planner_shelf;
+
 /* 0 where the graph keeps to the rules, else 15. */
 planner_said planner_check(planner_graph g);
 
@@ -154,6 +162,15 @@ planner_said planner_show(planner_search *s, uint8_t *out, size_t length);
 /* Makes the record fresh again; 0, 24 or 20. */
 planner_said planner_close(planner_search *s);
 
+/* A shelf with nothing saved. */
+planner_shelf planner_fresh_shelf(void);
+
+/* The open search of *s under a name, in place of what stood there; *s is only read. 0, 24 (either record, any place), 20 or 33. */
+planner_said planner_save(planner_shelf *shelf, const planner_search *s, size_t name);
+
+/* The search under a name into *s, whatever *s held; the shelf is only read. 0, 24 (either record, any place), 33 or 34. */
+planner_said planner_back(planner_search *s, const planner_shelf *shelf, size_t name);
+
 #ifdef __cplusplus
 }
 #endif
@@ -177,6 +194,7 @@ PLANNER_ASSERT(offsetof(planner_search, depth) == 40 && offsetof(planner_search,
 PLANNER_ASSERT(offsetof(planner_search, multipliers) == 1380 && offsetof(planner_search, carried) == 1460);
 PLANNER_ASSERT(offsetof(planner_search, stack) == 3220 && offsetof(planner_search, best) == 7400);
 PLANNER_ASSERT(offsetof(planner_search, open) == 7590 && offsetof(planner_search, has_best) == 7591);
+PLANNER_ASSERT(sizeof(planner_shelf) == PLANNER_PLACES * sizeof(planner_search));
 PLANNER_ASSERT(sizeof(planner_said) == 32 && offsetof(planner_said, number) == 0 && offsetof(planner_said, place) == 8);
 PLANNER_ASSERT(offsetof(planner_said, value) == 16 && offsetof(planner_said, nodes) == 24);
 PLANNER_ASSERT(sizeof(planner_sailed) == 32 && offsetof(planner_sailed, number) == 0 && offsetof(planner_sailed, place) == 8);

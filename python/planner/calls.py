@@ -1,8 +1,8 @@
 """A script of calls, one answer a line: what a line says is sent to the library as it is, and the library judges it.
 
-One search record serves the whole script. Settings print nothing: the current chart ('sea', 'chart'), the dues, the length of the next list
-that is lent ('list'), the denominator. Calls print one line: tree, preview, rule, recent, simulate, compare, open, run,
-tell, show, close.
+One search record and one shelf of saved searches serve the whole script. Settings print nothing: the current chart ('sea', 'chart'), the
+dues, the length of the next list that is lent ('list'), the denominator. Calls print one line: tree, preview, rule, recent, simulate,
+compare, open, run, tell, show, close, save, back.
 """
 from __future__ import annotations
 
@@ -13,7 +13,7 @@ from typing import IO
 from .faults import Faults, shown, whole_number
 from .formats import LONGEST, load
 from .library import (
-    BYTE, EXCLUDED, FREE, INT32, INT64, REQUIRED, UINT32, UINT64, Edge, Graph, Refused, Search, Tree, compare, preview, recent_costs,
+    BYTE, EXCLUDED, FREE, INT32, INT64, REQUIRED, UINT32, UINT64, Edge, Graph, Refused, Search, Shelf, Tree, compare, preview, recent_costs,
     rule, simulate, tree,
 )  # fmt: skip
 from .output import Progress, complain, listed
@@ -32,15 +32,17 @@ FORMS = {
     "tell": "tell",
     "show": "show",
     "close": "close",
+    "save": "save NAME",
+    "back": "back NAME",
 }
 Answer = tuple[str, dict[str, object]]  # the line, and the same as fields
 
 
 class Script:
-    """The current settings and the search record; makes the calls."""
+    """The current settings, the search record and the shelf; makes the calls."""
 
     def __init__(self) -> None:
-        self.search = Search()
+        self.search, self.shelf = Search(), Shelf()
         self.use(Graph(0))
         self.settings: dict[str, Callable[[list[str]], None]] = {
             "sea": self.sea, "dues": self.set_dues, "list": self.set_list, "denominator": self.set_denominator,
@@ -168,6 +170,16 @@ class Script:
     def close(self) -> Answer:
         """Closing."""
         self.search.close()
+        return "accepted", {"verdict": "accepted"}
+
+    def save(self, name: str) -> Answer:
+        """The open hunt, saved under a name."""
+        self.shelf.save(self.search, whole_number(name, "name", UINT64))
+        return "accepted", {"verdict": "accepted"}
+
+    def back(self, name: str) -> Answer:
+        """The hunt under a name, brought back."""
+        self.search.back(self.shelf, whole_number(name, "name", UINT64))
         return "accepted", {"verdict": "accepted"}
 
     # Lines

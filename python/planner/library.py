@@ -18,7 +18,7 @@ from typing import NamedTuple, TypeVar
 
 from .faults import Faults, span
 
-MOST_VERTICES, MOST_EDGES, MOST_NODES = 20, 190, 22  # the room that the library's structs have
+MOST_VERTICES, MOST_EDGES, MOST_NODES, PLACES = 20, 190, 22, 8  # the room that the library's structs have
 VERTICES = range(3, MOST_VERTICES + 1)
 COSTS = range(-100_000_000, 100_000_001)
 MULTIPLIERS = range(-1_000_000, 1_000_001)
@@ -62,6 +62,8 @@ MEANINGS = {
     30: "no such leg, or a new mark that is not 1 or 2",
     31: "the leg is not free",
     32: "the denominator is not 1 to 1,000",
+    33: "no such name; names are 1 to 8",
+    34: "nothing is saved under the name",
     36: "the legs are not a round of all buoys in sailing order from buoy 1",
     37: "the student number or the spread is out of range",
     38: "the number of last times not 1 to 32",
@@ -124,12 +126,16 @@ class CSearch(ctypes.Structure):
     ]
 
 
+class CShelf(ctypes.Structure):
+    _fields_ = [("places", CSearch * PLACES)]
+
+
 Said = TypeVar("Said", CSaid, CSailed)
 
 for struct, size in ((CSaid, 32), (CGraph, 1_332), (CSettings, 24), (CSailed, 32), (CTerms, 24), (CSearch, 7_592)):
     assert ctypes.sizeof(struct) == size, f"{struct.__name__} is not as the library has it"
 
-_BYTES, _RECORD = POINTER(c_uint8), POINTER(CSearch)
+_BYTES, _RECORD, _SHELF = POINTER(c_uint8), POINTER(CSearch), POINTER(CShelf)
 _DUES = (POINTER(c_int32), c_size_t)
 _PAIR = (POINTER(c_uint32), c_size_t)
 _CALLS = {
@@ -148,6 +154,9 @@ _CALLS = {
     "planner_tell": (CSaid, (_RECORD,)),
     "planner_show": (CSaid, (_RECORD, _BYTES, c_size_t)),
     "planner_close": (CSaid, (_RECORD,)),
+    "planner_fresh_shelf": (CShelf, ()),
+    "planner_save": (CSaid, (_SHELF, _RECORD, c_size_t)),
+    "planner_back": (CSaid, (_RECORD, _SHELF, c_size_t)),
 }
 
 
@@ -464,6 +473,24 @@ class Search:
         """Makes the record fresh again."""
         _accepted(library().planner_close(self.record))
 
+    def back(self, shelf: Shelf, name: int) -> None:
+        """Brings back what the shelf has under a name, 1 to 8, whatever is open here."""
+        _accepted(library().planner_back(self.record, shelf.record, _fits(name, UINT64, "name")))
+        self.more = shelf.more.get(name, 0)
+
     def best_so_far(self) -> int | None:
         """What the best tour met so far costs. It need not be the cheapest: only tell says that."""
         return self.record.upper + 1 - self.more if self.record.has_best else None
+
+
+class Shelf:
+    """Searches saved under the names 1 to 8. A call answers, or raises Refused and leaves the shelf as it was."""
+
+    def __init__(self) -> None:
+        self.record: CShelf = library().planner_fresh_shelf()
+        self.more: dict[int, int] = {}
+
+    def save(self, search: Search, name: int) -> None:
+        """Saves an open search under a name, in place of what stood there."""
+        _accepted(library().planner_save(self.record, search.record, _fits(name, UINT64, "name")))
+        self.more[name] = search.more

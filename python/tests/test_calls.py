@@ -369,6 +369,45 @@ show > legs 1 3 4 6
 tell > cost 12 nodes 5
 """
 
+# Document 02, C-18: saved hunts, through closing and other openings; 20, 33 and 34 in their order.
+SHELF = f"""
+{FOUR}
+save 9 > refused 20 at 0
+back 9 > refused 33 at 0
+back 0 > refused 33 at 0
+back 8 > refused 34 at 0
+open 12 0 0 > accepted
+save 0 > refused 33 at 0
+save 9 > refused 33 at 0
+save 4294967297 > refused 33 at 0
+run 3 > going on nodes 3
+save 8 > accepted
+run 1000 > finished nodes 5
+save 1 > accepted
+close > accepted
+save 2 > refused 20 at 0
+sea 3 1-2:1 1-3:1 2-3:1
+open 2 0 0 > accepted
+run 9 > finished nodes 1
+back 8 > accepted
+tell > going on nodes 3
+run 1 > going on nodes 4
+back 8 > accepted
+run 2 > finished nodes 5
+list 6
+show > legs 1 3 4 6
+back 1 > accepted
+tell > cost 12 nodes 5
+close > accepted
+back 2 > refused 34 at 0
+tell > refused 20 at 0
+back 8 > accepted
+save 1 > accepted
+close > accepted
+back 1 > accepted
+tell > going on nodes 3
+"""
+
 
 def parted(text):
     """A script and its expected answers."""
@@ -393,7 +432,7 @@ def bound_and(found, word, otherwise):
 
 class Scripts(unittest.TestCase):
     def test_documents(self):
-        for text in (DOCUMENT, REFUSALS):
+        for text in (DOCUMENT, REFUSALS, SHELF):
             script, answers = parted(text)
             self.assertEqual(command("calls", given=script), (answers, "", 0))
             with tempfile.TemporaryDirectory() as folder:
@@ -403,7 +442,7 @@ class Scripts(unittest.TestCase):
 
     def test_lines_that_cannot_be_read(self):
         """Each says its line on standard error; the script goes on, settings as they were; the status is 2."""
-        names = "allowed are sea, chart, dues, list, denominator, tree, preview, rule, recent, simulate, compare, open, run, tell, show, close"
+        names = "allowed are sea, chart, dues, list, denominator, tree, preview, rule, recent, simulate, compare, open, run, tell, show, close, save, back"
         wide = "allowed is -9223372036854775808 to 9223372036854775807"
         no_leg = "is no leg; allowed is A-B:COST, with r, s or mK behind it"
         wrong = (
@@ -420,7 +459,9 @@ class Scripts(unittest.TestCase):
             ("recent 1 1", "'1' is no entry; allowed is LEG:TIME"),
             ("recent 1 -1:4", "'-1:4' is no entry; allowed is LEG:TIME"),
             ("recent 1 1:2147483648", "time 2147483648 is out of range; allowed is -2147483648 to 2147483647"),
-            ("save 1", f"'save' is unknown; {names}"),
+            ("save", "too few words; allowed is save NAME"),
+            ("back 1 2", "too many words; allowed is back NAME"),
+            ("back -1", "name -1 is out of range; allowed is 0 to 18446744073709551615"),
             ("lifting yes", f"'lifting' is unknown; {names}"),
             ("denominator", "too few words; allowed is denominator Q"),
             ("denominator 2 3", "too many words; allowed is denominator Q"),
@@ -552,6 +593,7 @@ class Scripts(unittest.TestCase):
         source = random.Random(16)
         for _ in range(12):
             script, answers, search = [], [], planner.Search()
+            self.shelf = planner.Shelf()
             graph, self.q = planner.Graph(0), 1
             for _ in range(60):
                 graph, line, call = self.step(source, graph, search)
@@ -566,8 +608,14 @@ class Scripts(unittest.TestCase):
 
     def step(self, source, graph, search):
         """A random line, the chart after it, and what the line should print."""
-        kinds = ("sea", "denominator", "tree", "preview", "rule", "recent", "open", "run", "run", "tell", "show", "show", "close")
+        kinds = (
+            "sea", "denominator", "tree", "preview", "rule", "recent", "open", "run", "run", "tell", "show", "show", "close", "save", "back",
+        )  # fmt: skip
         kind = source.choice(kinds)
+        if kind in ("save", "back"):
+            name = source.choice((0, 1, 1, 2, 8, 9))
+            call = self.shelf.save if kind == "save" else search.back
+            return graph, f"{kind} {name}", lambda: call(search if kind == "save" else self.shelf, name) or "accepted"
         ceiling = source.choice((-20, 40, 90, 5_000_000_001))
         if kind == "sea":
             graph, self.q = random_graph(source, most=6), 1

@@ -80,6 +80,28 @@ class Calls(unittest.TestCase):
             search.close()
         self.assertEqual(bytes(search.record), bytes(planner.Search().record))
 
+    def test_shelf(self):
+        """What is saved comes back to the byte, through closing and another opening; the refusals in their order; 24 at any place."""
+        search, shelf = planner.Search(), planner.Shelf()
+        self.assertEqual(refusal(lambda: shelf.save(search, 9)), (20, 0))
+        self.assertEqual(refusal(lambda: search.back(shelf, 9)), (33, 0))
+        self.assertEqual(refusal(lambda: search.back(shelf, 1)), (34, 0))
+        search.open(FOUR, 12)
+        self.assertEqual(refusal(lambda: shelf.save(search, 0)), (33, 0))
+        search.run(3)
+        saved = bytes(search.record)
+        shelf.save(search, 8)
+        search.run(9)
+        search.close()
+        search.open(FOUR, 11)
+        search.back(shelf, 8)
+        self.assertEqual(bytes(search.record), saved)
+        shelf.record.places[6].open = 2
+        before = bytes(shelf.record)
+        for call in (lambda: shelf.save(search, 1), lambda: search.back(shelf, 8), lambda: search.back(shelf, 9)):
+            self.assertEqual(refusal(call), (24, 0))
+        self.assertEqual((bytes(search.record), bytes(shelf.record)), (saved, before))
+
     def test_refusals_leave_the_record(self):
         search, two = planner.Search(), planner.Graph(2)
         steps = (
@@ -157,13 +179,13 @@ class Calls(unittest.TestCase):
     def test_sizes(self):
         """The structs are those of the header, compiled."""
         with tempfile.TemporaryDirectory() as folder:
-            lines = "".join(f'printf("%zu\\n", sizeof(planner_{name}));' for name in ("said", "graph", "settings", "terms", "search"))
+            lines = "".join(f'printf("%zu\\n", sizeof(planner_{name}));' for name in ("said", "graph", "settings", "terms", "search", "shelf"))
             Path(folder, "s.c").write_text('#include <stdio.h>\n#include "planner.h"\nint main(void){' + lines + "}")
             if not shutil.which("cc"):
                 self.skipTest("no C compiler")
             subprocess.run(["cc", f"-I{ROOT}/include", f"{folder}/s.c", "-o", f"{folder}/s"], check=True)
             said = subprocess.run([f"{folder}/s"], stdout=subprocess.PIPE, check=True).stdout.split()
-        structs = (library.CSaid, library.CGraph, library.CSettings, library.CTerms, library.CSearch)
+        structs = (library.CSaid, library.CGraph, library.CSettings, library.CTerms, library.CSearch, library.CShelf)
         self.assertEqual([int(size) for size in said], [ctypes.sizeof(struct) for struct in structs])
 
 

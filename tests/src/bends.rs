@@ -471,3 +471,43 @@ pub const DENOMINATOR_NOT_CHECKED: Bend = Bend {
     what: "a record's q counts for nothing",
     bend: |law| law.denominator_checked = false,
 };
+
+pub const FEWER_NAMES: Bend = Bend {
+    what: "8 is no name",
+    bend: |law| law.max_name = 7,
+};
+
+pub const NAME_BEFORE_OPEN: Bend = Bend {
+    what: "33 comes before 20 in save",
+    bend: |law| law.open_before_name = false,
+};
+
+pub const FIRST_SAVE_STAYS: Bend = Bend {
+    what: "a save replaces nothing",
+    bend: |law| law.save_replaces = false,
+};
+
+pub const BACK_OF_NEXT_NAME: Bend = Bend {
+    what: "back brings what the next name has",
+    bend: |law| law.back_of_own_name = false,
+};
+
+pub const BACK_KEEPS_OPEN: Bend = Bend {
+    what: "back leaves an open search as it is",
+    bend: |law| law.back_replaces = false,
+};
+
+pub const BACK_EMPTIES: Bend = Bend {
+    what: "back empties its place",
+    bend: |law| law.back_keeps_place = false,
+};
+
+pub const CLOSE_EMPTIES: Bend = Bend {
+    what: "closing empties the places",
+    bend: |law| law.close_keeps_places = false,
+};
+
+pub const NAMED_PLACE_CHECKED: Bend = Bend {
+    what: "24 tests the named place alone",
+    bend: |law| law.every_place_checked = false,
+};

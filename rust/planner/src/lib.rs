@@ -17,7 +17,7 @@
 
 pub mod raw;
 
-pub use raw::{Graph, Record, Settings, Terms};
+pub use raw::{Graph, Places, Record, Settings, Terms};
 
 use raw::{Said, EDGES};
 use std::fmt;
@@ -56,6 +56,8 @@ impl Refusal {
             30 => "a preview of no edge, or of a mark that is not 1 or 2",
             31 => "a preview of an edge that is not free",
             32 => "the denominator is not 1 to 1,000",
+            33 => "a name that is not 1 to 8",
+            34 => "nothing is saved under the name",
             36 => "edges that are not a tour of all vertices in sailing order from vertex 1",
             37 => "a student number or a spread out of range",
             38 => "a window that is not 1 to 32",
@@ -544,6 +546,51 @@ impl Search {
     pub fn close(&mut self) -> Result<(), Refusal> {
         // SAFETY: the record is borrowed here alone.
         let said = unsafe { raw::planner_close(&mut *self.record) };
+        said.accepted().map(|_| ())
+    }
+
+    /// Brings back what a shelf has under a name, 1 to 8, whatever is open here; 24, 33, 34.
+    pub fn back(&mut self, shelf: &Shelf, name: usize) -> Result<(), Refusal> {
+        // SAFETY: the record is borrowed here alone, and the shelf is another and only read.
+        let said = unsafe { raw::planner_back(&mut *self.record, &*shelf.places, name) };
+        said.accepted().map(|_| ())
+    }
+}
+
+/// Searches saved under the names 1 to 8. It owns its places, eight records on the heap.
+#[derive(Clone, Debug)]
+pub struct Shelf {
+    places: Box<Places>,
+}
+
+impl Default for Shelf {
+    fn default() -> Shelf {
+        Shelf::fresh()
+    }
+}
+
+impl Shelf {
+    /// Nothing is saved.
+    pub fn fresh() -> Shelf {
+        // SAFETY: the call takes nothing.
+        let places = unsafe { raw::planner_fresh_shelf() };
+        Shelf::from_places(Box::new(places))
+    }
+
+    /// The shelf that these places stand for, which may hold anything.
+    pub fn from_places(places: Box<Places>) -> Shelf {
+        Shelf { places }
+    }
+
+    /// The places: whoever stores a shelf stores these.
+    pub fn places(&self) -> &Places {
+        &self.places
+    }
+
+    /// Saves an open search under a name, 1 to 8, in place of what stood there; 24, 20, 33.
+    pub fn save(&mut self, search: &Search, name: usize) -> Result<(), Refusal> {
+        // SAFETY: the places are borrowed here alone, and the record is another and only read.
+        let said = unsafe { raw::planner_save(&mut *self.places, &*search.record, name) };
         said.accepted().map(|_| ())
     }
 }

@@ -7,6 +7,8 @@ pub const VERTICES: usize = 20;
 pub const EDGES: usize = 190;
 /// The most nodes that wait in a search.
 pub const NODES: usize = VERTICES + 2;
+/// The places of a shelf, with the names 1 to 8.
+pub const SHELF: usize = 8;
 /// The most times of an edge that its recent cost looks at.
 pub const WINDOW: usize = 32;
 /// The most pairs of a comparison.
@@ -101,6 +103,13 @@ pub struct Record {
     pub has_best: u8,
 }
 
+/// The shelf of searches that save and back work on (docs/RECORD.md). Where a place fails its check both are refused 24.
+#[repr(C)]
+#[derive(Clone, PartialEq, Eq, Debug)]
+pub struct Places {
+    pub places: [Record; SHELF],
+}
+
 /// Holds a type to the header: its size, and where each field stands.
 macro_rules! layout {
     ($kind:ty, $size:expr, $($field:ident at $offset:expr),*) => {
@@ -119,6 +128,8 @@ layout!(
     settings at 0, upper at 24, count at 32, depth at 40, graph at 48, multipliers at 1_380, carried at 1_460, stack at 3_220, best at 7_400,
     open at 7_590, has_best at 7_591
 );
+
+layout!(Places, SHELF * std::mem::size_of::<Record>(), places at 0);
 
 // A pointer must lead to as much memory as the call is told, also where the length is 0, and no two that are lent may overlap.
 extern "C" {
@@ -193,4 +204,7 @@ extern "C" {
     pub fn planner_tell(s: *mut Record) -> Said;
     pub fn planner_show(s: *mut Record, out: *mut u8, length: usize) -> Said;
     pub fn planner_close(s: *mut Record) -> Said;
+    pub fn planner_fresh_shelf() -> Places;
+    pub fn planner_save(shelf: *mut Places, s: *const Record, name: usize) -> Said;
+    pub fn planner_back(s: *mut Record, shelf: *const Places, name: usize) -> Said;
 }

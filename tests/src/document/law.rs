@@ -182,6 +182,23 @@ pub struct Law {
     pub carried_fit: bool,
     /// and are zero past n
     pub carried_zero_past_n: bool,
+
+    /// C-18: "names 1 to 8"
+    pub max_name: usize,
+    /// C-18: "save with no hunt open is still 20, tested before 33"
+    pub open_before_name: bool,
+    /// C-18: "Saving replaces an earlier state"
+    pub save_replaces: bool,
+    /// C-18: "the latest accepted save under that name"
+    pub back_of_own_name: bool,
+    /// C-18: "back needs no open hunt", and replaces one that is open
+    pub back_replaces: bool,
+    /// C-18: what is saved stays where it is when it is brought back
+    pub back_keeps_place: bool,
+    /// C-18: states are saved "beside the hunt": closing it leaves them
+    pub close_keeps_places: bool,
+    /// C-18: "24 covers the lent saved states too": every one of them
+    pub every_place_checked: bool,
 }
 
 impl Law {
@@ -271,5 +288,13 @@ impl Law {
         zeros_past_depth: true,
         carried_fit: true,
         carried_zero_past_n: true,
+        max_name: 8,
+        open_before_name: true,
+        save_replaces: true,
+        back_of_own_name: true,
+        back_replaces: true,
+        back_keeps_place: true,
+        close_keeps_places: true,
+        every_place_checked: true,
     };
 }

@@ -12,6 +12,7 @@ pub mod programs;
 pub mod recent;
 pub mod rulings;
 pub mod sailing;
+pub mod shelf;
 pub mod tours;
 pub mod tree;
 

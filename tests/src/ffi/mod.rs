@@ -12,6 +12,7 @@ use planner::raw::{self, planner_check, planner_read, planner_recent, planner_wr
 pub mod lent;
 pub mod sailings;
 pub mod searches;
+pub mod shelves;
 pub mod trees;
 
 /// Makes a call of the library, where its stack is measured.

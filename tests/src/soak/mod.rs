@@ -27,11 +27,12 @@ pub struct Kind {
     pub bends: &'static [Bend],
 }
 
-pub const KINDS: [Kind; 6] = [
+pub const KINDS: [Kind; 7] = [
     charts::FILES,
     charts::VALUES,
     searches::RECORDS,
     searches::LISTS,
+    searches::SHELVES,
     programs::RULINGS,
     programs::HUNT,
 ];

@@ -3,6 +3,7 @@
 use super::{Kind, Numbered, Watch};
 use crate::bends;
 use crate::document::machine::{Call, Machine};
+use crate::document::shelf::{AnyCall, Shelved};
 use crate::document::tree::Method;
 use crate::ffi::{only, Reply};
 use crate::generate;
@@ -11,11 +12,12 @@ use crate::record::{Record, BEFORE_STACK, STACK};
 use crate::report::Outcome;
 use crate::suites::damage::{harm, sound};
 use crate::suites::records::{reply, vary};
+use crate::suites::shelves::{self, Both};
 
 pub const RECORDS: Kind = Kind {
     name: "records",
     run: records,
-    share: 5,
+    share: 4,
     spawns: false,
     bends: &[
         bends::HIGHER_CEILING,
@@ -48,6 +50,25 @@ pub const LISTS: Kind = Kind {
         bends::STEP_TIMES,
     ],
 };
+
+pub const SHELVES: Kind = Kind {
+    name: "shelves",
+    run: shelves,
+    share: 1,
+    spawns: false,
+    bends: &[
+        bends::FIRST_SAVE_STAYS,
+        bends::BACK_OF_NEXT_NAME,
+        bends::CLOSE_EMPTIES,
+        bends::NAMED_PLACE_CHECKED,
+    ],
+};
+
+impl Numbered for (Reply, Both) {
+    fn number(&self) -> Option<u32> {
+        self.0.number()
+    }
+}
 
 impl Numbered for (Reply, Record) {
     fn number(&self) -> Option<u32> {
@@ -167,4 +188,34 @@ fn lists(random: &mut Random, watch: &mut Watch) -> Outcome {
         .for_each(|budget| *budget = (*budget).min(1));
     let machine = Machine::new(watch.law, Method::Kruskal);
     list_on(watch, Record::made_fresh(), Some(machine), &list)
+}
+
+/// Saves and backs on any two records, and a list of all seven calls from fresh ones.
+fn shelves(random: &mut Random, watch: &mut Watch) -> Outcome {
+    let mut both = shelves::harmed(random);
+    if random.one_in(4) {
+        both.record = hostile_record(random);
+    }
+    let name = shelves::name(random);
+    for call in [AnyCall::Save(name), AnyCall::Back(name)] {
+        let mut after = both.clone();
+        let wanted = shelves::expected(watch.law, &both, &call);
+        let input = || format!("{call:?} on {both:?}");
+        watch.compare("on any records", input, wanted, || {
+            (after.call(&call), after)
+        })?;
+    }
+    let mut plain = generate::calls(random, 5, 10);
+    vary(random, &mut plain);
+    let list = shelves::list_of(random, plain);
+    let (mut state, mut both) = (Shelved::new(watch.law), Both::made_fresh());
+    for (i, call) in list.iter().enumerate() {
+        let answer = state.call(call);
+        let wanted = (reply(&answer), Both::of(&state));
+        let input = || format!("the first {} of {list:?}", i + 1);
+        watch.compare("seven calls", input, wanted, || {
+            (both.call(call), both.clone())
+        })?;
+    }
+    Ok(())
 }

@@ -44,6 +44,8 @@ pub mod round_trips;
 #[cfg(feature = "library")]
 pub mod rule;
 #[cfg(feature = "library")]
+pub mod shelves;
+#[cfg(feature = "library")]
 pub mod simulate;
 #[cfg(feature = "library")]
 pub mod tree;
@@ -92,6 +94,8 @@ pub fn all() -> Vec<Suite> {
         records::SUITE,
         #[cfg(feature = "library")]
         inherited::SUITE,
+        #[cfg(feature = "library")]
+        shelves::SUITE,
         #[cfg(feature = "library")]
         damage::SUITE,
         #[cfg(feature = "library")]

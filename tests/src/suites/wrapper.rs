@@ -2,14 +2,15 @@
 
 use super::recent::{break_log, log};
 use super::rule::{arguments, Arguments};
-use super::{compare, simulate};
+use super::{compare, shelves, simulate};
 use crate::bends;
 use crate::chart_cases::every_file;
 use crate::document::graph::{self, Graph, FREE, PLACES, REQUIRED};
 use crate::document::law::Law;
-use crate::document::machine::{self, Answer, Call, Machine};
+use crate::document::machine::{self, Answer, Call};
 use crate::document::recent;
 use crate::document::rulings::{self, BAR, FORCE, KEEP};
+use crate::document::shelf::{AnyCall, Shelved};
 use crate::document::tree::{self, Method};
 use crate::document::{chart, sailing, Refusal};
 use crate::ffi::by_value;
@@ -18,7 +19,8 @@ use crate::random::Random;
 use crate::record::{Record, SIZE};
 use crate::report::{hex, Outcome, Suite, Tally};
 use planner::{
-    Edge, Mark, Progress, Ruled, Ruling, Sailing, Search, Settings, Terms, Told, Tree, Verdict,
+    Edge, Mark, Progress, Ruled, Ruling, Sailing, Search, Settings, Shelf, Terms, Told, Tree,
+    Verdict,
 };
 
 pub const SUITE: Suite = Suite {
@@ -39,6 +41,7 @@ pub const SUITE: Suite = Suite {
         bends::HIGHER_DENOMINATOR,
         bends::DENOMINATOR_BEFORE_STEP,
         bends::LEG_BEFORE_DENOMINATOR,
+        bends::BACK_OF_NEXT_NAME,
     ],
 };
 
@@ -310,23 +313,34 @@ fn parts(record: &planner::Record) -> Record {
 
 /// One list of calls; and at its end a record that fails its check.
 fn searches(law: &Law, tally: &mut Tally, random: &mut Random) -> Outcome {
-    let list = generate::calls(random, 5, 10);
-    let mut machine = Machine::new(law, Method::Kruskal);
-    let mut search = Search::fresh();
+    let plain = generate::calls(random, 5, 10);
+    let list = shelves::list_of(random, plain);
+    let mut state = Shelved::new(law);
+    let (mut search, mut shelf) = (Search::fresh(), Shelf::fresh());
     let fresh = || "a fresh record".to_string();
     let made = Record::made_fresh();
     tally.compare("fresh", fresh, &made, &parts(search.record()))?;
     for (i, call) in list.iter().enumerate() {
-        let got = answer(&mut search, call);
-        let m = machine.search.as_ref().map_or(0, |search| search.graph.m);
+        let got = match call {
+            AnyCall::Plain(call) => answer(&mut search, call),
+            AnyCall::Save(name) => shelf.save(&search, *name).map(|()| Said::Accepted),
+            AnyCall::Back(name) => search.back(&shelf, *name).map(|()| Said::Accepted),
+        };
+        let open = state.machine.search.as_ref();
+        let length = open.map_or(0, |search| search.graph.m);
         let expected = said(match call {
-            Call::Show { .. } => machine.call(&Call::Show { length: m }),
-            _ => machine.call(call),
+            AnyCall::Plain(Call::Show { .. }) => state.call(&AnyCall::Plain(Call::Show { length })),
+            _ => state.call(call),
         });
         let input = || format!("the first {} of {list:?}", i + 1);
         tally.compare("answer", input, &expected, &got)?;
         let record = parts(search.record());
-        tally.compare("record", input, &Record::of(&machine.search), &record)?;
+        let left = Record::of(&state.machine.search);
+        tally.compare("record", input, &left, &record)?;
+    }
+    for (saved, place) in state.saved.iter().zip(&shelf.places().places) {
+        let input = || format!("{list:?}");
+        tally.compare("place", input, &Record::of(saved), &parts(place))?;
     }
     let mut record = Box::new(search.record().clone());
     record.open = 2;

@@ -1,4 +1,4 @@
--- The answer, a struct, and its pairs with the record, with a shelf and with a graph, as crate thin takes them. Assumes nothing.
+-- The answer, a struct, and its pairs with the record, with a shelf, with a dispatcher and with a graph, as crate thin takes them. Assumes nothing.
 use denote.Struct.Laws as LL
 use denote.Struct.Struct.{Plains, layout}
 use denote.Struct.Declared.{Declared, row, shape, fields}
@@ -11,6 +11,9 @@ use Rattle.ffi.proofs.Filled as F
 use Rattle.ffi.proofs.Filled.Laws as F′
 use Rattle.ffi.proofs.Said as B
 use Rattle.ffi.proofs.Said.Laws as B′
+use Rattle.dispatcher.proofs.ThinTypes.{dispatcher}
+use Rattle.ffi.proofs.dispatches.Dispatched as D
+use Rattle.ffi.proofs.dispatches.Dispatched.Laws as D′
 use Rattle.ffi.proofs.searches.Replied as R
 use Rattle.ffi.proofs.searches.Replied.Laws as R′
 use Rattle.ffi.proofs.shelves.Stored as K
@@ -69,4 +72,17 @@ filled = record {
   R-tells = LL.tells F.the-type F′.the-laws;
   S-is = λ r vs p. LL.owed F.the-type F′.the-laws r vs p .0;
   B-is = λ r vs p. LL.owed F.the-type F′.the-laws r vs p .1 .0;
+}
+
+abbrev pub dispatched : Pair dispatcher said
+dispatched = record {
+  R = D.the-row;
+  R-name = D.struct .name;
+  R-typed = λ 𝓤 H A W r v p. LL.lawful D.the-type D′.the-laws 𝓤 H A W .typed r _ p .0;
+  the-s = λ r. r .dispatcher;
+  the-b = λ r. r .said;
+  b-val = λ r. LL.val B.the-type B′.the-laws (r .said);
+  R-tells = LL.tells D.the-type D′.the-laws;
+  S-is = λ r vs p. LL.owed D.the-type D′.the-laws r vs p .0;
+  B-is = λ r vs p. LL.owed D.the-type D′.the-laws r vs p .1 .0;
 }

@@ -2,6 +2,7 @@
 pub mod Answers
 pub mod Searches
 pub mod Shelves
+pub mod Dispatches
 pub mod Demand3
 -- It holds.
 pub mod Theorem

@@ -1,10 +1,13 @@
--- DEMAND 3 HOLDS OF THE EXPORTED CALLS: crate shelf proves it however the answers are said, if no refusal is said as 'accepted' is. Assumes
--- nothing.
+-- DEMAND 3 HOLDS OF THE EXPORTED CALLS: crate shelf proves it however the answers are said, if no refusal is said as 'accepted' is. And so do
+-- C-24's claims, which crate dispatcher proves. Assumes nothing.
 use mathlib.Core.Path.{_≡_, ap}
 use Prim.Native.Nat.{ℕ, suc}
 use native.Mathlib.Omega.{arith}
 use Rattle.machine.specs.Following.{follows-demand-3}
 use Rattle.onetree_theorems.specs.AtOne.{EveryAnswerIsTheOldOne, search-at-one}
+use Rattle.dispatcher.specs.Claims.{Dispatches}
+use Rattle.dispatcher.specs.Theorem.{dispatches}
+use Rattle.ffi.specs.Dispatches.{saidAt, exportedAt}
 use Rattle.recent_theorems.specs.Recent.{Searched}
 use Rattle.recent_theorems.specs.Theorems.{searched}
 use Rattle.search.specs.declared.Answer.{Answer}
@@ -37,3 +40,7 @@ at-one-exported = search-at-one (callsSaid saidOf) (follows-demand-3 (callsSaid 
 
 pub at-one-calls : EveryAnswerIsTheOldOne calls
 at-one-calls = search-at-one calls (follows-demand-3 calls (calls-follow {A = Answer} (λ a. a)))
+
+-- document 02's C-24, of the exported calls on a dispatcher
+pub exported-dispatch : Dispatches exportedAt (λ d. d .places)
+exported-dispatch = dispatches saidAt

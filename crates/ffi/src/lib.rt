@@ -6,6 +6,7 @@ ghost use lib.ListN.{length};
 ghost use Rattle.charts.specs.Chart.{reading, writeOutcome, writeLeaves};
 ghost use Rattle.ffi.specs.Answers.{plain, saidOutcome, checkOutcome, filledBy, Fills};
 
+mod dispatches;
 mod logs;
 mod searches;
 mod shelves;
@@ -27,6 +28,9 @@ pub(crate) const FINISHED: u32 = 1002;
 pub(crate) const NO_TOUR: u32 = 1003;
 
 pub(crate) const BEST: u32 = 1004;
+
+// A turn that found no unfinished search.
+pub(crate) const IDLE: u32 = 1005;
 
 // What a call answers.
 #[repr(C)]

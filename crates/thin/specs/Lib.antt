@@ -5,6 +5,7 @@ pub mod None
 pub mod Number
 pub mod Bytes
 pub mod List
+pub mod NumberList
 pub mod Opening
 pub mod Log
 pub mod Beside

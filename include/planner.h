@@ -15,7 +15,8 @@
  * vertices in sailing order from vertex 1; 37 a student number not 0 to 65,535, or a spread not 0 to 1,000; 38 a window that is not 1 to 32; 39 a
  * log entry that names no edge or a time that is no cost as in 9, with its place from 1. Of a record: 24 it fails its check; 20 no search is open;
  * 21 one is open; 22 show while going on; 23 show after 'none'. Of a shelf: 24 a place fails its check; 33 a name that
- * is not 1 to 8; 34 nothing stands under the name.
+ * is not 1 to 8; 34 nothing stands under the name. Of a dispatcher: 24 it fails its check; 40 a turn of 0 nodes; 41 a ninth search; 42 a place
+ * that is not 1 to 8; 20 a place that holds no search.
  */
 #ifndef PLANNER_H
 #define PLANNER_H
@@ -31,7 +32,7 @@ enum {
     PLANNER_VERTICES = 20,   /* at most */
     PLANNER_EDGES = 190,     /* at most */
     PLANNER_NODES = 22,      /* a search has at most n + 2 nodes waiting */
-    PLANNER_PLACES = 8,      /* of a shelf */
+    PLANNER_PLACES = 8,      /* of a shelf, and of a dispatcher */
     PLANNER_WINDOW = 32,     /* at most */
     PLANNER_PAIRS = 16,      /* at most, in a comparison */
     PLANNER_STUDENT = 65535, /* at most */
@@ -41,7 +42,8 @@ enum {
     PLANNER_GOING_ON = 1001, /* run, tell */
     PLANNER_FINISHED = 1002, /* run */
     PLANNER_NO_TOUR = 1003,  /* tell: finished, and there is no tour within the ceiling */
-    PLANNER_BEST = 1004      /* tell: finished, the best cost is told */
+    PLANNER_BEST = 1004,     /* tell: finished, the best cost is told */
+    PLANNER_IDLE = 1005      /* turn: no unfinished search is held */
 };
 
 /* What a call answers. */
@@ -102,6 +104,13 @@ typedef struct {
 typedef struct {
     planner_search places[PLANNER_PLACES];
 } planner_shelf;
+
+/* A dispatcher (docs/RECORD.md): the place last served, 0 where none was, and the record of each place. It is large: keep it off a small stack.
+ * Begin with planner_fresh_dispatcher; write nothing in it. */
+typedef struct {
+    size_t last;
+    planner_search places[PLANNER_PLACES];
+} planner_dispatcher;
 
 /* 0 where the graph keeps to the rules, else 15. */
 planner_said planner_check(planner_graph g);
@@ -171,6 +180,22 @@ planner_said planner_save(planner_shelf *shelf, const planner_search *s, size_t 
 /* The search under a name into *s, whatever *s held; the shelf is only read. 0, 24 (either record, any place), 33 or 34. */
 planner_said planner_back(planner_search *s, const planner_shelf *shelf, size_t name);
 
+/* A dispatcher that holds no search. */
+planner_dispatcher planner_fresh_dispatcher(void);
+
+/* Opens a search at the free place with the smallest number; 0 with that place; 24, 41, 15, 11, 12, 13, 14 or 32. */
+planner_said planner_add(planner_dispatcher *d, planner_graph g, const int32_t *multipliers, size_t multipliers_length,
+                         planner_settings settings);
+
+/* Opens at most p nodes of the next unfinished search after the place last served, in cyclic order; 0 with its place, or PLANNER_IDLE where
+ * there is none and nothing changes; 24 or 40. */
+planner_said planner_turn(planner_dispatcher *d, uint64_t p);
+
+/* As planner_tell, planner_show and planner_close, of the search at a place, 1 to 8; 24, 42, 20, and show also 22, 23 or 11. */
+planner_said planner_tell_at(planner_dispatcher *d, size_t place);
+planner_said planner_show_at(planner_dispatcher *d, size_t place, uint8_t *out, size_t length);
+planner_said planner_close_at(planner_dispatcher *d, size_t place);
+
 #ifdef __cplusplus
 }
 #endif
@@ -195,6 +220,8 @@ PLANNER_ASSERT(offsetof(planner_search, multipliers) == 1380 && offsetof(planner
 PLANNER_ASSERT(offsetof(planner_search, stack) == 3220 && offsetof(planner_search, best) == 7400);
 PLANNER_ASSERT(offsetof(planner_search, open) == 7590 && offsetof(planner_search, has_best) == 7591);
 PLANNER_ASSERT(sizeof(planner_shelf) == PLANNER_PLACES * sizeof(planner_search));
+PLANNER_ASSERT(sizeof(planner_dispatcher) == sizeof(size_t) + PLANNER_PLACES * sizeof(planner_search));
+PLANNER_ASSERT(offsetof(planner_dispatcher, last) == 0 && offsetof(planner_dispatcher, places) == sizeof(size_t));
 PLANNER_ASSERT(sizeof(planner_said) == 32 && offsetof(planner_said, number) == 0 && offsetof(planner_said, place) == 8);
 PLANNER_ASSERT(offsetof(planner_said, value) == 16 && offsetof(planner_said, nodes) == 24);
 PLANNER_ASSERT(sizeof(planner_sailed) == 32 && offsetof(planner_sailed, number) == 0 && offsetof(planner_sailed, place) == 8);

@@ -16,6 +16,7 @@ mod ours;
 mod planner;
 mod recent;
 mod table;
+mod turns;
 
 use lines::Options;
 use measure::{Plan, Sides};
@@ -74,6 +75,7 @@ fn main() {
     tables.extend(optimum::lines(&options));
     if ours {
         recent::lines(&options);
+        turns::lines(&options);
     }
     table::print_summary(&tables);
 }

@@ -19,7 +19,7 @@ from .ceilings import Falling
 from .faults import Faults
 from .formats import load, parse, save
 from .library import (
-    EXCLUDED, FREE, MARKS, REQUIRED, RULINGS, Edge, Graph, Ran, Refused, Rulings, Sailing, Search, Shelf, Told, Tree, check, read, write,
+    EXCLUDED, FREE, MARKS, REQUIRED, RULINGS, Dispatcher, Edge, Graph, Ran, Refused, Rulings, Sailing, Search, Shelf, Told, Tree, check, read, write,
 )  # fmt: skip
 from .search import LONG, Answer, Progress, order
 
@@ -82,7 +82,7 @@ def compare(
 
 __all__ = [
     "EXCLUDED", "FREE", "MARKS", "REQUIRED", "RULINGS",
-    "Answer", "Edge", "Falling", "Faults", "Graph", "Ran", "Refused", "Rulings", "Sailing", "Search", "Shelf", "Told", "Tree",
+    "Answer", "Dispatcher", "Edge", "Falling", "Faults", "Graph", "Ran", "Refused", "Rulings", "Sailing", "Search", "Shelf", "Told", "Tree",
     "check", "compare", "falling", "graph_of", "load", "order", "parse", "preview", "read", "recent_costs", "rule", "save", "simulate", "solve",
     "tree", "write",
 ]  # fmt: skip

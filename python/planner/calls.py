@@ -1,8 +1,8 @@
 """A script of calls, one answer a line: what a line says is sent to the library as it is, and the library judges it.
 
-One search record and one shelf of saved searches serve the whole script. Settings print nothing: the current chart ('sea', 'chart'), the
-dues, the length of the next list that is lent ('list'), the denominator. Calls print one line: tree, preview, rule, recent, simulate,
-compare, open, run, tell, show, close, save, back.
+One search record, one shelf of saved searches and one dispatcher serve the whole script. Settings print nothing: the current chart ('sea',
+'chart'), the dues, the length of the next list that is lent ('list'), the denominator. Calls print one line: tree, preview, rule, recent,
+simulate, compare, open, run, tell, show, close, save, back, add, turn, tellat, showat, closeat.
 """
 from __future__ import annotations
 
@@ -13,8 +13,8 @@ from typing import IO
 from .faults import Faults, shown, whole_number
 from .formats import LONGEST, load
 from .library import (
-    BYTE, EXCLUDED, FREE, INT32, INT64, REQUIRED, UINT32, UINT64, Edge, Graph, Refused, Search, Shelf, Tree, compare, preview, recent_costs,
-    rule, simulate, tree,
+    BYTE, EXCLUDED, FREE, INT32, INT64, REQUIRED, UINT32, UINT64, Dispatcher, Edge, Graph, Refused, Search, Shelf, Told, Tree, compare, preview,
+    recent_costs, rule, simulate, tree,
 )  # fmt: skip
 from .output import Progress, complain, listed
 
@@ -34,15 +34,20 @@ FORMS = {
     "close": "close",
     "save": "save NAME",
     "back": "back NAME",
+    "add": "add CEILING SWEEPS STEP",
+    "turn": "turn P",
+    "tellat": "tellat K",
+    "showat": "showat K",
+    "closeat": "closeat K",
 }
 Answer = tuple[str, dict[str, object]]  # the line, and the same as fields
 
 
 class Script:
-    """The current settings, the search record and the shelf; makes the calls."""
+    """The current settings, the search record, the shelf and the dispatcher; makes the calls."""
 
     def __init__(self) -> None:
-        self.search, self.shelf = Search(), Shelf()
+        self.search, self.shelf, self.dispatcher = Search(), Shelf(), Dispatcher()
         self.use(Graph(0))
         self.settings: dict[str, Callable[[list[str]], None]] = {
             "sea": self.sea, "dues": self.set_dues, "list": self.set_list, "denominator": self.set_denominator,
@@ -157,10 +162,7 @@ class Script:
 
     def tell(self) -> Answer:
         """The verdict."""
-        told = self.search.tell()
-        if told.verdict == "cost":
-            return f"cost {told.cost} nodes {told.nodes}", {"verdict": "cost", "cost": told.cost, "nodes": told.nodes}
-        return f"{told.verdict} nodes {told.nodes}", {"verdict": told.verdict, "nodes": told.nodes}
+        return said_verdict(self.search.tell())
 
     def show(self) -> Answer:
         """The best tour."""
@@ -180,6 +182,31 @@ class Script:
     def back(self, name: str) -> Answer:
         """The hunt under a name, brought back."""
         self.search.back(self.shelf, whole_number(name, "name", UINT64))
+        return "accepted", {"verdict": "accepted"}
+
+    def add(self, ceiling: str, sweeps: str, step: str) -> Answer:
+        """A hunt more for the dispatcher."""
+        numbers = whole_number(ceiling, "ceiling", INT64), whole_number(sweeps, "sweeps", UINT32), whole_number(step, "step", UINT32)
+        place = self.dispatcher.add(self.graph, *numbers, self.dues, self.denominator)
+        return f"place {place}", {"place": place}
+
+    def turn(self, nodes: str) -> Answer:
+        """A turn of the dispatcher."""
+        place = self.dispatcher.turn(whole_number(nodes, "nodes", UINT64))
+        return ("idle", {"verdict": "idle"}) if place is None else (f"place {place}", {"place": place})
+
+    def tellat(self, place: str) -> Answer:
+        """The verdict at a place."""
+        return said_verdict(self.dispatcher.tell(whole_number(place, "place", UINT64)))
+
+    def showat(self, place: str) -> Answer:
+        """The best tour at a place."""
+        tour = self.dispatcher.show(whole_number(place, "place", UINT64), self.next_length())
+        return f"legs {listed(tour)}", {"legs": tour}
+
+    def closeat(self, place: str) -> Answer:
+        """Closing at a place."""
+        self.dispatcher.close(whole_number(place, "place", UINT64))
         return "accepted", {"verdict": "accepted"}
 
     # Lines
@@ -210,6 +237,13 @@ def said_tree(found: Tree | None) -> Answer:
     if found is None:
         return "no tree", {"verdict": "no tree"}
     return f"bound {found.bound} legs {listed(found.edges)}", {"bound": found.bound, "legs": found.edges}
+
+
+def said_verdict(told: Told) -> Answer:
+    """What a tell says."""
+    if told.verdict == "cost":
+        return f"cost {told.cost} nodes {told.nodes}", {"verdict": "cost", "cost": told.cost, "nodes": told.nodes}
+    return f"{told.verdict} nodes {told.nodes}", {"verdict": told.verdict, "nodes": told.nodes}
 
 
 def taken(words: list[str], allowed: str) -> list[str]:

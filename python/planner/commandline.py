@@ -11,12 +11,13 @@ from typing import Any, NamedTuple, NoReturn
 
 from . import formats
 from .calls import pair
+from .classroom import TURN
 from .faults import Faults, shown, span, whole_number
 from .library import DENOMINATORS, HIGHEST_TOUR, INT32, INT64, UINT32, UINT64, WINDOWS
 from .output import OutputLost, complain, say, silence
 from .search import LONG
 from .subcommands import (
-    LOST, WRONG, on_graph, run_calls, run_compare, run_convert, run_draw, run_page, run_preview, run_recent, run_regrade, run_rule, run_simulate,
+    LOST, WRONG, on_graph, run_calls, run_class, run_compare, run_convert, run_draw, run_page, run_preview, run_recent, run_regrade, run_rule, run_simulate,
     run_solve, run_tree,
 )  # fmt: skip
 
@@ -165,6 +166,15 @@ COMMANDS = (
             **DUES, **JSON,
         },
         "compare examples/four.txt --ceiling 12",
+    ),
+    Command(
+        "class", run_class, "the cheapest rounds of up to eight seas, whose hunts take turns",
+        {
+            "files": {"metavar": "FILE", "nargs": "+", "help": FILE["file"]["help"]},
+            "--turn": {"metavar": "P", "type": number_of("nodes of a turn", UINT64), "default": TURN, "help": f"nodes of a turn ({TURN:,})"},
+            "--ceiling": {**CEILING, "help": "only rounds that cost at most this"}, "--nodes": MOST, **JSON,
+        },
+        "class examples/four.txt examples/sea.txt",
     ),
     Command(
         "regrade", run_regrade, "hold the recorded costs of a folder of charts to the library",

@@ -34,7 +34,7 @@ RULINGS = ("keep", "force", "bar", "required", "struck")
 BYTE, INT32, INT64 = range(2**8), range(-(2**31), 2**31), range(-(2**63), 2**63)
 UINT32, UINT64 = range(2**32), range(2**64)
 
-NONE, GOING_ON, FINISHED, NO_TOUR, BEST = range(1000, 1005)  # what a call answers that is no refusal
+NONE, GOING_ON, FINISHED, NO_TOUR, BEST, IDLE = range(1000, 1006)  # what a call answers that is no refusal
 MOST_LENT = 1 << 20  # bytes: no list as long as this has a right length, so that none is read or written
 PIECE = 1_000  # nodes: some hundredths of a second at 20 vertices
 
@@ -68,6 +68,9 @@ MEANINGS = {
     37: "the student number or the spread is out of range",
     38: "the number of last times not 1 to 32",
     39: "a log entry that names no leg, or a time outside the cost range",
+    40: "a turn of 0 nodes",
+    41: "a ninth hunt while eight are held",
+    42: f"a place that is not 1 to {PLACES}",
 }
 
 
@@ -130,12 +133,16 @@ class CShelf(ctypes.Structure):
     _fields_ = [("places", CSearch * PLACES)]
 
 
+class CDispatcher(ctypes.Structure):
+    _fields_ = [("last", c_size_t), ("places", CSearch * PLACES)]
+
+
 Said = TypeVar("Said", CSaid, CSailed)
 
 for struct, size in ((CSaid, 32), (CGraph, 1_332), (CSettings, 24), (CSailed, 32), (CTerms, 24), (CSearch, 7_592)):
     assert ctypes.sizeof(struct) == size, f"{struct.__name__} is not as the library has it"
 
-_BYTES, _RECORD, _SHELF = POINTER(c_uint8), POINTER(CSearch), POINTER(CShelf)
+_BYTES, _RECORD, _SHELF, _DISPATCHER = POINTER(c_uint8), POINTER(CSearch), POINTER(CShelf), POINTER(CDispatcher)
 _DUES = (POINTER(c_int32), c_size_t)
 _PAIR = (POINTER(c_uint32), c_size_t)
 _CALLS = {
@@ -157,6 +164,12 @@ _CALLS = {
     "planner_fresh_shelf": (CShelf, ()),
     "planner_save": (CSaid, (_SHELF, _RECORD, c_size_t)),
     "planner_back": (CSaid, (_RECORD, _SHELF, c_size_t)),
+    "planner_fresh_dispatcher": (CDispatcher, ()),
+    "planner_add": (CSaid, (_DISPATCHER, CGraph, *_DUES, CSettings)),
+    "planner_turn": (CSaid, (_DISPATCHER, c_uint64)),
+    "planner_tell_at": (CSaid, (_DISPATCHER, c_size_t)),
+    "planner_show_at": (CSaid, (_DISPATCHER, c_size_t, _BYTES, c_size_t)),
+    "planner_close_at": (CSaid, (_DISPATCHER, c_size_t)),
 }
 
 
@@ -420,6 +433,21 @@ class Told(NamedTuple):
     cost: int | None = None
 
 
+def _told(said: CSaid) -> Told:
+    """What a tell says."""
+    _accepted(said)
+    if said.number == BEST:
+        return Told("cost", said.nodes, said.value)
+    return Told("none" if said.number == NO_TOUR else "going on", said.nodes)
+
+
+def _settings(ceiling: int, sweeps: int, step: int, denominator: int) -> CSettings:
+    """What an opening takes beside the graph and the multipliers."""
+    return CSettings(
+        _fits(ceiling, INT64, "ceiling"), _fits(sweeps, UINT32, "sweeps"), _fits(step, UINT32, "step"), _fits(denominator, UINT64, "denominator")
+    )
+
+
 class Search:
     """A search record with the calls on it. Each call answers, or raises Refused and leaves the record as it was.
 
@@ -435,10 +463,7 @@ class Search:
     ) -> None:
         """Opens a search. Multipliers and step count in parts of a minute, as the denominator says; the ceiling in minutes."""
         lent, count = _multipliers(graph, multipliers)
-        settings = CSettings(
-            _fits(ceiling, INT64, "ceiling"), _fits(sweeps, UINT32, "sweeps"), _fits(step, UINT32, "step"), _fits(denominator, UINT64, "denominator")
-        )
-        _accepted(library().planner_open(self.record, graph.c, lent, count, settings))
+        _accepted(library().planner_open(self.record, graph.c, lent, count, _settings(ceiling, sweeps, step, denominator)))
 
     def run(self, budget: int, progress: Callable[[Search], None] | None = None) -> Ran:
         """Opens at most so many nodes, in pieces, so that a program can be interrupted and see how far it is.
@@ -457,10 +482,7 @@ class Search:
 
     def tell(self) -> Told:
         """The verdict, the count of nodes and, where there is one, the least cost."""
-        said = _accepted(library().planner_tell(self.record))
-        if said.number == BEST:
-            return Told("cost", said.nodes, said.value)
-        return Told("none" if said.number == NO_TOUR else "going on", said.nodes)
+        return _told(library().planner_tell(self.record))
 
     def show(self, length: int | None = None) -> tuple[int, ...]:
         """The numbers of the best tour's edges. The length is that of the list lent; the right one is m."""
@@ -494,3 +516,40 @@ class Shelf:
         """Saves an open search under a name, in place of what stood there."""
         _accepted(library().planner_save(self.record, search.record, _fits(name, UINT64, "name")))
         self.more[name] = search.more
+
+
+# A dispatcher
+
+
+class Dispatcher:
+    """Up to eight searches that take turns, at places 1 to 8. Each call answers, or raises Refused and leaves everything as it was."""
+
+    def __init__(self) -> None:
+        self.record: CDispatcher = library().planner_fresh_dispatcher()
+
+    def add(
+        self, graph: Graph, ceiling: int, sweeps: int = 0, step: int = 0, multipliers: Sequence[int] | None = None, denominator: int = 1
+    ) -> int:
+        """Opens a search at the free place with the smallest number, which is answered."""
+        lent, count = _multipliers(graph, multipliers)
+        return _accepted(library().planner_add(self.record, graph.c, lent, count, _settings(ceiling, sweeps, step, denominator))).place
+
+    def turn(self, nodes: int) -> int | None:
+        """At most so many nodes for the next unfinished search after the one last served; its place, or None where there is none."""
+        said = _accepted(library().planner_turn(self.record, _fits(nodes, UINT64, "nodes")))
+        return None if said.number == IDLE else said.place
+
+    def tell(self, place: int) -> Told:
+        """The verdict at a place, the count of nodes and, where there is one, the least cost."""
+        return _told(library().planner_tell_at(self.record, _fits(place, UINT64, "place")))
+
+    def show(self, place: int, length: int | None = None) -> tuple[int, ...]:
+        """The numbers of the best tour's edges at a place. The length is that of the list lent; the right one is m."""
+        m = self.record.places[place - 1].graph.m if 1 <= place <= PLACES else 0
+        out, told = _list(m, length)
+        _accepted(library().planner_show_at(self.record, _fits(place, UINT64, "place"), out, told))
+        return _chosen(out, m)
+
+    def close(self, place: int) -> None:
+        """Ends the search at a place, which is free again."""
+        _accepted(library().planner_close_at(self.record, _fits(place, UINT64, "place")))

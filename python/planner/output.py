@@ -5,7 +5,7 @@ import errno
 import os
 import sys
 import time
-from collections.abc import Iterable
+from collections.abc import Callable, Iterable
 from typing import IO
 
 from .faults import Faults
@@ -86,12 +86,20 @@ class Progress:
         self.next, self.shown = time.monotonic() + 1, False
 
     def __call__(self, search: Search) -> None:
+        def words() -> str:
+            """How far the search is."""
+            best = search.best_so_far()
+            so_far = "no round yet" if best is None else f"best so far {best}"
+            return f"nodes {search.record.count}, {so_far}, ceiling {search.record.settings.ceiling}"
+
+        self.line(words)
+
+    def line(self, words: Callable[[], str]) -> None:
+        """Shows these words, if it is time."""
         now = time.monotonic()
         if self.shows and now >= self.next:
             self.next, self.shown = now + 0.2, True
-            best = search.best_so_far()
-            so_far = "no round yet" if best is None else f"best so far {best}"
-            self.write(f"\r\033[Knodes {search.record.count}, {so_far}, ceiling {search.record.settings.ceiling}")
+            self.write(f"\r\033[K{words()}")
 
     def end(self) -> None:
         """Takes the line away; the next search has its first second again."""

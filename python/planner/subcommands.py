@@ -11,6 +11,7 @@ from pathlib import Path
 from . import formats
 from .calls import run_script
 from .ceilings import falling
+from .classroom import Class
 from .drawing import Drawing
 from .faults import Faults
 from .library import FREE, RULINGS, Graph, Refused, Tree, compare, preview, recent_costs, rule, simulate, tree
@@ -221,6 +222,45 @@ def run_compare(arguments: argparse.Namespace, name: str, graph: Graph) -> int:
     else:
         say("\n".join(["sweeps  step  nodes", *(f"{sweeps:6} {step:5}  {count or 'going on'}" for sweeps, step, count in rows)]))
     return ANSWERED if all(counts) else UNDECIDED
+
+
+def run_class(arguments: argparse.Namespace) -> int:
+    """planner class"""
+    hunts, seas = Class(), []
+    for number, file in enumerate(arguments.files):
+        name = formats.shown_path(file)
+        try:
+            graph = formats.load(file)
+            hunts.join(number, graph, arguments.ceiling)
+        except Refused as refused:
+            return refuse(name, refused, arguments.json)
+        seas.append((name, graph))
+    progress, statuses = Progress(), []
+    try:
+        told = hunts.answers(
+            arguments.turn, arguments.nodes, arguments.ceiling is not None,
+            lambda left, nodes: progress.line(lambda: f"{left} hunts are going on, the one just served after {nodes} nodes"),
+        )  # fmt: skip
+        for number, answer in told:
+            progress.end()
+            statuses.append(say_hunt(*seas[number], answer, arguments.json))
+    except Refused as refused:
+        progress.end()
+        return refuse("planner class", refused, arguments.json)
+    progress.end()
+    return max(statuses, key=(ANSWERED, UNDECIDED, NEGATIVE).index)
+
+
+def say_hunt(name: str, graph: Graph, answer: Answer, as_json: bool) -> int:
+    """One hunt of a class, on one line; its status."""
+    found = answer.verdict == "cost"
+    if as_json:
+        round_found = {"cost": answer.cost, "round": order(graph, answer.tour), "legs": answer.tour} if found else {}
+        say_json(file=name, verdict=answer.verdict, **round_found, nodes=answer.nodes)
+    else:
+        words = f"cost {answer.cost} round {listed(order(graph, answer.tour), '-')}" if found else answer.verdict
+        say(f"{name}: {words} nodes {answer.nodes}")
+    return {"cost": ANSWERED, "none": NEGATIVE, "going on": UNDECIDED}[answer.verdict]
 
 
 def not_over_input(out: str, read: str) -> None:

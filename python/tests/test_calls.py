@@ -156,6 +156,30 @@ rule -1990 > bound -1990000 rulings 1 1 2 1 2 1
 rule -1991 > dead
 {FOUR}
 
+# A dispatcher: turns go round, a closed place is free again, and the search record is another.
+turn 3 > idle
+add 12 0 0 > place 1
+add 12 0 0 > place 2
+add 12 0 0 > place 3
+turn 1 > place 1
+turn 1 > place 2
+turn 1 > place 3
+turn 1 > place 1
+closeat 2 > accepted
+add 12 0 0 > place 2
+turn 1 > place 2
+turn 1 > place 3
+turn 9 > place 1
+turn 9 > place 2
+tellat 3 > going on nodes 2
+turn 9 > place 3
+turn 9 > idle
+tellat 1 > cost 12 nodes 5
+showat 3 > legs 1 3 4 6
+add 11 0 0 > place 4
+turn 18446744073709551615 > place 4
+tellat 4 > none nodes 3
+
 # Marks as letters and as bytes.
 sea 4 1-2:4m0 1-3:3s 1-4:5m1 2-3:-2r 2-4:6 3-4:1m2
 tree > bound 13 legs 1 3 4 5
@@ -292,6 +316,32 @@ preview 1 1 > refused 15 at 0
 simulate 65536 1001 1 > refused 15 at 0
 compare 50000001 5 > refused 15 at 0
 {FOUR}
+
+# Of a dispatcher: 40; 42 before 20; 41 before the opening's own.
+turn 0 > refused 40 at 0
+tellat 0 > refused 42 at 0
+tellat 9 > refused 42 at 0
+showat 18446744073709551615 > refused 42 at 0
+closeat 1 > refused 20 at 0
+showat 8 > refused 20 at 0
+add 5000000001 0 0 > refused 13 at 0
+add 12 16 0 > refused 14 at 0
+add 12 0 0 > place 1
+showat 1 > refused 22 at 0
+add 12 0 0 > place 2
+add 12 0 0 > place 3
+add 12 0 0 > place 4
+add 12 0 0 > place 5
+add 12 0 0 > place 6
+add 12 0 0 > place 7
+add 12 0 0 > place 8
+add 5000000001 0 0 > refused 41 at 0
+closeat 7 > accepted
+closeat 7 > refused 20 at 0
+add 11 0 0 > place 7
+turn 1000 > place 1
+list 5
+showat 1 > refused 11 at 0
 
 # Of a sailing: 15, 11, then 36, then 37; of a comparison 15, 11, 12, 13, 14.
 simulate 65536 2 4 6 3 > refused 11 at 0
@@ -443,6 +493,7 @@ class Scripts(unittest.TestCase):
     def test_lines_that_cannot_be_read(self):
         """Each says its line on standard error; the script goes on, settings as they were; the status is 2."""
         names = "allowed are sea, chart, dues, list, denominator, tree, preview, rule, recent, simulate, compare, open, run, tell, show, close, save, back"
+        names += ", add, turn, tellat, showat, closeat"
         wide = "allowed is -9223372036854775808 to 9223372036854775807"
         no_leg = "is no leg; allowed is A-B:COST, with r, s or mK behind it"
         wrong = (
@@ -473,8 +524,11 @@ class Scripts(unittest.TestCase):
             ("simulate 0", "too few words; allowed is simulate STUDENT E LEG .."),
             ("compare 12", "too few words; allowed is compare CEILING BUDGET SWEEPS/STEP .."),
             ("compare 12 5 3", "'3' is no pair; allowed is SWEEPS/STEP"),
-            ("turn 1", f"'turn' is unknown; {names}"),
-            ("tellat 1", f"'tellat' is unknown; {names}"),
+            ("add 12 0", "too few words; allowed is add CEILING SWEEPS STEP"),
+            ("turn", "too few words; allowed is turn P"),
+            ("turn -1", "nodes -1 is out of range; allowed is 0 to 18446744073709551615"),
+            ("tellat x", "place 'x' is not a whole number; allowed is 0 to 18446744073709551615"),
+            ("showat 1 2", "too many words; allowed is showat K"),
             ("settings", f"'settings' is unknown; {names}"),
             ("take", f"'take' is unknown; {names}"),
             ("rule x", f"ceiling 'x' is not a whole number; {wide}"),

@@ -158,7 +158,7 @@ class Usage(unittest.TestCase):
         out, _, status = command("--help")
         self.assertEqual(status, 0)
         names = re.findall(r"^    (\w+) ", out, re.MULTILINE)
-        self.assertEqual(names, ["solve", "rule", "tree", "preview", "recent", "simulate", "compare", "regrade", "convert", "draw", "page", "calls"])
+        self.assertEqual(names, ["solve", "rule", "tree", "preview", "recent", "simulate", "compare", "class", "regrade", "convert", "draw", "page", "calls"])
         for name in names:
             out, complaints, status = command(name, "--help")
             self.assertEqual((out.startswith(f"usage: planner {name} "), complaints, status), (True, "", 0))

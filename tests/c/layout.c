@@ -53,6 +53,10 @@ AT(planner_search, best, 7400);
 AT(planner_search, open, 7590);
 AT(planner_search, has_best, 7591);
 
+CLAIM(sizeof(planner_dispatcher) == sizeof(size_t) + 8 * sizeof(planner_search));
+AT(planner_dispatcher, last, 0);
+AT(planner_dispatcher, places, sizeof(size_t));
+
 static int passed, failed;
 
 static void expect(const char *what, int holds) {
@@ -216,6 +220,28 @@ int main(void) {
     expect("the tour", stands(&s, 7400, out, M) && s.depth == 0);
     said_so("close", planner_close(&s), 0, 0, 0, 0);
     expect("closed, a record is fresh", memcmp(&s, &fresh, sizeof s) == 0);
+
+    {
+        static planner_dispatcher d, empty;
+        memset(&d, 0xa5, sizeof d);
+        d = planner_fresh_dispatcher();
+        expect("a fresh dispatcher is zero", memcmp(&d, &empty, sizeof d) == 0);
+        said_so("an empty dispatcher's turn", planner_turn(&d, 1), PLANNER_IDLE, 0, 0, 0);
+        said_so("add", planner_add(&d, g, multipliers, N, settings), 0, 1, 0, 0);
+        said_so("add another", planner_add(&d, g, multipliers, N, settings), 0, 2, 0, 0);
+        record(&d.places[1], &g, multipliers, settings, settings.ceiling, 0);
+        said_so("a turn", planner_turn(&d, 1), 0, 1, 0, 0);
+        expect("the place last served", d.last == 1 && d.places[0].count == 1 && d.places[1].count == 0);
+        said_so("another turn", planner_turn(&d, 1000000), 0, 2, 0, 0);
+        said_so("tell at a place", planner_tell_at(&d, 1), PLANNER_GOING_ON, 0, 0, 1);
+        said_so("show at a place", planner_show_at(&d, 2, out, M), 0, 0, 0, 0);
+        expect("the tour at a place", memcmp(d.places[1].best, out, M) == 0);
+        said_so("an empty place", planner_tell_at(&d, 3), 20, 0, 0, 0);
+        said_so("no place", planner_close_at(&d, PLANNER_PLACES + 1), 42, 0, 0, 0);
+        said_so("a turn of no nodes", planner_turn(&d, 0), 40, 0, 0, 0);
+        said_so("close at a place", planner_close_at(&d, 2), 0, 0, 0, 0);
+        expect("a closed place is fresh", memcmp(&d.places[1], &fresh, sizeof fresh) == 0);
+    }
 
     printf("layout: %d passed, %d failed\n", passed, failed);
     return failed != 0;

@@ -511,3 +511,68 @@ pub const NAMED_PLACE_CHECKED: Bend = Bend {
     what: "24 tests the named place alone",
     bend: |law| law.every_place_checked = false,
 };
+
+pub const SCAN_FROM_THE_LAST: Bend = Bend {
+    what: "a turn looks at the place last served first",
+    bend: |law| law.turn_skips = 0,
+};
+
+pub const ALWAYS_FROM_ONE: Bend = Bend {
+    what: "every turn begins at place 1",
+    bend: |law| law.after_the_last = false,
+};
+
+pub const LAST_NOT_STORED: Bend = Bend {
+    what: "a turn does not become the last",
+    bend: |law| law.last_kept = false,
+};
+
+pub const FINISHED_SERVED: Bend = Bend {
+    what: "a finished hunt gets turns",
+    bend: |law| law.finished_passed_over = false,
+};
+
+pub const ONE_NODE_MORE: Bend = Bend {
+    what: "a turn gives p + 1 nodes",
+    bend: |law| law.nodes_more = 1,
+};
+
+pub const IDLE_FORGETS: Bend = Bend {
+    what: "an idle turn forgets the place last served",
+    bend: |law| law.idle_keeps_last = false,
+};
+
+pub const IDLE_BEFORE_ZERO: Bend = Bend {
+    what: "a turn of 0 nodes is idle where no hunt is unfinished",
+    bend: |law| law.zero_refused_idle = false,
+};
+
+pub const HIGHEST_FREE: Bend = Bend {
+    what: "the free place with the highest number is taken",
+    bend: |law| law.smallest_free = false,
+};
+
+pub const FINISHED_GIVE_WAY: Bend = Bend {
+    what: "41 only where eight are unfinished",
+    bend: |law| law.finished_are_held = false,
+};
+
+pub const OPENING_BEFORE_FULL: Bend = Bend {
+    what: "an opening's own refusals come before 41",
+    bend: |law| law.full_before_opening = false,
+};
+
+pub const PLACE_ZERO: Bend = Bend {
+    what: "place 0 is an empty place",
+    bend: |law| law.first_place = 0,
+};
+
+pub const SEVEN_PLACES_CHECKED: Bend = Bend {
+    what: "24 does not look at place 8",
+    bend: |law| law.places_checked = 7,
+};
+
+pub const LAST_OF_NINE: Bend = Bend {
+    what: "a dispatcher's last served may be 9",
+    bend: |law| law.max_last = 9,
+};

@@ -1,5 +1,6 @@
 //! The search record: its parts, the record of a state of the machine, and the record's own check as docs/RECORD.md states it.
 
+use crate::document::dispatcher::{self, Dispatcher};
 use crate::document::graph::{self, Graph, EXCLUDED, PLACES, REQUIRED};
 use crate::document::law::Law;
 use crate::document::machine::{Call, Machine, Node, Search};
@@ -250,6 +251,61 @@ impl Record {
             })
             && self.best.iter().all(|x| *x <= 1)
             && self.count < 1 << 63
+    }
+}
+
+/// Bytes of a dispatcher: the place last served, and a record for each place.
+pub const DISPATCHER: usize = 8 + dispatcher::PLACES * SIZE;
+
+/// A dispatcher's parts, with any contents.
+#[derive(Clone, PartialEq, Eq, Debug)]
+pub struct Dispatched {
+    pub last: usize,
+    pub places: Vec<Record>,
+}
+
+impl Dispatched {
+    /// The one of a state.
+    pub fn of(state: &Dispatcher) -> Dispatched {
+        Dispatched {
+            last: state.last,
+            places: state.places.iter().map(|m| Record::of(&m.search)).collect(),
+        }
+    }
+
+    /// As it lies in memory: the place last served, then the records.
+    pub fn bytes(&self) -> Vec<u8> {
+        let mut bytes = self.last.to_ne_bytes().to_vec();
+        bytes.extend(self.places.iter().flat_map(Record::bytes));
+        bytes
+    }
+
+    pub fn of_bytes(bytes: &[u8]) -> Dispatched {
+        let mut rest = bytes;
+        Dispatched {
+            last: usize::from_ne_bytes(next(&mut rest)),
+            places: rest.chunks(SIZE).map(Record::of_bytes).collect(),
+        }
+    }
+
+    /// Whether it passes its own check; refusal 24 where it does not.
+    pub fn passes(&self, law: &Law) -> bool {
+        let checked = &self.places[..law.places_checked];
+        self.last <= law.max_last && checked.iter().all(|record| record.passes(law))
+    }
+
+    /// The dispatcher in the one state that it stands for; none where it fails its check.
+    pub fn dispatcher(&self, law: &Law) -> Option<Dispatcher> {
+        if !self.passes(law) {
+            return None;
+        }
+        let mut state = Dispatcher::new(law, Method::Kruskal);
+        let machines = self.places.iter().map(|record| record.machine(law));
+        state.places = machines
+            .map(|machine| machine.unwrap_or(Machine::new(law, Method::Kruskal)))
+            .collect();
+        state.last = self.last;
+        Some(state)
     }
 }
 

@@ -5,17 +5,26 @@ use std::arch::asm;
 use std::cell::RefCell;
 use std::collections::BTreeMap;
 
-/// No call of the library but those on a shelf uses more stack than this: README states it, `soak` holds them to it.
+/// No call of the library but those on a shelf or a dispatcher uses more stack than this: README states it, `soak` holds them to it.
 pub const STATED: usize = 64 * 1024;
 
-/// Nor does one of those on a shelf use more than this: they copy it.
-pub const STATED_OF_SHELVES: usize = 264 * 1024;
+/// Nor does one of those on a shelf or a dispatcher use more than this: they copy its eight records.
+pub const STATED_OF_EIGHT: usize = 264 * 1024;
 
 /// What is stated of a call.
 pub fn stated(name: &str) -> usize {
-    match name {
-        "planner_fresh_shelf" | "planner_save" | "planner_back" => STATED_OF_SHELVES,
-        _ => STATED,
+    let ends = [
+        "_shelf",
+        "_save",
+        "_back",
+        "_dispatcher",
+        "_add",
+        "_turn",
+        "_at",
+    ];
+    match ends.iter().any(|end| name.ends_with(end)) {
+        true => STATED_OF_EIGHT,
+        false => STATED,
     }
 }
 
@@ -23,7 +32,7 @@ pub fn stated(name: &str) -> usize {
 pub const STATED_OF_PROGRAMS: usize = 128 * 1024;
 
 /// Words of the painted stack: more than is stated, so that a call that goes too deep is measured and does not break anything.
-const WORDS: usize = 4 * STATED_OF_SHELVES / 8;
+const WORDS: usize = 4 * STATED_OF_EIGHT / 8;
 
 const PAINT: u64 = 0x7061_696e_7465_6421;
 

@@ -17,7 +17,7 @@
 
 pub mod raw;
 
-pub use raw::{Graph, Places, Record, Settings, Terms};
+pub use raw::{Graph, Places, Record, Settings, Terms, Turns};
 
 use raw::{Said, EDGES};
 use std::fmt;
@@ -62,6 +62,9 @@ impl Refusal {
             37 => "a student number or a spread out of range",
             38 => "a window that is not 1 to 32",
             39 => "a log entry that names no edge, or a time out of the cost range",
+            40 => "a turn of 0 nodes",
+            41 => "a ninth search",
+            42 => "a place that is not 1 to 8",
             _ => "a number that documents 01 and 02 do not have",
         }
     }
@@ -458,6 +461,19 @@ pub struct Told {
     pub nodes: u64,
 }
 
+impl Told {
+    fn of(said: Said) -> Result<Told, Refusal> {
+        let verdict = match said.number {
+            raw::GOING_ON => Verdict::GoingOn,
+            raw::NO_TOUR => Verdict::NoTour,
+            raw::BEST => Verdict::Best(said.value),
+            _ => return Err(said.refusal()),
+        };
+        let nodes = said.nodes;
+        Ok(Told { verdict, nodes })
+    }
+}
+
 /// A search for the cheapest tour. It owns its record, 7,592 bytes on the heap.
 #[derive(Clone, Debug)]
 pub struct Search {
@@ -523,15 +539,7 @@ impl Search {
     /// The verdict; 24, 20.
     pub fn tell(&mut self) -> Result<Told, Refusal> {
         // SAFETY: the record is borrowed here alone.
-        let said = unsafe { raw::planner_tell(&mut *self.record) };
-        let verdict = match said.number {
-            raw::GOING_ON => Verdict::GoingOn,
-            raw::NO_TOUR => Verdict::NoTour,
-            raw::BEST => Verdict::Best(said.value),
-            _ => return Err(said.refusal()),
-        };
-        let nodes = said.nodes;
-        Ok(Told { verdict, nodes })
+        Told::of(unsafe { raw::planner_tell(&mut *self.record) })
     }
 
     /// For each edge whether the cheapest tour has it; 24, 20, 22, 23.
@@ -591,6 +599,104 @@ impl Shelf {
     pub fn save(&mut self, search: &Search, name: usize) -> Result<(), Refusal> {
         // SAFETY: the places are borrowed here alone, and the record is another and only read.
         let said = unsafe { raw::planner_save(&mut *self.places, &*search.record, name) };
+        said.accepted().map(|_| ())
+    }
+}
+
+/// Up to eight searches that take turns. It owns its record, eight search records and a number, on the heap.
+///
+/// ```
+/// use planner::{Dispatcher, Edge, Graph, Settings, Verdict};
+///
+/// let graph = Graph::from_edges(3, &[Edge::free(1, 2, 4), Edge::free(1, 3, 3), Edge::free(2, 3, 2)]);
+/// let mut class = Dispatcher::fresh();
+/// let place = class.add(&graph, &[0; 3], Settings { ceiling: 100, sweeps: 0, step: 0, denominator: 1 })?;
+/// assert_eq!(class.turn(1_000)?, Some(place));
+/// assert_eq!(class.tell(place)?.verdict, Verdict::Best(9));
+/// assert_eq!(class.turn(1_000)?, None);
+/// # Ok::<(), planner::Refusal>(())
+/// ```
+#[derive(Clone, Debug)]
+pub struct Dispatcher {
+    places: Box<Turns>,
+}
+
+impl Default for Dispatcher {
+    fn default() -> Dispatcher {
+        Dispatcher::fresh()
+    }
+}
+
+impl Dispatcher {
+    /// No search is held.
+    pub fn fresh() -> Dispatcher {
+        // SAFETY: the call takes nothing.
+        let places = unsafe { raw::planner_fresh_dispatcher() };
+        Dispatcher::from_places(Box::new(places))
+    }
+
+    /// The dispatcher that a record stands for, which may hold anything.
+    pub fn from_places(places: Box<Turns>) -> Dispatcher {
+        Dispatcher { places }
+    }
+
+    /// The record: whoever stores a dispatcher stores this.
+    pub fn places(&self) -> &Turns {
+        &self.places
+    }
+
+    /// Opens a search at the free place with the smallest number, which is answered; 24, 41, 15, 11, 12, 13, 14, 32.
+    pub fn add(
+        &mut self,
+        graph: &Graph,
+        multipliers: &[i32],
+        settings: Settings,
+    ) -> Result<usize, Refusal> {
+        // SAFETY: the dispatcher is borrowed here alone; `multipliers` has the length that is passed with it and is only read.
+        let said = unsafe {
+            raw::planner_add(
+                &mut *self.places,
+                *graph,
+                multipliers.as_ptr(),
+                multipliers.len(),
+                settings,
+            )
+        };
+        said.accepted().map(|said| said.place as usize)
+    }
+
+    /// At most p nodes for the next unfinished search after the place last served, in cyclic order; its place, or none where no search is
+    /// unfinished, and then nothing changes; 24, 40.
+    pub fn turn(&mut self, p: u64) -> Result<Option<usize>, Refusal> {
+        // SAFETY: the dispatcher is borrowed here alone.
+        let said = unsafe { raw::planner_turn(&mut *self.places, p) };
+        if said.number == raw::IDLE {
+            return Ok(None);
+        }
+        said.accepted().map(|said| Some(said.place as usize))
+    }
+
+    /// The verdict of the search at a place, 1 to 8; 24, 42, 20.
+    pub fn tell(&mut self, place: usize) -> Result<Told, Refusal> {
+        // SAFETY: the dispatcher is borrowed here alone.
+        Told::of(unsafe { raw::planner_tell_at(&mut *self.places, place) })
+    }
+
+    /// For each edge whether the cheapest tour of the search at a place has it; 24, 42, 20, 22, 23.
+    pub fn show(&mut self, place: usize) -> Result<Vec<bool>, Refusal> {
+        let held = place.checked_sub(1).and_then(|k| self.places.places.get(k));
+        let mut out = vec![0; held.map_or(0, |record| record.graph.places())];
+        // SAFETY: the dispatcher and `out` are borrowed here alone; `out` has the length that is passed with it.
+        let said = unsafe {
+            raw::planner_show_at(&mut *self.places, place, out.as_mut_ptr(), out.len())
+        };
+        said.accepted().map(|_| bits(&out))
+    }
+
+    /// Ends the search at a place, which is free again; 24, 42, 20.
+    pub fn close(&mut self, place: usize) -> Result<(), Refusal> {
+        // SAFETY: the dispatcher is borrowed here alone.
+        let said = unsafe { raw::planner_close_at(&mut *self.places, place) };
         said.accepted().map(|_| ())
     }
 }

@@ -7,8 +7,8 @@ pub const VERTICES: usize = 20;
 pub const EDGES: usize = 190;
 /// The most nodes that wait in a search.
 pub const NODES: usize = VERTICES + 2;
-/// The places of a shelf, with the names 1 to 8.
-pub const SHELF: usize = 8;
+/// The places of a shelf, with the names 1 to 8, and of a dispatcher.
+pub const PLACES: usize = 8;
 /// The most times of an edge that its recent cost looks at.
 pub const WINDOW: usize = 32;
 /// The most pairs of a comparison.
@@ -32,6 +32,8 @@ pub const FINISHED: u32 = 1002;
 pub const NO_TOUR: u32 = 1003;
 /// `planner_tell`: finished, and the best cost is told.
 pub const BEST: u32 = 1004;
+/// `planner_turn`: no unfinished search is held.
+pub const IDLE: u32 = 1005;
 
 /// What a call answers. A field without a value is 0.
 #[repr(C)]
@@ -107,7 +109,16 @@ pub struct Record {
 #[repr(C)]
 #[derive(Clone, PartialEq, Eq, Debug)]
 pub struct Places {
-    pub places: [Record; SHELF],
+    pub places: [Record; PLACES],
+}
+
+/// Eight searches that take turns (docs/RECORD.md): the place last served, 0 where none was, and the record of each place. With contents
+/// that fail its check every call is refused 24.
+#[repr(C)]
+#[derive(Clone, PartialEq, Eq, Debug)]
+pub struct Turns {
+    pub last: usize,
+    pub places: [Record; PLACES],
 }
 
 /// Holds a type to the header: its size, and where each field stands.
@@ -129,7 +140,8 @@ layout!(
     open at 7_590, has_best at 7_591
 );
 
-layout!(Places, SHELF * std::mem::size_of::<Record>(), places at 0);
+layout!(Places, PLACES * std::mem::size_of::<Record>(), places at 0);
+layout!(Turns, 8 + PLACES * std::mem::size_of::<Record>(), last at 0, places at 8);
 
 // A pointer must lead to as much memory as the call is told, also where the length is 0, and no two that are lent may overlap.
 extern "C" {
@@ -207,4 +219,16 @@ extern "C" {
     pub fn planner_fresh_shelf() -> Places;
     pub fn planner_save(shelf: *mut Places, s: *const Record, name: usize) -> Said;
     pub fn planner_back(s: *mut Record, shelf: *const Places, name: usize) -> Said;
+    pub fn planner_fresh_dispatcher() -> Turns;
+    pub fn planner_add(
+        d: *mut Turns,
+        g: Graph,
+        multipliers: *const i32,
+        multipliers_length: usize,
+        settings: Settings,
+    ) -> Said;
+    pub fn planner_turn(d: *mut Turns, p: u64) -> Said;
+    pub fn planner_tell_at(d: *mut Turns, place: usize) -> Said;
+    pub fn planner_show_at(d: *mut Turns, place: usize, out: *mut u8, length: usize) -> Said;
+    pub fn planner_close_at(d: *mut Turns, place: usize) -> Said;
 }

@@ -7,7 +7,7 @@ use planner_tests::random::Random;
 use planner_tests::soak::counts::Counts;
 use planner_tests::soak::programs::{ended, hunt_input, limited, Ended};
 use planner_tests::soak::{kind_of, random_of, run, Kind, Watch, KINDS};
-use planner_tests::stack::{self, stated, STATED_OF_PROGRAMS, STATED_OF_SHELVES};
+use planner_tests::stack::{self, stated, STATED_OF_EIGHT, STATED_OF_PROGRAMS};
 use std::fs;
 use std::hint::black_box;
 use std::os::unix::process::ExitStatusExt;
@@ -29,7 +29,7 @@ const OWN: usize = 128 * 1024;
 const STACK_RUNS: u64 = 3_000;
 
 /// The calls that the library exports.
-const CALLS: usize = 18;
+const CALLS: usize = 24;
 
 /// What to do, as the command line says it.
 #[derive(Clone)]
@@ -118,7 +118,7 @@ fn folder() -> PathBuf {
 
 /// Makes the runs in a thread that has no more stack than a call may use, and prints what was counted.
 fn worker(plan: Plan) -> Result<(), String> {
-    let thread = thread::Builder::new().stack_size(STATED_OF_SHELVES + OWN);
+    let thread = thread::Builder::new().stack_size(STATED_OF_EIGHT + OWN);
     let counts = thread
         .spawn(move || runs(&plan))
         .map_err(|error| error.to_string())?
@@ -245,15 +245,17 @@ fn measure() -> Result<(), String> {
             .ok_or(format!("{program} is missing or needs more than is stated"))?;
         println!("{program}: {}; stated {STATED_OF_PROGRAMS}", 1024 * kib);
     }
-    let over = deepest.iter().filter(|(name, used)| **used > stated(name));
-    let over: Vec<_> = over.collect();
+    let over: Vec<_> = deepest
+        .iter()
+        .filter(|(name, used)| **used > stated(name))
+        .collect();
     match deepest.iter().max_by_key(|(_, bytes)| **bytes) {
         Some((name, bytes)) if over.is_empty() && deepest.len() == CALLS => {
-            println!("deepest call {name}, {bytes}");
+            println!("deepest call {name}, {bytes}; stated {}", stated(name));
             Ok(())
         }
         _ => Err(format!(
-            "over what is stated, or not all measured: {over:?}"
+            "more than is stated, or not all measured: {over:?}"
         )),
     }
 }

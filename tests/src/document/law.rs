@@ -170,6 +170,33 @@ pub struct Law {
     /// 22 and 23 come before 11
     pub record_before_length: bool,
 
+    /// C-24: "after the one last served": the scan begins so many places behind it
+    pub turn_skips: usize,
+    /// C-24: the cyclic order goes on from the one last served, and does not begin at place 1 each time
+    pub after_the_last: bool,
+    /// C-24: a turn's place becomes the one last served
+    pub last_kept: bool,
+    /// C-24: "the next unfinished hunt"
+    pub finished_passed_over: bool,
+    /// C-24: "gives p nodes", and so many more
+    pub nodes_more: u64,
+    /// C-24: "a turn changes nothing" where all are finished
+    pub idle_keeps_last: bool,
+    /// C-24: 40 also where no hunt is unfinished
+    pub zero_refused_idle: bool,
+    /// C-24: "the free place with the smallest number"
+    pub smallest_free: bool,
+    /// C-24: "while eight are held": a finished hunt still holds its place
+    pub finished_are_held: bool,
+    /// C-24: 41 comes before the opening's own refusals
+    pub full_before_opening: bool,
+    /// C-24: "its places 1 to 8"
+    pub first_place: usize,
+    /// the check of a dispatcher covers all eight places
+    pub places_checked: usize,
+    /// its last served is at most 8
+    pub max_last: usize,
+
     /// a record's flags are 0 or 1
     pub max_flag: u8,
     /// its depth is at most n + 2
@@ -282,6 +309,19 @@ impl Law {
         required_on_top: true,
         marks_apart: true,
         record_before_length: true,
+        turn_skips: 1,
+        after_the_last: true,
+        last_kept: true,
+        finished_passed_over: true,
+        nodes_more: 0,
+        idle_keeps_last: true,
+        zero_refused_idle: true,
+        smallest_free: true,
+        finished_are_held: true,
+        full_before_opening: true,
+        first_place: 1,
+        places_checked: 8,
+        max_last: 8,
         max_flag: 1,
         nodes_above_vertices: 2,
         required_short: 0,

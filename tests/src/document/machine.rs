@@ -235,6 +235,11 @@ impl Machine {
         }
     }
 
+    /// Another one of the same kind, with no hunt.
+    pub fn fresh(&self) -> Machine {
+        Machine::new(&self.law, self.method)
+    }
+
     pub fn call(&mut self, call: &Call) -> Answer {
         match self.answer(call) {
             Ok(answer) => answer,

@@ -4,6 +4,7 @@
 //! search (hunt), stack (pile), incumbent (best).
 
 pub mod chart;
+pub mod dispatcher;
 pub mod former;
 pub mod graph;
 pub mod law;

@@ -9,6 +9,7 @@ use crate::report::Hex;
 use lent::Lent;
 use planner::raw::{self, planner_check, planner_read, planner_recent, planner_write, Said};
 
+pub mod dispatches;
 pub mod lent;
 pub mod sailings;
 pub mod searches;

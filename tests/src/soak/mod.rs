@@ -11,6 +11,7 @@ use std::path::PathBuf;
 
 pub mod charts;
 pub mod counts;
+pub mod dispatches;
 pub mod programs;
 pub mod searches;
 
@@ -20,19 +21,20 @@ pub type Run = fn(&mut Random, &mut Watch) -> Outcome;
 pub struct Kind {
     pub name: &'static str,
     pub run: Run,
-    /// of every 20 runs, so many
+    /// of every 21 runs, so many
     pub share: u64,
     /// Whether it spawns a program.
     pub spawns: bool,
     pub bends: &'static [Bend],
 }
 
-pub const KINDS: [Kind; 7] = [
+pub const KINDS: [Kind; 8] = [
     charts::FILES,
     charts::VALUES,
     searches::RECORDS,
     searches::LISTS,
     searches::SHELVES,
+    dispatches::DISPATCHERS,
     programs::RULINGS,
     programs::HUNT,
 ];

@@ -20,6 +20,8 @@ pub mod damage;
 #[cfg(feature = "library")]
 pub mod denominators;
 #[cfg(feature = "library")]
+pub mod dispatcher;
+#[cfg(feature = "library")]
 pub mod falling_ceilings;
 #[cfg(feature = "library")]
 pub mod inherited;
@@ -100,6 +102,8 @@ pub fn all() -> Vec<Suite> {
         damage::SUITE,
         #[cfg(feature = "library")]
         library_searches::SUITE,
+        #[cfg(feature = "library")]
+        dispatcher::SUITE,
         #[cfg(feature = "library")]
         layout::SUITE,
         #[cfg(feature = "library")]

@@ -1,5 +1,6 @@
 //! The safe wrapper for Rust against the reference: reading, writing, trees, rulings, and lists of calls on a search.
 
+use super::dispatcher::call as a_call;
 use super::recent::{break_log, log};
 use super::rule::{arguments, Arguments};
 use super::{compare, shelves, simulate};
@@ -12,11 +13,11 @@ use crate::document::recent;
 use crate::document::rulings::{self, BAR, FORCE, KEEP};
 use crate::document::shelf::{AnyCall, Shelved};
 use crate::document::tree::{self, Method};
-use crate::document::{chart, sailing, Refusal};
+use crate::document::{chart, dispatcher, sailing, Refusal};
 use crate::ffi::by_value;
 use crate::generate;
 use crate::random::Random;
-use crate::record::{Record, SIZE};
+use crate::record::{Dispatched, Record, SIZE};
 use crate::report::{hex, Outcome, Suite, Tally};
 use planner::{
     Edge, Mark, Progress, Ruled, Ruling, Sailing, Search, Settings, Shelf, Terms, Told, Tree,
@@ -42,6 +43,7 @@ pub const SUITE: Suite = Suite {
         bends::DENOMINATOR_BEFORE_STEP,
         bends::LEG_BEFORE_DENOMINATOR,
         bends::BACK_OF_NEXT_NAME,
+        bends::HIGHEST_FREE,
     ],
 };
 
@@ -50,6 +52,9 @@ fn run(law: &Law, tally: &mut Tally) -> Outcome {
     files(law, tally)?;
     for round in 0..4_000 {
         trees(law, tally, random, round % 3 == 2)?;
+    }
+    for _ in 0..150 {
+        dispatchers(law, tally, random)?;
     }
     for round in 0..2_000 {
         searches(law, tally, random)?;
@@ -351,6 +356,99 @@ fn searches(law: &Law, tally: &mut Tally, random: &mut Random) -> Outcome {
     };
     let input = || "a record with the flag 2".to_string();
     tally.compare("24", input, &Err(unfit), &refused)
+}
+
+/// A list of calls on a dispatcher through the wrapper; the list that is lent to show has the right length.
+fn dispatchers(law: &Law, tally: &mut Tally, random: &mut Random) -> Outcome {
+    let list: Vec<dispatcher::Call> = (0..25).map(|_| a_call(random, true)).collect();
+    let mut state = dispatcher::Dispatcher::new(law, Method::Kruskal);
+    let mut class = planner::Dispatcher::fresh();
+    for (i, call) in list.iter().enumerate() {
+        let input = || format!("the first {} of {list:?}", i + 1);
+        let got = on_dispatcher(&mut class, call);
+        let call = match *call {
+            dispatcher::Call::Show { place, .. } => {
+                let held = state.places.get(place.wrapping_sub(1));
+                let held = held.and_then(|machine| machine.search.as_ref());
+                let length = held.map_or(0, |search| search.graph.m);
+                dispatcher::Call::Show { place, length }
+            }
+            ref other => other.clone(),
+        };
+        let expected = match state.call(&call) {
+            dispatcher::Answer::Refused(refused) => Err(refusal(refused)),
+            dispatcher::Answer::Placed(place) => Ok(OnClass::Placed(place)),
+            dispatcher::Answer::Served(place) => Ok(OnClass::Turned(Some(place))),
+            dispatcher::Answer::Idle => Ok(OnClass::Turned(None)),
+            dispatcher::Answer::Said(answer) => said(answer).map(OnClass::Said),
+        };
+        tally.compare("a dispatcher's answer", input, &expected, &got)?;
+        let places = class.places();
+        let found = Dispatched {
+            last: places.last,
+            places: places.places.iter().map(parts).collect(),
+        };
+        tally.compare("a dispatcher", input, &Dispatched::of(&state), &found)?;
+    }
+    let mut places = Box::new(class.places().clone());
+    places.last = 9;
+    let refused = planner::Dispatcher::from_places(places).turn(1);
+    let unfit = planner::Refusal {
+        number: 24,
+        place: 0,
+    };
+    let input = || "a dispatcher that last served place 9".to_string();
+    tally.compare("24", input, &Err(unfit), &refused)
+}
+
+/// What the wrapper's calls on a dispatcher give.
+#[derive(PartialEq, Eq, Debug)]
+enum OnClass {
+    Placed(usize),
+    Turned(Option<usize>),
+    Said(Said),
+}
+
+fn on_dispatcher(
+    class: &mut planner::Dispatcher,
+    call: &dispatcher::Call,
+) -> Result<OnClass, planner::Refusal> {
+    match call {
+        dispatcher::Call::Add(open) => {
+            let Call::Open {
+                graph,
+                multipliers,
+                ceiling,
+                sweeps,
+                step,
+                denominator,
+            } = open
+            else {
+                unreachable!("a search is added by an opening");
+            };
+            let settings = Settings {
+                ceiling: *ceiling,
+                sweeps: *sweeps,
+                step: *step,
+                denominator: *denominator,
+            };
+            let placed = class.add(&by_value(graph), multipliers, settings);
+            placed.map(OnClass::Placed)
+        }
+        dispatcher::Call::Turn { portion } => class.turn(*portion).map(OnClass::Turned),
+        dispatcher::Call::Tell { place } => {
+            let told = class.tell(*place);
+            told.map(|told| OnClass::Said(Said::Told(told)))
+        }
+        dispatcher::Call::Show { place, .. } => {
+            let shown = class.show(*place);
+            shown.map(|edges| OnClass::Said(Said::Shown(edges)))
+        }
+        dispatcher::Call::Close { place } => {
+            let closed = class.close(*place);
+            closed.map(|()| OnClass::Said(Said::Accepted))
+        }
+    }
 }
 
 /// More edges than a graph has places for, or more vertices, are refused by every call, also where their last byte would do.

@@ -17,7 +17,7 @@ use Rattle.integers.specs.Sums.{sumZ, sum-map}
 use Rattle.graph.specs.Network.{Network, required, excluded}
 use Rattle.spanning.specs.Walks.{Walk, stay, along, back}
 use Rattle.tree_theory.specs.OneTree.{Edges, OneTree, Least, others, atOne, away, charge, bound, lacksFirst}
-use Rattle.tree_theory.specs.Agree.{Agree, tree-agree, bound-agree}
+use Rattle.tree_theory.specs.Agree.{Agree, tree-agree, bound-agree, lacks-second}
 use Rattle.compaction.specs.Ranks.{rank, nth, rank-in, nth-of, nth-in, nth-kept, rank-back, Only, down, select-thin, lacks-thin}
 
 -- the kept edges and no other, in their order
@@ -133,11 +133,6 @@ module _ (c : Edges) (g : Network) where
         avoid k i e false f = only k i f
 
 -- ---- the least 1-tree
-
-lacks-second : (m : ℕ) (s r t : Edges) → Agree m r t → lacksFirst m s r ≡ lacksFirst m s t
-unfolding lacksFirst upTo
-lacks-second zero s r t h = refl
-lacks-second (suc m) s r t h = rw (h (suc m) (inl refl), lacks-second m s r t (λ k i. h k (inr i)))
 
 module _ (c : Edges) (g : Network) (rest : RestExcluded c g) (r : Edges) where
   pub spread-tree : OneTree (thin c g) r → OneTree g (spread c r)

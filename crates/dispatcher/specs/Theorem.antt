@@ -141,6 +141,7 @@ module _ (i : Interface dispatching) (f : Follows i) where
             such = y .such;
             exact = y .exact;
             least = y .least;
+            first = y .first;
             accepts = λ b e. shows b ∙ ap (λ a. i .said (theory.said a)) (y .accepts b e);
             writes = λ b e. writes b ∙ y .writes b e;
           }

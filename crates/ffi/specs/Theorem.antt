@@ -29,10 +29,14 @@ demand-3-exported = demand-3-said saidOf apart
 
 -- document 02's "Hunts are then about the chart so made.", of the exported calls and of crate shelf's
 pub recent-exported : Searched LeavesFinished (SaysAfter saidOf)
-recent-exported = searched LeavesFinished (SaysAfter saidOf) (demand-3-exported .agree)
+recent-exported =
+    searched LeavesFinished (SaysAfter saidOf)
+    (λ cs ds o p l k one same. let a = demand-3-exported .agree cs ds o p l k one same in (a .0, a .1, a .2))
 
 pub recent-calls : Searched LeavesFinished (SaysAfter {A = Answer} (λ a. a))
-recent-calls = searched LeavesFinished (SaysAfter {A = Answer} (λ a. a)) (demand-3 .agree)
+recent-calls =
+    searched LeavesFinished (SaysAfter {A = Answer} (λ a. a))
+    (λ cs ds o p l k one same. let a = demand-3 .agree cs ds o p l k one same in (a .0, a .1, a .2))
 
 -- document 02, C-17: "With q = 1, which the programs use, every answer is the old one", of both too
 pub at-one-exported : EveryAnswerIsTheOldOne (callsSaid saidOf)

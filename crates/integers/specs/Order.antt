@@ -5,9 +5,9 @@ use mathlib.Core.Bool.{true, false}
 use Prim.Native.Nat.{suc, _+_, _≤_}
 use native.Mathlib.Omega.{arith}
 use native.Mathlib.Decide.{decLe}
-use lib.IntN.{ℤ, pos, negsuc, _-ℤ_}
+use lib.IntN.{ℤ}
 use lib.Signed.{ltZ, _≤ℤ_, _<ℤ_}
-use Rattle.integers.specs.Parts.{up, dn, add-parts, eq-of-parts, le-parts, parts-le, lt-parts, parts-lt, ltZ-true, ltZ-false}
+use Rattle.integers.specs.Parts.{up, dn, eq-of-parts, le-parts, parts-le, lt-parts, parts-lt, ltZ-true, ltZ-false}
 
 pub le-trans : (x y z : ℤ) → x ≤ℤ y → y ≤ℤ z → x ≤ℤ z
 le-trans x y z h k = parts-le x z (omega (arith, le-parts x y h, le-parts y z k))
@@ -30,19 +30,6 @@ le-or-lt x y = go (decLe (up x + dn y) (up y + dn x))
     go : Dec (up x + dn y ≤ up y + dn x) → (x ≤ℤ y) ⊎ (y <ℤ x)
     go (yes h) = inl (parts-le x y h)
     go (no h) = inr (parts-lt y x (omega arith))
-
--- one less
-pub below-less-one : (x y : ℤ) → x ≤ℤ (y -ℤ pos 1) → x <ℤ y
-below-less-one x y h = parts-lt x y (omega (arith, le-parts x (y -ℤ pos 1) h, add-parts y (negsuc 0)))
-
-pub less-one-below : (x y : ℤ) → (y -ℤ pos 1) <ℤ x → y ≤ℤ x
-less-one-below x y h = parts-le y x (omega (arith, lt-parts (y -ℤ pos 1) x h, add-parts y (negsuc 0)))
-
-pub lt-le-less-one : (x y : ℤ) → x <ℤ y → x ≤ℤ (y -ℤ pos 1)
-lt-le-less-one x y h = parts-le x (y -ℤ pos 1) (omega (arith, lt-parts x y h, add-parts y (negsuc 0)))
-
-pub less-one-le : (y : ℤ) → (y -ℤ pos 1) ≤ℤ y
-less-one-le y = parts-le (y -ℤ pos 1) y (omega (arith, add-parts y (negsuc 0)))
 
 -- a test and what it decides
 pub test-lt : (x y : ℤ) → ltZ x y ≡ true → x <ℤ y

@@ -1,5 +1,6 @@
 -- THE PROOF of demand 3's claims about the machine itself: two finished searches agree, and a budget suffices. It rests on the general theorem
--- (BranchAndBound), on the invariant of lists of calls (Invariant) and on the renumbering of one network (Renumbering).
+-- (BranchAndBound), on the invariant of lists of calls (Invariant), on the renumbering of one network (Renumbering) and, where edges are
+-- numbered alike, on the networks being one (Alike).
 use mathlib.Core.Path.{_≡_, refl, sym, ap, _∙_, subst}
 use mathlib.Core.Logic.{_⊎_, inl, inr}
 use mathlib.Core.Bool.{Bool, true, false, false≢true}
@@ -10,33 +11,36 @@ use native.Mathlib.Decide.{decLe}
 use lib.ListN.{length, getD}
 use lib.IntN.{ℤ}
 use lib.Signed.{_≤ℤ_, _<ℤ_}
+use lib.Dec.{eqb}
 use borrow.Author.Tests.{eq-eqb}
-use Rattle.lists.specs.Bools.{bit}
+use Rattle.lists.specs.Bools.{by-cases, bit}
 use Rattle.lists.specs.Members.{_∈_}
 use Rattle.lists.specs.Numbers.{upTo}
-use Rattle.lists.specs.Rows.{row, row-at, row-of, row-map}
-use Rattle.integers.specs.Order.{le-antisym, le-or-lt, less-one-below}
+use Rattle.lists.specs.Rows.{row, row-size, row-at, row-same, row-of, row-map}
+use Rattle.integers.specs.Order.{le-antisym, le-or-lt}
 use Rattle.graph.specs.declared.Graph.{Graph}
 use Rattle.graph.specs.Limits.{maxEdges}
 use Rattle.graph.specs.Network.{Network, Mark, free, network}
 use Rattle.graph.specs.Places.{network-a, network-b}
 use Rattle.graph.specs.Valid as value
-use Rattle.tree_theory.specs.OneTree.{Edges}
-use Rattle.tree_theory.specs.Arrays.{edge-of}
+use Rattle.tree_theory.specs.OneTree.{Edges, lacksFirst}
+use Rattle.tree_theory.specs.Agree.{Agree, neither}
+use Rattle.tree_theory.specs.Arrays.{edge-of, of-edge}
 use Rattle.tours.specs.Tours.{Tour, Allowed, cost, Feasible}
 use Rattle.machine.specs.Outcomes.{Incumbent, noTour, aTour}
 use Rattle.machine.specs.Machine.{Node, withMarks, marksOf, Opening, trimmed, held, Progress, State, noSearch, searching, edgesOf}
-use Rattle.machine.specs.Machine.{costOf, lowered, isEmpty, finished}
+use Rattle.machine.specs.Machine.{costOf, isEmpty, finished}
 use Rattle.machine.specs.Calls.{Call, tell, show, Verdict, goingOn, none, best, accepted, tells, Reply, verdict, verdictOf, tourBytes}
 use Rattle.machine.specs.Calls.{shownBy, step, leaves, History, since, history, freeAtStart}
 use Rattle.tours.specs.OneNetwork.{OneNetwork}
-use Rattle.machine.specs.Demand3.{Finished, LeavesFinished, Such}
+use Rattle.machine.specs.Demand3.{NumberedAlike, Finished, LeavesFinished, Such}
 use Rattle.machine.specs.Demand3 as stated
 use Rattle.machine.specs.BranchAndBound.{Optimal, optimum, Reached}
 use Rattle.machine.specs.Trimmed.{network-trimmed, valid-trimmed}
 use Rattle.machine.specs.NodeTours.{Agrees, Inside, tours, allowed-agrees, agrees-allowed}
 use Rattle.machine.specs.Kept.{Sized}
 use Rattle.tours.specs.Renumbering.{Simple, one-sym, renumbered, renumbered-same}
+use Rattle.machine.specs.Alike.{network-alike}
 use Rattle.machine.specs.Invariant.{firstNode, Good, FineSearch, Fine, fine, before-last}
 
 -- what the machine says after a list of calls: its answers are said as they are
@@ -45,6 +49,14 @@ Says cs o v = stated.Says (λ a. a) (λ c. step (leaves cs) c .answer) (λ c. st
 
 abbrev Otherwise : List Call → Opening → Verdict → Type 0
 Otherwise cs o v = stated.Otherwise (λ a. a) (λ c. step (leaves cs) c .answer) (λ c. step (leaves cs) c .lent) o v
+
+abbrev Shows : List Call → Opening → ℤ → Type 0
+Shows cs o c = stated.Shows (λ a. a) (λ c. step (leaves cs) c .answer) (λ c. step (leaves cs) c .lent) o c
+
+abbrev pub ShowAlike : List Call → List Call → Type 0
+ShowAlike cs ds =
+    stated.ShowAlike (λ c. step (leaves cs) c .answer) (λ c. step (leaves cs) c .lent) (λ c. step (leaves ds) c .answer)
+    (λ c. step (leaves ds) c .lent)
 
 -- ---- the tours of the first node are the allowed tours
 
@@ -105,12 +117,14 @@ module _ (cs : List Call) (s : Progress) (total : ℕ) (left : leaves cs ≡ sea
       ∙ row-map bit (length r) (λ k. getD (false ∷ r) k false)
       ∙ ap (λ (n : ℕ). row n (λ k. bit (getD (false ∷ r) k false))) z
 
+  shown : (l : List ℕ) → step (leaves cs) (show l) ≡ shownBy s l true (s .incumbent)
+  unfolding step
+  shown l = subst (λ (st : State). step st (show l) ≡ shownBy s l true (s .incumbent)) (sym left) (rw done)
+
   shown-is : (r : List Bool) → s .incumbent ≡ aTour r → (l : List ℕ) → length l ≡ s .opening .graph .m
       → step (leaves cs) (show l) ≡ record { state = searching s; answer = accepted; lent = tourBytes r }
-  unfolding step shownBy
-  shown-is r e l f =
-      subst (λ (st : State). step st (show l) ≡ record { state = searching s; answer = accepted; lent = tourBytes r }) (sym left)
-      (rw (done, e, eq-eqb (length l) (s .opening .graph .m) f))
+  unfolding shownBy
+  shown-is r e l f = shown l ∙ (rw (e, eq-eqb (length l) (s .opening .graph .m) f))
 
   says : Says cs (s .opening) (verdictOf g (s .incumbent))
   unfolding g
@@ -135,6 +149,7 @@ module _ (cs : List Call) (s : Progress) (total : ℕ) (left : leaves cs ≡ sea
           such = such;
           exact = unfold costOf in refl;
           least = λ u q. unfold costOf in least u q;
+          first = λ u q e. first u q (unfold costOf in e);
           accepts = λ l f. ap (λ (x : Reply). x .answer) (shown-is r e l f);
           writes = λ l f. ap (λ (x : Reply). x .lent) (shown-is r e l f) ∙ written r z;
         };
@@ -144,11 +159,18 @@ module _ (cs : List Call) (s : Progress) (total : ℕ) (left : leaves cs ≡ sea
           such = record { tour = p .inside .tour; allowed = inside-root g (edgesOf r) (p .inside); cheap = p .within }
 
           least : (u : Edges) → Such (s .opening) u → cost g (edgesOf r) ≤ℤ cost g u
-          least u q = pick (le-or-lt (cost g u) (lowered g r))
+          least u q = pick (le-or-lt (cost g (edgesOf r)) (cost g u))
             where
-              pick : (cost g u ≤ℤ lowered g r) ⊎ (lowered g r <ℤ cost g u) → cost g (edgesOf r) ≤ℤ cost g u
-              pick (inl x) = absurd (p .least u (root-inside g u (q .tour) (q .allowed)) x)
-              pick (inr x) = unfold lowered costOf in less-one-below (cost g u) (cost g (edgesOf r)) x
+              pick : (cost g (edgesOf r) ≤ℤ cost g u) ⊎ (cost g u <ℤ cost g (edgesOf r)) → cost g (edgesOf r) ≤ℤ cost g u
+              pick (inl x) = x
+              pick (inr x) = absurd (p .least u (root-inside g u (q .tour) (q .allowed)) (inl x))
+
+          first : (u : Edges) → Such (s .opening) u → cost g u ≡ cost g (edgesOf r)
+              → lacksFirst (s .opening .graph .m) u (edgesOf r) ≡ false
+          first u q f =
+              by-cases (lacksFirst (s .opening .graph .m) u (edgesOf r))
+              (λ l. absurd (p .least u (root-inside g u (q .tour) (q .allowed)) (inr (f, unfold network in l))))
+              (λ l. l)
 
 -- ---- the opening that the state holds, and the one that was given
 
@@ -178,6 +200,7 @@ says-given cs o v few x = record {
       such = such-held (y .tour) (y .such);
       exact = ap (λ (n : Network). cost n (y .tour)) (sym same) ∙ y .exact;
       least = λ u q. subst (λ (n : Network). c ≤ℤ cost n u) same (y .least u (held-such u q));
+      first = λ u q e. y .first u (held-such u q) (ap (λ (n : Network). cost n u) same ∙ e);
       accepts = y .accepts;
       writes = y .writes;
     }
@@ -245,6 +268,52 @@ module _ (cs ds : List Call) (o p : Opening) (vo : value.Valid (o .graph)) (vp :
       (subst (λ (z : ℤ). c ≤ℤ z) (r .2 ∙ y .otherwise .exact) (x .otherwise .least (r .0) (r .1)))
       (subst (λ (z : ℤ). e ≤ℤ z) (q .2 ∙ x .otherwise .exact) (y .otherwise .least (q .0) (q .1))))
 
+  m-same : p .graph .m ≡ o .graph .m
+  m-same = unfold network in one .m
+
+  -- where the edges are numbered alike, both show one tour
+  module _ (alike : NumberedAlike (network (o .graph)) (network (p .graph))) (c : ℤ) (x : Shows cs o c) (y : Shows ds p c) where
+    network-same : network (p .graph) ≡ network (o .graph)
+    network-same = network-alike (o .graph) (p .graph) one alike
+
+    tour-same : Agree (o .graph .m) (x .tour) (y .tour)
+    tour-same =
+        neither (o .graph .m) (x .tour) (y .tour)
+        (subst (λ (m : ℕ). lacksFirst m (x .tour) (y .tour) ≡ false) m-same there-first) here-first
+      where
+        there-first : lacksFirst (p .graph .m) (x .tour) (y .tour) ≡ false
+        there-first =
+            y .first (x .tour)
+            (subst (λ (z : ℤ). Feasible (network (p .graph)) z (x .tour)) same
+            (subst (λ (n : Network). Feasible n (o .settings .ceiling) (x .tour)) (sym network-same) (x .such)))
+            (ap (λ (n : Network). cost n (x .tour)) network-same ∙ x .exact)
+
+        here-first : lacksFirst (o .graph .m) (y .tour) (x .tour) ≡ false
+        here-first =
+            x .first (y .tour)
+            (subst (λ (z : ℤ). Feasible (network (o .graph)) z (y .tour)) (sym same)
+            (subst (λ (n : Network). Feasible n (p .settings .ceiling) (y .tour)) network-same (y .such)))
+            (ap (λ (n : Network). cost n (y .tour)) (sym network-same) ∙ y .exact)
+
+    lent-same : (l : List ℕ) → length l ≡ o .graph .m → step (leaves cs) (show l) .lent ≡ step (leaves ds) (show l) .lent
+    lent-same l f =
+        x .writes l f
+        ∙ row-same (o .graph .m) (λ k. bit (x .tour k)) (λ k. bit (y .tour k))
+        (λ j h. ap bit (tour-same (suc j) (of-edge (o .graph .m) j h)))
+        ∙ ap (λ (m : ℕ). row m (λ k. bit (y .tour k))) (sym m-same)
+        ∙ sym (y .writes l (f ∙ sym m-same))
+
+-- two finished searches with m edges each, of one verdict and whose tours are the same bytes, answer show alike
+shown-alike : (s q : Progress) (l : List ℕ) (g h : Network) (i j : Incumbent (List Bool)) → s .opening .graph .m ≡ q .opening .graph .m
+    → verdictOf g i ≡ verdictOf h j → ((b f : List Bool) → i ≡ aTour b → j ≡ aTour f → tourBytes b ≡ tourBytes f)
+    → (shownBy s l true i .answer ≡ shownBy q l true j .answer) × (shownBy s l true i .lent ≡ shownBy q l true j .lent)
+unfolding shownBy
+shown-alike s q l g h noTour noTour m v e = (refl, refl)
+shown-alike s q l g h noTour (aTour f) m v e = no-clash (costOf h f) (sym v)
+shown-alike s q l g h (aTour b) noTour m v e = no-clash (costOf g b) v
+shown-alike s q l g h (aTour b) (aTour f) m v e =
+    by-cases (eqb (length l) (q .opening .graph .m)) (λ t. rw (m, t) (refl, e b f refl refl)) (λ t. rw (m, t) (refl, refl))
+
 -- ---- lists of calls
 
 -- the search that a list leaves, by its history
@@ -267,14 +336,32 @@ module _ (cs : List Call) (o : Opening) (total : ℕ) (l : Leaves cs o total) wh
       let trim : value.Valid (l .search .opening .graph) = l .holds .good .kept .opening .valid in
       valid-trimmed (o .graph) (subst (λ (q : Opening). value.Valid (q .graph)) (l .holds .opening) trim)
 
-  says-of : Finished (leaves cs) → (v : Verdict) × Says cs o v
+  m-held : l .search .opening .graph .m ≡ o .graph .m
+  m-held = unfold held trimmed in (ap (λ (q : Opening). q .graph .m) (l .holds .opening))
+
+  done-by : Finished (leaves cs) → finished (l .search) ≡ true
+  done-by done = subst Finished (l .left) done
+
+  -- the verdict, once it is finished
+  abbrev toldBy : Verdict
+  toldBy = verdictOf (network (l .search .opening .graph)) (l .search .incumbent)
+
+  says-of : Finished (leaves cs) → Says cs o toldBy
   unfolding g
-  says-of done = (verdictOf (network (l .search .opening .graph)) (l .search .incumbent), says-given cs o _ (given-valid .few) here)
-    where
-      here : Says cs (held o) (verdictOf (network (l .search .opening .graph)) (l .search .incumbent))
-      here =
-          subst (λ (q : Opening). Says cs q (verdictOf (network (l .search .opening .graph)) (l .search .incumbent))) (l .holds .opening)
-          (says cs (l .search) total (l .left) (l .holds .good) (subst Finished (l .left) done))
+  says-of done =
+      says-given cs o toldBy (given-valid .few)
+      (subst (λ (q : Opening). Says cs q toldBy) (l .holds .opening)
+      (says cs (l .search) total (l .left) (l .holds .good) (done-by done)))
+
+  -- and what show gives
+  shown-of : Finished (leaves cs) → (a : List ℕ) → step (leaves cs) (show a) ≡ shownBy (l .search) a true (l .search .incumbent)
+  shown-of done = shown cs (l .search) total (l .left) (l .holds .good) (done-by done)
+
+  lent-of : Finished (leaves cs) → (b : List Bool) → l .search .incumbent ≡ aTour b → (a : List ℕ) → length a ≡ o .graph .m
+      → step (leaves cs) (show a) .lent ≡ tourBytes b
+  lent-of done b e a size =
+      ap (λ (x : Reply). x .lent)
+      (shown-is cs (l .search) total (l .left) (l .holds .good) (done-by done) b e a (size ∙ sym m-held))
 
   -- the budget
   finishes : freeAtStart o ≤ 62 → 2 ^ suc (freeAtStart o) - 1 ≤ total → Finished (leaves cs)
@@ -297,28 +384,70 @@ module _ (cs : List Call) (o : Opening) (total : ℕ) (l : Leaves cs o total) wh
               let c : suc (s .count) ≤ 2 ^ suc (freeAtStart o) - 1 = (rw same at b) in
               omega (arith, c, f)
 
+-- ---- two lists of calls
+
+module _ (cs ds : List Call) (o p : Opening) (f : LeavesFinished cs o) (k : LeavesFinished ds p)
+    (one : OneNetwork (network (o .graph)) (network (p .graph))) (same : o .settings .ceiling ≡ p .settings .ceiling) where
+  l : Leaves cs o (f .total)
+  l = leaves-search cs o (f .total) (f .opened)
+
+  r : Leaves ds p (k .total)
+  r = leaves-search ds p (k .total) (k .opened)
+
+  abbrev told : Verdict
+  told = toldBy cs o (f .total) l
+
+  vo : value.Valid (o .graph)
+  vo = given-valid cs o (f .total) l
+
+  vp : value.Valid (p .graph)
+  vp = given-valid ds p (k .total) r
+
+  says-here : Says cs o told
+  says-here = says-of cs o (f .total) l (f .done)
+
+  equal : told ≡ toldBy ds p (k .total) r
+  equal = same-verdict cs ds o p vo vp one same _ _ says-here (says-of ds p (k .total) r (k .done))
+
+  says-there : Says ds p told
+  says-there = rw equal (says-of ds p (k .total) r (k .done))
+
+  module _ (alike : NumberedAlike (network (o .graph)) (network (p .graph))) where
+    ms : l .search .opening .graph .m ≡ r .search .opening .graph .m
+    ms = m-held cs o (f .total) l ∙ sym (m-same cs ds o p vo vp one same) ∙ sym (m-held ds p (k .total) r)
+
+    -- what the two write, read off a list of m bytes
+    bytes-same : (b c : List Bool) → l .search .incumbent ≡ aTour b → r .search .incumbent ≡ aTour c → tourBytes b ≡ tourBytes c
+    bytes-same b c e h =
+        sym (lent-of cs o (f .total) l (f .done) b e blank size)
+        ∙ lent-same cs ds o p vo vp one same alike (costOf g₁ b)
+        (subst (λ (i : Incumbent (List Bool)). Otherwise cs o (verdictOf g₁ i)) e (says-here .otherwise))
+        (subst (λ (i : Incumbent (List Bool)). Otherwise ds p (verdictOf g₁ i)) e (says-there .otherwise))
+        blank size
+        ∙ lent-of ds p (k .total) r (k .done) c h blank (size ∙ sym (m-same cs ds o p vo vp one same))
+      where
+        g₁ : Network
+        g₁ = network (l .search .opening .graph)
+
+        blank : List ℕ
+        blank = row (o .graph .m) (λ j. 0)
+
+        size : length (row {A = ℕ} (o .graph .m) (λ j. 0)) ≡ o .graph .m
+        size = row-size (o .graph .m) (λ j. 0)
+
+    show-alike : ShowAlike cs ds
+    show-alike a =
+        rw (shown-of cs o (f .total) l (f .done) a, shown-of ds p (k .total) r (k .done) a)
+        (shown-alike (l .search) (r .search) a (network (l .search .opening .graph)) (network (r .search .opening .graph))
+        (l .search .incumbent) (r .search .incumbent) ms equal bytes-same)
+
 -- ---- DEMAND 3'S CLAIMS HOLD OF THE MACHINE
 
 pub machine-agrees : (cs ds : List Call) (o p : Opening) → LeavesFinished cs o → LeavesFinished ds p
     → OneNetwork (network (o .graph)) (network (p .graph)) → o .settings .ceiling ≡ p .settings .ceiling
-    → (v : Verdict) × Says cs o v × Says ds p v
-machine-agrees cs ds o p f k one same = (x .0, x .1, rw equal (y .1))
-  where
-    l : Leaves cs o (f .total)
-    l = leaves-search cs o (f .total) (f .opened)
-
-    r : Leaves ds p (k .total)
-    r = leaves-search ds p (k .total) (k .opened)
-
-    x : (v : Verdict) × Says cs o v
-    x = says-of cs o (f .total) l (f .done)
-
-    y : (v : Verdict) × Says ds p v
-    y = says-of ds p (k .total) r (k .done)
-
-    equal : x .0 ≡ y .0
-    equal =
-        same-verdict cs ds o p (given-valid cs o (f .total) l) (given-valid ds p (k .total) r) one same (x .0) (y .0) (x .1) (y .1)
+    → (v : Verdict) × Says cs o v × Says ds p v × (NumberedAlike (network (o .graph)) (network (p .graph)) → ShowAlike cs ds)
+machine-agrees cs ds o p f k one same =
+    (told cs ds o p f k one same, says-here cs ds o p f k one same, says-there cs ds o p f k one same, show-alike cs ds o p f k one same)
 
 pub machine-ends : (cs : List Call) (o : Opening) (total : ℕ) → history cs ≡ since o total
     → freeAtStart o ≤ 62 → 2 ^ suc (freeAtStart o) - 1 ≤ total → Finished (leaves cs)

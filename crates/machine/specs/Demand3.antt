@@ -4,7 +4,7 @@
 -- here.
 use mathlib.Core.Path.{_≡_}
 use mathlib.Core.Logic.{_↔_}
-use mathlib.Core.Bool.{Bool, true}
+use mathlib.Core.Bool.{Bool, true, false}
 use mathlib.Core.List.{List, [], _∷_}
 use Prim.Native.Nat.{ℕ, suc, _-_, _^_, _≤_}
 use lib.ListN.{length}
@@ -15,9 +15,9 @@ use Rattle.lists.specs.Members.{_∈_}
 use Rattle.lists.specs.Numbers.{upTo}
 use Rattle.lists.specs.Rows.{row}
 use Rattle.graph.specs.Network.{Network, network}
-use Rattle.tree_theory.specs.OneTree.{Edges}
+use Rattle.tree_theory.specs.OneTree.{Edges, lacksFirst}
 use Rattle.tours.specs.Tours.{cost, Feasible}
-use Rattle.tours.specs.OneNetwork.{OneNetwork}
+use Rattle.tours.specs.OneNetwork.{SameEdge, OneNetwork}
 use Rattle.machine.specs.Machine.{Opening, State, noSearch, searching, finished}
 use Rattle.machine.specs.Calls.{Call, tell, show, Verdict, goingOn, none, best, Answer, accepted, tells, step, leaves}
 use Rattle.machine.specs.Calls.{since, history, freeAtStart}
@@ -36,16 +36,22 @@ pub record LeavesFinished (cs : List Call) (o : Opening) : Type 0 where
 abbrev pub Such : Opening → Edges → Type 0
 Such o t = Feasible (network (o .graph)) (o .settings .ceiling) t
 
+-- document 02, C-23: "With legs numbered alike": each edge stands in both under one number
+abbrev pub NumberedAlike : Network → Network → Type 0
+NumberedAlike g h = (k : ℕ) → k ∈ upTo (g .m) → SameEdge g h k k
+
 -- ---- what a finished search tells and shows: `next` is what the next call answers, `list` the list that it leaves, and `said` how an
 -- answer of the machine's is said
 
 -- "each hunt shows such a round, of exactly the cost told, and every other such round costs at least as much"; "What it tells or shows is
--- what tell, or show with a list of m bytes, gives next."
+-- what tell, or show with a list of m bytes, gives next." Document 02, C-23: "Of allowed rounds of least cost the hunt now shows the first: of
+-- two, the one that lacks the highest-numbered leg in which they differ."
 pub record Shows {A : Type 0} (said : Answer → A) (next : Call → A) (list : Call → List ℕ) (o : Opening) (c : ℤ) : Type 0 where
   pub tour : Edges
   pub such : Such o tour
   pub exact : cost (network (o .graph)) tour ≡ c
   pub least : (other : Edges) → Such o other → c ≤ℤ cost (network (o .graph)) other
+  pub first : (other : Edges) → Such o other → cost (network (o .graph)) other ≡ c → lacksFirst (o .graph .m) other tour ≡ false
   -- accepted, and the list then has a byte for each edge, "1 in, 0 out"
   pub accepts : (l : List ℕ) → length l ≡ o .graph .m → next (show l) ≡ said accepted
   pub writes : (l : List ℕ) → length l ≡ o .graph .m → list (show l) ≡ row (o .graph .m) (λ k. bit (tour k))
@@ -61,6 +67,10 @@ pub record Says {A : Type 0} (said : Answer → A) (next : Call → A) (list : C
   -- "'none' exactly when no round keeps the required legs, avoids the struck and costs at most the ceiling. Otherwise .."
   pub exactly : (v ≡ none) ↔ ((t : Edges) → ¬ Such o t)
   pub otherwise : Otherwise said next list o v
+
+-- of two searches: show with one list is answered alike, and leaves it with the same bytes
+abbrev pub ShowAlike : {A : Type 0} → (Call → A) → (Call → List ℕ) → (Call → A) → (Call → List ℕ) → Type 0
+ShowAlike next list next′ list′ = (l : List ℕ) → (next (show l) ≡ next′ (show l)) × (list (show l) ≡ list′ (show l))
 
 -- ---- a way in which the calls can be made
 
@@ -105,14 +115,20 @@ pub record AsTheMachine (i : Interface) (cs : List Call) : Type 0 where
 abbrev pub SaysAfter : (i : Interface) → List Call → Opening → Verdict → Type 0
 SaysAfter i cs o v = let r = after i (i .fresh) cs in Says (i .said) (i .answer r) (i .list r) o v
 
+abbrev pub ShowAlikeAfter : (i : Interface) → List Call → List Call → Type 0
+ShowAlikeAfter i cs ds =
+    let r = after i (i .fresh) cs in let q = after i (i .fresh) ds in ShowAlike (i .answer r) (i .list r) (i .answer q) (i .list q)
+
 pub record Demand3 (i : Interface) : Type 0 where
   -- "For every list of opening, run, tell, show and close calls on one record, refused ones included, from a fresh record"
   pub equal : (cs : List Call) → AsTheMachine i cs
   -- "Take two such lists that each leave a finished hunt, both of one sea (its legs in any order) and opened with one ceiling, whatever
-  -- dues, sweeps and steps the two have. Tell gives both the same verdict: .."; so whatever denominators (document 02, C-17)
+  -- dues, sweeps and steps the two have. Tell gives both the same verdict: .."; so whatever denominators (document 02, C-17). Document 02, C-23:
+  -- "With legs numbered alike, finished hunts now agree on the round as well as its cost."
   pub agree : (cs ds : List Call) (o p : Opening) → LeavesFinished cs o → LeavesFinished ds p
       → OneNetwork (network (o .graph)) (network (p .graph)) → o .settings .ceiling ≡ p .settings .ceiling
       → (v : Verdict) × SaysAfter i cs o v × SaysAfter i ds p v
+      × (NumberedAlike (network (o .graph)) (network (p .graph)) → ShowAlikeAfter i cs ds)
   -- "A hunt whose accepted run calls allow at least 2^(k+1) − 1 nodes in all, k legs being free at the start and k at most 62, is
   -- finished."
   pub ends : (cs : List Call) (o : Opening) (total : ℕ) → history cs ≡ since o total

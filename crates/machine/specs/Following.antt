@@ -8,7 +8,7 @@ use Rattle.machine.specs.Machine.{Opening, State, noSearch}
 use Rattle.machine.specs.Calls.{Call, tell, show, Verdict, goingOn, none, best, step, stateAfter, leaves}
 use Rattle.machine.specs.Kept.{KeptState}
 use Rattle.machine.specs.Preserved.{step-kept}
-use Rattle.machine.specs.Demand3.{Finished, Otherwise, Interface, after, AsTheMachine, SaysAfter, Demand3}
+use Rattle.machine.specs.Demand3.{Finished, Otherwise, Interface, after, AsTheMachine, SaysAfter, ShowAlikeAfter, Demand3}
 use Rattle.machine.specs.Claim.{machine-agrees, machine-ends}
 use Rattle.machine.specs.Claim as machine
 
@@ -78,14 +78,22 @@ module _ (i : Interface) (f : Follows i) where
           such = y .such;
           exact = y .exact;
           least = y .least;
+          first = y .first;
           accepts = λ l e. answer-next (show l) ∙ ap (i .said) (y .accepts l e);
           writes = λ l e. list-next (show l) ∙ y .writes l e;
         }
+
+  show-alike : (cs ds : List Call) → machine.ShowAlike cs ds → ShowAlikeAfter i cs ds
+  show-alike cs ds h l = (
+    answer-next cs (show l) ∙ ap (i .said) (h l .0) ∙ sym (answer-next ds (show l)),
+    list-next cs (show l) ∙ h l .1 ∙ sym (list-next ds (show l)),
+  )
 
   pub follows-demand-3 : Demand3 i
   follows-demand-3 = record {
     equal = as-the-machine;
     agree = λ cs ds o p k j one same.
-        let a = machine-agrees cs ds o p k j one same in (a .0, says cs o (a .0) (a .1), says ds p (a .0) (a .2));
+        let a = machine-agrees cs ds o p k j one same in
+        (a .0, says cs o (a .0) (a .1), says ds p (a .0) (a .2), λ alike. show-alike cs ds (a .3 alike));
     ends = λ cs o total e few enough. subst Finished (sym (held cs)) (machine-ends cs o total e few enough);
   }

@@ -10,6 +10,7 @@ pub mod BranchAndBound
 -- document 01's opening of a node obeys its laws
 pub mod Branching
 pub mod Requireds
+pub mod Firsts
 pub mod NodeTours
 pub mod OpeningLaws
 pub mod ScaledLaws
@@ -24,6 +25,7 @@ pub mod Refusals
 -- document 02, C-16: what a node's halves inherit, and what waits below
 pub mod Inherited
 -- the proof of the statement
+pub mod Alike
 pub mod Invariant
 pub mod Claim
 pub mod Following

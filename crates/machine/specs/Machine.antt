@@ -1,5 +1,5 @@
--- Document 01's 'The hunt': the state, the opening of a node with its passes, and the run loop, in its words and its order. Trees and
--- rulings are those of onetree's definitions, which go through all 1-trees. Definitions only.
+-- Document 01's 'The hunt', read with C-23, 'The same round for everyone': the state, the opening of a node with its passes, and the run
+-- loop, in their words and order. Trees and rulings are those of onetree's definitions, which go through all 1-trees. Definitions only.
 -- (Our words: search for hunt, stack for pile, incumbent for best round, multipliers for dues, upper bound for the present ceiling U,
 -- budget for allowance.)
 use mathlib.Core.Bool.{Bool, true, false, not, cond, _&&_, _||_}
@@ -18,7 +18,7 @@ use Rattle.integers.specs.Multiples.{_times_}
 use Rattle.graph.specs.declared.Graph.{Graph}
 use Rattle.graph.specs.Limits.{maxEdges, maxMultiplier, maxCount}
 use Rattle.graph.specs.Network.{Network, Mark, free, required, excluded, place, network}
-use Rattle.tree_theory.specs.OneTree.{Edges}
+use Rattle.tree_theory.specs.OneTree.{Edges, lacksFirst}
 use Rattle.tree_theory.specs.Inputs.{multiplier}
 use Rattle.tree_theory.specs.Scaled.{scaledBy}
 use Rattle.tree_theory.specs.Enumeration.{Tree, noTree, aTree, leastTree, Ruling, keeps, forces, bars, wasRequired, wasExcluded, ruling}
@@ -206,10 +206,24 @@ unfoldable pub costOf : Network → List Bool → ℤ
 unfolding cost edgesOf
 costOf g r = cost g (edgesOf r)
 
--- "U becomes its cost − 1"
+-- document 02, C-23: "On finding a round the ceiling becomes its cost and not one less"
 unfoldable pub lowered : Network → List Bool → ℤ
 unfolding costOf
-lowered g r = costOf g r -ℤ pos 1
+lowered g r = costOf g r
+
+-- whether a found tour f takes the place of the incumbent b: where it costs less, and "a later round of that cost replaces the best if it
+-- comes first", which is "of two, the one that lacks the highest-numbered leg in which they differ"
+unfoldable pub replaces : Network → List Bool → List Bool → Bool
+unfolding costOf lacksFirst edgesOf
+replaces g f b =
+    cond (ltZ (costOf g f) (costOf g b)) true
+    (cond (ltZ (costOf g b) (costOf g f)) false
+    (lacksFirst (g .m) (edgesOf f) (edgesOf b)))
+
+-- the one that is kept of the incumbent b and a found tour f
+unfoldable pub better : Network → List Bool → List Bool → List Bool
+unfolding replaces
+better g b f = cond (replaces g f b) f b
 
 -- "then passes 0 to 'sweeps'", from the node's own multipliers on (document 02, C-16; they were the opening ones). C-17: "The charged cost becomes
 -- q × cost plus the two dues, the bound is scaled likewise, and it is compared with q × ceiling", here with q × U
@@ -221,13 +235,13 @@ openNode o upper x =
 
 -- what the opening of the top node makes of a search; rest are the nodes below it
 unfoldable pub settled : Progress → List Node → Opened → Progress
-unfolding lowered network
+unfolding lowered better network
 settled s rest out =
     record {
       opening = s .opening;
       upper = nextUpper (lowered (network (s .opening .graph))) (s .upper) out;
       stack = nextStack rest out;
-      incumbent = nextIncumbent (s .incumbent) out;
+      incumbent = nextIncumbent (better (network (s .opening .graph))) (s .incumbent) out;
       count = suc (s .count);
     }
 

@@ -1,32 +1,34 @@
 -- The tours of a node, as a problem of branch and bound; and that the rulings lose none of them that is within the upper bound, since a
 -- tour is a 1-tree whose bound is its cost.
-use mathlib.Core.Path.{_≡_, refl, sym, ap, _∙_, subst}
-use mathlib.Core.Bool.{Bool, true, false}
+use mathlib.Core.Path.{_≡_, refl, sym, ap, _∙_, subst, subst⁻¹}
+use mathlib.Core.Logic.{_⊎_, inl, inr}
+use mathlib.Core.Bool.{Bool, true, false, cond, true≢false, false≢true}
 use mathlib.Core.List.{List, [], _∷_}
 use Prim.Native.Nat.{ℕ, suc, _≤_, _<_}
 use lib.ListN.{length, getD}
 use lib.IntN.{ℤ}
-use lib.Signed.{_≤ℤ_}
+use lib.Signed.{_≤ℤ_, _<ℤ_, ltZ, ≤ℤ-refl, <ℤ-≤ℤ-trans}
 use Rattle.lists.specs.Bools.{by-cases}
 use Rattle.lists.specs.Members.{_∈_}
 use Rattle.lists.specs.Select.{select-cong}
 use Rattle.lists.specs.Numbers.{upTo}
 use Rattle.lists.specs.Rows.{row-size, row-at}
-use Rattle.integers.specs.Order.{le-trans, less-one-le, le-lt-clash}
+use Rattle.integers.specs.Order.{le-trans, le-antisym, lt-le, le-lt-clash, test-lt, test-not-lt}
 use Rattle.integers.specs.Sums.{sumZ}
 use Rattle.graph.specs.Network.{Network, Mark, free, required, excluded}
-use Rattle.tree_theory.specs.OneTree.{Edges, others, OneTree, Barred, Forced, bound}
+use Rattle.tree_theory.specs.OneTree.{Edges, others, OneTree, Barred, Forced, bound, lacksFirst}
 use Rattle.tree_theory.specs.Enumeration.{barredB, forcedB, ruled, ruling}
 use Rattle.tree_theory.specs.Agree.{Agree}
 use Rattle.tree_theory.specs.Decide.{barred-test, forced-test}
 use Rattle.tree_theory.specs.Valid.{Valid}
 use Rattle.tree_theory.specs.Arrays.{edge-of, of-edge}
 use Rattle.tours.specs.Tours.{Joined, Trip, Tour, Allowed, cost}
-use Rattle.machine.specs.Machine.{Marks, Node, withMarks, frees, markBy, applied, edgesOf, costOf, lowered}
+use Rattle.machine.specs.Machine.{Marks, Node, withMarks, frees, markBy, applied, edgesOf, costOf, lowered, replaces, better}
 use Rattle.machine.specs.BranchAndBound.{Problem}
 use Rattle.tours.specs.TourTree.{tour-tree, bound-is-cost}
 use Rattle.machine.specs.Branching.{row-marks, frees-fewer}
 use Rattle.machine.specs.Requireds.{requireds, requireds-more}
+use Rattle.machine.specs.Firsts.{lacks-once, lacks-past}
 
 -- ---- a mark lets an edge be in (true) or out (false)
 
@@ -111,12 +113,106 @@ pub record Inside (g : Network) (t : Edges) (x : Marks) : Type 0 where
   pub tour : Tour g t
   pub allowed : Allowed (withMarks g x) t
 
--- a tour within the bound that a found one leaves was within the bound before
-pub lowered-tighter : (g : Network) (r : List Bool) (u : ℤ) (t : Edges) → cost g (edgesOf r) ≤ℤ u → cost g t ≤ℤ lowered g r → cost g t ≤ℤ u
-unfolding lowered costOf
-lowered-tighter g r u t h k =
-    let c = cost g (edgesOf r) in
-    le-trans (cost g t) c u (le-trans (cost g t) (lowered g r) c k (less-one-le c)) h
+-- s costs less than t, or as much and comes first
+abbrev pub Before : Network → Edges → Edges → Type 0
+Before g s t = (cost g s <ℤ cost g t) ⊎ ((cost g s ≡ cost g t) × (lacksFirst (g .m) s t ≡ true))
+
+-- and where it does neither
+abbrev pub NotBefore : Network → Edges → Edges → Type 0
+NotBefore g s t = (cost g t <ℤ cost g s) ⊎ ((cost g s ≡ cost g t) × (lacksFirst (g .m) s t ≡ false))
+
+module _ (g : Network) where
+  -- what comes before a found tour is within the bound that it leaves
+  pub before-reaches : (r : List Bool) (t : Edges) → Before g t (edgesOf r) → cost g t ≤ℤ lowered g r
+  unfolding lowered costOf
+  before-reaches r t (inl h) = lt-le (cost g t) (cost g (edgesOf r)) h
+  before-reaches r t (inr h) = rw (h .0) (≤ℤ-refl _)
+
+  -- and what is within that was within the bound before
+  pub lowered-tighter : (r : List Bool) (u : ℤ) (t : Edges) → cost g (edgesOf r) ≤ℤ u → cost g t ≤ℤ lowered g r → cost g t ≤ℤ u
+  unfolding lowered costOf
+  lowered-tighter r u t h k = le-trans (cost g t) (cost g (edgesOf r)) u k h
+
+  not-reaches : (s t : Edges) → NotBefore g s t → cost g t ≤ℤ cost g s
+  not-reaches s t (inl h) = lt-le (cost g t) (cost g s) h
+  not-reaches s t (inr h) = rw (h .0) (≤ℤ-refl _)
+
+  before-once : (s t : Edges) → Before g s t → NotBefore g t s
+  before-once s t (inl h) = inl h
+  before-once s t (inr h) = inr (sym (h .0), lacks-once (g .m) s t (h .1))
+
+  -- what comes before b comes before every f that does not
+  before-past : (t b f : Edges) → Before g t b → NotBefore g f b → Before g t f
+  before-past t b f (inl h) k = inl (<ℤ-≤ℤ-trans h (not-reaches f b k))
+  before-past t b f (inr h) (inl k) = inl (subst⁻¹ (λ (z : ℤ). z <ℤ cost g f) (h .0) k)
+  before-past t b f (inr h) (inr k) = inr (h .0 ∙ sym (k .0), lacks-past (g .m) t b f (h .1) (k .1))
+
+  -- a found tour replaces the incumbent exactly where it comes before it
+  module _ (f b : List Bool) where
+    x : ℤ
+    x = cost g (edgesOf f)
+
+    y : ℤ
+    y = cost g (edgesOf b)
+
+    does : replaces g f b ≡ true → Before g (edgesOf f) (edgesOf b)
+    unfolding replaces costOf x y
+    does = go (ltZ x y) (ltZ y x) refl refl
+      where
+        go : (l r : Bool) → ltZ x y ≡ l → ltZ y x ≡ r → cond l true (cond r false (lacksFirst (g .m) (edgesOf f) (edgesOf b))) ≡ true
+            → Before g (edgesOf f) (edgesOf b)
+        go true r e k h = inl (test-lt x y e)
+        go false true e k h = absurd (false≢true h)
+        go false false e k h = inr (le-antisym x y (test-not-lt y x k) (test-not-lt x y e), h)
+
+    does-not : replaces g f b ≡ false → NotBefore g (edgesOf f) (edgesOf b)
+    unfolding replaces costOf x y
+    does-not = go (ltZ x y) (ltZ y x) refl refl
+      where
+        go : (l r : Bool) → ltZ x y ≡ l → ltZ y x ≡ r → cond l true (cond r false (lacksFirst (g .m) (edgesOf f) (edgesOf b))) ≡ false
+            → NotBefore g (edgesOf f) (edgesOf b)
+        go true r e k h = absurd (true≢false h)
+        go false true e k h = inl (test-lt y x k)
+        go false false e k h = inr (le-antisym x y (test-not-lt y x k) (test-not-lt x y e), h)
+
+  -- the tour that is kept of two, and why
+  abbrev Choice : List Bool → List Bool → Type 0
+  Choice b f =
+      ((better g b f ≡ f) × Before g (edgesOf f) (edgesOf b)) ⊎ ((better g b f ≡ b) × NotBefore g (edgesOf f) (edgesOf b))
+
+  choice : (b f : List Bool) → Choice b f
+  unfolding better
+  choice b f = by-cases (replaces g f b) (λ e. inl (rw e, does f b e)) (λ e. inr (rw e, does-not f b e))
+
+  pub better-is : (b f : List Bool) → (better g b f ≡ b) ⊎ (better g b f ≡ f)
+  better-is b f = go (choice b f)
+    where
+      go : Choice b f → (better g b f ≡ b) ⊎ (better g b f ≡ f)
+      go (inl h) = inr (h .0)
+      go (inr h) = inl (h .0)
+
+  -- what comes before the one that is kept comes before both
+  pub better-first : (b f : List Bool) (t : Edges) → Before g t (edgesOf (better g b f)) → Before g t (edgesOf b) × Before g t (edgesOf f)
+  better-first b f t h = go (choice b f)
+    where
+      go : Choice b f → Before g t (edgesOf b) × Before g t (edgesOf f)
+      go (inl c) =
+          let k : Before g t (edgesOf f) = subst (λ (r : List Bool). Before g t (edgesOf r)) (c .0) h in
+          (before-past t (edgesOf f) (edgesOf b) k (before-once (edgesOf f) (edgesOf b) (c .1)), k)
+      go (inr c) =
+          let k : Before g t (edgesOf b) = subst (λ (r : List Bool). Before g t (edgesOf r)) (c .0) h in
+          (k, before-past t (edgesOf b) (edgesOf f) k (c .1))
+
+  -- a found tour that costs no more than the incumbent is as dear as the one that is kept
+  pub better-level : (b f : List Bool) → cost g (edgesOf f) ≤ℤ lowered g b → lowered g (better g b f) ≡ lowered g f
+  unfolding lowered costOf
+  better-level b f h = go (choice b f)
+    where
+      go : Choice b f → cost g (edgesOf (better g b f)) ≡ cost g (edgesOf f)
+      go (inl c) = ap (λ (r : List Bool). cost g (edgesOf r)) (c .0)
+      go (inr c) =
+          ap (λ (r : List Bool). cost g (edgesOf r)) (c .0)
+          ∙ le-antisym (cost g (edgesOf b)) (cost g (edgesOf f)) (not-reaches (edgesOf f) (edgesOf b) (c .1)) h
 
 abbrev pub tours : Network → Problem
 tours g = record {
@@ -129,7 +225,13 @@ tours g = record {
   Bound = ℤ;
   Within = λ t u. cost g t ≤ℤ u;
   lowered = lowered g;
+  Before = λ t r. Before g t (edgesOf r);
+  reaches = before-reaches g;
   tighter = lowered-tighter g;
+  pick = better g;
+  picks = better-is g;
+  pick-first = better-first g;
+  pick-level = better-level g;
 }
 
 -- what a node's marks allow is told place by place

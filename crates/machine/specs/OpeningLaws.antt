@@ -10,14 +10,14 @@ use lib.Dec.{ltb}
 use lib.ListN.{length, getD, set}
 use lib.Seq.{getD-set-same, getD-set-other}
 use lib.IntN.{ℤ}
-use lib.Signed.{_≤ℤ_, ltZ, <ℤ-≤ℤ-trans}
+use lib.Signed.{_≤ℤ_, _<ℤ_, ltZ, <ℤ-≤ℤ-trans}
 use borrow.Author.Tests.{ltb-true, ltb-false}
 use Rattle.lists.specs.Bools.{by-cases}
 use Rattle.lists.specs.Rows.{row, row-at}
-use Rattle.integers.specs.Order.{le-lt-clash, below-less-one, test-lt, test-not-lt}
+use Rattle.integers.specs.Order.{le-lt-clash, test-lt, test-not-lt}
 use Rattle.graph.specs.Network.{Network, Mark, free, required, excluded}
-use Rattle.tree_theory.specs.OneTree.{Edges, Least, bound}
-use Rattle.tree_theory.specs.Agree.{Agree}
+use Rattle.tree_theory.specs.OneTree.{Edges, Least, bound, lacksFirst}
+use Rattle.tree_theory.specs.Agree.{Agree, lacks-second}
 use Rattle.tree_theory.specs.Inputs.{multiplier}
 use Rattle.tree_theory.specs.Enumeration.{Tree, noTree, aTree, leastTree}
 use Rattle.tree_theory.specs.LeastTree.{Right, tree-right}
@@ -27,13 +27,13 @@ use Rattle.tours.specs.Tours.{Tour, Allowed, cost, isTour}
 use Rattle.machine.specs.Outcomes.{closes, finds, splits}
 use Rattle.machine.specs.Machine.{Marks, Node, nodeOf, withMarks, isFree, applied, Pass, shut, found, unclosed, passBy, pass, Opened, firstFree}
 use Rattle.machine.specs.Machine.{branch}
-use Rattle.machine.specs.Machine.{concluded, passes, gained, edgesOf, costOf, lowered}
+use Rattle.machine.specs.Machine.{concluded, passes, gained, edgesOf}
 use Rattle.machine.specs.BranchAndBound.{Lawful, narrowed}
 use Rattle.tours.specs.TourTest.{test-tour, tour-test}
 use Rattle.machine.specs.Branching.{first-free, first-before, frees-set}
-use Rattle.machine.specs.NodeTours.{Agrees, Inside, tours, tour-agree, cost-agree, valid-marks, tour-marks, marks-tour, allowed-at}
-use Rattle.machine.specs.NodeTours.{at-allowed, applied-length, inside-tree, cost-bound, tree-agrees, ruled-keeps, ruled-of}
-use Rattle.machine.specs.NodeTours.{ruled-frees}
+use Rattle.machine.specs.NodeTours.{Agrees, Inside, Before, tours, tour-agree, cost-agree, valid-marks, tour-marks, marks-tour}
+use Rattle.machine.specs.NodeTours.{allowed-at, at-allowed, applied-length, inside-tree, cost-bound, tree-agrees, ruled-keeps}
+use Rattle.machine.specs.NodeTours.{ruled-of, ruled-frees}
 
 -- a row keeps the edges of a set
 pub row-edges : (m : ℕ) (t : Edges) → Agree m (edgesOf (row m t)) t
@@ -51,15 +51,15 @@ module _ (g : Network) (vg : Valid g) (upper : ℤ) where
   -- ---- a found tour
 
   found-law : (x : Marks) (t : Edges) → Inside g t x → cost g t ≤ℤ upper → ((s : Edges) → Inside g s x → cost g t ≤ℤ cost g s)
+      → ((s : Edges) → Inside g s x → cost g s ≡ cost g t → lacksFirst (g .m) s t ≡ false)
       → Law x (finds (row (g .m) t))
-  unfolding lowered costOf
-  found-law x t i l least d = record {
+  found-law x t i l least first d = record {
     inside = record {
       tour = tour-agree g kept t same (i .tour);
       allowed = at-allowed g kept x (λ j h. rw (at j h) (allowed-at g t x (i .allowed) j h));
     };
     within = rw cost-same l;
-    least = λ s j k. le-lt-clash (cost g t) (cost g s) (least s j) (rw cost-same at (below-less-one (cost g s) (cost g kept) k));
+    least = λ s j k. none s j k;
   }
     where
       kept : Edges
@@ -73,6 +73,11 @@ module _ (g : Network) (vg : Valid g) (upper : ℤ) where
 
       at : (j : ℕ) → j < g .m → edgesOf (row (g .m) t) (suc j) ≡ t (suc j)
       at j h = unfold edgesOf in row-at (g .m) t j false h
+
+      none : (s : Edges) → Inside g s x → Before g s (edgesOf (row (g .m) t)) → ⊥
+      none s j (inl k) = le-lt-clash (cost g t) (cost g s) (least s j) (subst (λ (z : ℤ). cost g s <ℤ z) cost-same k)
+      none s j (inr k) =
+          true≢false (sym (k .1) ∙ lacks-second (g .m) s (edgesOf (row (g .m) t)) t same ∙ first s j (k .0 ∙ cost-same))
 
   -- ---- the branch after the last pass
 
@@ -160,6 +165,7 @@ module _ (g : Network) (vg : Valid g) (upper : ℤ) where
         second true e l =
             found-law x t (record { tour = o; allowed = record { keeps = h .1 .tree .keeps; avoids = h .1 .tree .avoids } })
             (subst (λ (z : ℤ). z ≤ℤ upper) (h .0 ∙ same) l) (λ s i. subst (λ (z : ℤ). z ≤ℤ cost g s) same (least-cost t (h .1) s i))
+            (λ s i f. unfold withMarks in h .1 .first s (inside-tree g vg x s i) (cost-bound g vg x s (i .tour) d ∙ f ∙ sym same))
           where
             o : Tour g t
             o = marks-tour g x t (test-tour (withMarks g x) t e)

@@ -5,7 +5,7 @@ use mathlib.Core.List.{List, _∷_}
 pub data Outcome (N F : Type 0) : Type 0 where
   -- "the node closes"
   closes : Outcome N F
-  -- "it becomes the best, .., the node closes"
+  -- "the tree is a round: .., the node closes"
   finds : F → Outcome N F
   -- "piles two nodes .. first .., then, on top, .."
   splits : N → N → Outcome N F
@@ -15,6 +15,11 @@ pub data Incumbent (F : Type 0) : Type 0 where
   noTour : Incumbent F
   aTour : F → Incumbent F
 
+-- of the incumbent and a found tour the one to keep, where `pick` says which of two tours that is
+abbrev pub bestOf : {F : Type 0} → (F → F → F) → Incumbent F → F → Incumbent F
+bestOf pick noTour f = aTour f
+bestOf pick (aTour b) f = aTour (pick b f)
+
 module _ {N F : Type 0} where
   -- the stack, its top first, once the top node is opened: xs are the nodes below it
   abbrev pub nextStack : List N → Outcome N F → List N
@@ -22,10 +27,10 @@ module _ {N F : Type 0} where
   nextStack xs (finds f) = xs
   nextStack xs (splits out into) = into ∷ out ∷ xs
 
-  abbrev pub nextIncumbent : Incumbent F → Outcome N F → Incumbent F
-  nextIncumbent best closes = best
-  nextIncumbent best (finds f) = aTour f
-  nextIncumbent best (splits out into) = best
+  abbrev pub nextIncumbent : (F → F → F) → Incumbent F → Outcome N F → Incumbent F
+  nextIncumbent pick best closes = best
+  nextIncumbent pick best (finds f) = bestOf pick best f
+  nextIncumbent pick best (splits out into) = best
 
   -- the upper bound; a found tour lowers it
   abbrev pub nextUpper : {U : Type 0} → (F → U) → U → Outcome N F → U

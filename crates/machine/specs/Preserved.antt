@@ -1,13 +1,13 @@
 -- EVERY CALL LEAVES A STATE THAT A RECORD OF FIXED SIZE CAN HOLD, where it finds one.
 use mathlib.Core.Path.{_≡_, refl, _∙_, subst}
-use mathlib.Core.Logic.{inl, inr}
+use mathlib.Core.Logic.{_⊎_, inl, inr}
 use mathlib.Core.Bool.{Bool, true, false, not, cond, _&&_}
 use mathlib.Core.List.{List, [], _∷_}
 use Prim.Native.Nat.{ℕ, zero, suc, _+_, _*_, _≤_, _<_}
 use native.Mathlib.Omega.{arith}
 use lib.Dec.{eqb, leb, ltb}
 use lib.ListN.{length, length-set}
-use lib.IntN.{ℤ, negsuc}
+use lib.IntN.{ℤ}
 use lib.Signed.{ltZ}
 use borrow.Author.Tests.{eqb-true, leb-true, not-false}
 use Rattle.lists.specs.Bools.{by-cases, and-both, cond-zero}
@@ -34,23 +34,23 @@ use Rattle.tree_theory.specs.Accepted.{denominator-range}
 use Rattle.tree_theory.specs.Enumeration.{Tree, noTree, aTree, leastTree}
 use Rattle.tree_theory.specs.Arrays.{edge-of, network-valid}
 use Rattle.tours.specs.Tours.{Tour, cost, isTour}
-use Rattle.machine.specs.Outcomes.{closes, finds, splits, Incumbent, noTour, aTour}
+use Rattle.machine.specs.Outcomes.{closes, finds, splits, Incumbent, noTour, aTour, bestOf}
 use Rattle.machine.specs.Machine.{Marks, Node, withMarks, marksOf, applied, Pass, shut, found, unclosed, passBy, pass, gained, Opened}
 use Rattle.machine.specs.Machine.{firstFree}
 use Rattle.machine.specs.Machine.{branch, concluded, passes, Opening, trimmed, held, Progress, State, noSearch, searching, begin}
-use Rattle.machine.specs.Machine.{edgesOf, costOf, lowered, openNode, settled, openTop, finished, ran}
+use Rattle.machine.specs.Machine.{edgesOf, costOf, lowered, better, openNode, settled, openTop, finished, ran}
 use Rattle.machine.specs.Calls.{Call, opens, run, tell, show, close, fault, openedBy, runBy, shownBy, step}
 use Rattle.machine.specs.Calls.{stateAfter, leaves}
 use Rattle.machine.specs.Runs.{ran-keeps}
 use Rattle.machine.specs.Trimmed.{trimmed-trim, trimmed-valid}
-use Rattle.machine.specs.NodeTours.{applied-length}
+use Rattle.machine.specs.NodeTours.{better-is, applied-length}
 use Rattle.machine.specs.OpeningLaws.{Law, passes-law}
 use Rattle.machine.specs.ScaledLaws.{law-scaled}
 use Rattle.machine.specs.Depth.{Shallow, passes-shallow}
 use Rattle.machine.specs.Gained.{gained-fits}
-use Rattle.machine.specs.Kept.{Accepted, FitFor, Waits, Nodes, Kept, KeptState}
+use Rattle.machine.specs.Kept.{Accepted, FitFor, Waits, Nodes, Sized, Kept, KeptState}
 
--- ---- the range of a tour's cost, less 1
+-- ---- the range of a tour's cost
 
 sum-range : (f : ℕ → ℤ) (xs : List ℕ) → ((k : ℕ) → k ∈ xs → InRange maxCost (f k))
     → (up (sumZ f xs) ≤ maxCost * length xs) × (dn (sumZ f xs) ≤ maxCost * length xs)
@@ -64,15 +64,12 @@ sum-range f (x ∷ xs) h =
 lowered-range : (g : Graph) → value.Valid g → (r : List Bool) → Tour (network g) (edgesOf r) → InRange maxCeiling (lowered (network g) r)
 unfolding lowered costOf cost
 lowered-range g v r o = record {
-  high = omega (arith, add-up total (negsuc 0), sums .0, size, v .high, tour-in-range);
-  low = omega (arith, add-dn total (negsuc 0), sums .1, size, v .high, tour-in-range);
+  high = omega (arith, sums .0, size, v .high, tour-in-range);
+  low = omega (arith, sums .1, size, v .high, tour-in-range);
 }
   where
     es : List ℕ
     es = select (edgesOf r) (upTo (network g .m))
-
-    total : ℤ
-    total = sumZ (network g .cost) es
 
     size : length es ≡ g .n
     size = unfold network in o .number
@@ -152,6 +149,16 @@ long-scaled q g (splits out into) h = (
   record { long = h .1 .long; multipliers = h .1 .multipliers },
 )
 
+-- of two tours that have m places the better has
+better-sized : (g : Network) (m : ℕ) (best : Incumbent (List Bool)) (r : List Bool) → Sized m best → length r ≡ m
+    → Sized m (bestOf (better g) best r)
+better-sized g m noTour r h z = z
+better-sized g m (aTour b) r h z = go (better-is g b r)
+  where
+    go : (better g b r ≡ b) ⊎ (better g b r ≡ r) → length (better g b r) ≡ m
+    go (inl e) = rw e h
+    go (inr e) = rw e z
+
 -- ---- one node more
 
 module _ (s : Progress) (h : Kept s) (x : Node) (rest : List Node) (e : s .stack ≡ x ∷ rest) (l : s .count < maxCount) where
@@ -180,6 +187,11 @@ module _ (s : Progress) (h : Kept s) (x : Node) (rest : List Node) (e : s .stack
       long-scaled q (network (s .opening .graph)) (openNode (s .opening) (s .upper) x)
       (passes-long (scaledBy q (network (s .opening .graph))) (omega (arith, h .opening .valid .low)) (s .opening .settings .step) (q times s .upper)
       (s .opening .settings .sweeps) (x .multipliers) (waiting .0 .multipliers) (x .marks))
+
+  -- a tour that it finds has a place for each edge
+  pub found-long : (r : List Bool) → openNode (s .opening) (s .upper) x ≡ finds r → length r ≡ s .opening .graph .m
+  unfolding network
+  found-long r i = subst (λ (o : Opened). Long (network (s .opening .graph)) o) i top-long
 
   -- and it splits only where there is room for both halves
   top-shallow : Shallow (s .opening .graph .n) (x .marks) (openNode (s .opening) (s .upper) x)
@@ -212,7 +224,7 @@ module _ (s : Progress) (h : Kept s) (x : Node) (rest : List Node) (e : s .stack
         upper = lowered-range (s .opening .graph) (h .opening .valid) r (w (x .multipliers) .inside .tour);
         depth = omega (arith, below);
         nodes = waiting .1;
-        sized = z;
+        sized = better-sized (network (s .opening .graph)) (s .opening .graph .m) (s .incumbent) r (h .sized) z;
         count = l;
       }
   settled-kept (splits out into) z v w =

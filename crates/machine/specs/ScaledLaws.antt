@@ -3,14 +3,12 @@
 -- and q times the upper bound is lawful in minutes. Assumes nothing.
 use mathlib.Core.Path.{_≡_, refl, sym, ap, _∙_}
 use mathlib.Core.Logic.{_⊎_, inl, inr, _↔_}
-use mathlib.Core.Bool.{Bool}
 use mathlib.Core.List.{List}
 use Prim.Native.Nat.{ℕ, _≤_}
-use lib.IntN.{ℤ, pos, _-ℤ_}
-use lib.Signed.{_≤ℤ_, _<ℤ_}
+use lib.IntN.{ℤ}
+use lib.Signed.{_≤ℤ_}
 use Rattle.lists.specs.Select.{select}
 use Rattle.lists.specs.Numbers.{upTo}
-use Rattle.integers.specs.Order.{below-less-one, lt-le-less-one}
 use Rattle.integers.specs.Multiples.{_times_, times-mono, times-le, times-lt, sum-times}
 use Rattle.graph.specs.Network.{Network}
 use Rattle.tree_theory.specs.OneTree.{Edges, bound}
@@ -20,9 +18,9 @@ use Rattle.tree_theory.specs.Scaling.{valid-scaled}
 use Rattle.tours.specs.Tours.{Tour, cost}
 use Rattle.tours.specs.TourTree.{bound-is-cost}
 use Rattle.machine.specs.Outcomes.{closes, finds, splits}
-use Rattle.machine.specs.Machine.{Marks, Node, nodeOf, Opened, withMarks, edgesOf, costOf, lowered}
+use Rattle.machine.specs.Machine.{Marks, Node, nodeOf, Opened, withMarks, edgesOf}
 use Rattle.machine.specs.BranchAndBound.{Lawful}
-use Rattle.machine.specs.NodeTours.{Inside, tours, tour-other}
+use Rattle.machine.specs.NodeTours.{Inside, Before, tours, tour-other}
 use Rattle.machine.specs.OpeningLaws.{Law}
 
 module _ (q : ℕ) (g : Network) where
@@ -62,13 +60,10 @@ module _ (q : ℕ) (g : Network) where
     within : (t : Edges) (u : ℤ) → (cost (scaledBy q g) t ≤ℤ q times u) ↔ (cost g t ≤ℤ u)
     within t u = rw (cost-scaled t) (times-le q some (cost g t) u)
 
-    -- a tour within the bound that a found one leaves, so too at q times the costs
-    under : (t : Edges) (r : List Bool) → cost g t ≤ℤ lowered g r → cost (scaledBy q g) t ≤ℤ lowered (scaledBy q g) r
-    unfolding lowered costOf
-    under t r h =
-        rw (cost-scaled t, cost-scaled (edgesOf r))
-        (lt-le-less-one (q times cost g t) (q times cost g (edgesOf r))
-        (times-lt q some (cost g t) (cost g (edgesOf r)) .1 (below-less-one (cost g t) (cost g (edgesOf r)) h)))
+    -- a tour that comes before another, so too at q times the costs
+    before-up : (t s : Edges) → Before g t s → Before (scaledBy q g) t s
+    before-up t s (inl h) = inl (rw (cost-scaled t, cost-scaled s) (times-lt q some (cost g t) (cost g s) .1 h))
+    before-up t s (inr h) = inr (cost-scaled t ∙ ap (λ (z : ℤ). q times z) (h .0) ∙ sym (cost-scaled s), h .1)
 
     -- AN OPENING LAWFUL AT q TIMES THE COSTS IS LAWFUL IN MINUTES
     lawful-scaled : (u : ℤ) (x : Node) (out : Opened) → Lawful (tours (scaledBy q g)) (q times u) x out → Lawful (tours g) u x out
@@ -76,7 +71,7 @@ module _ (q : ℕ) (g : Network) where
     lawful-scaled u x (finds r) h = record {
       inside = inside-down (edgesOf r) (x .marks) (h .inside);
       within = within (edgesOf r) u .0 (h .within);
-      least = λ t i w. h .least t (inside-up t (x .marks) i) (under t r w);
+      least = λ t i w. h .least t (inside-up t (x .marks) i) (before-up t (edgesOf r) w);
     }
     lawful-scaled u x (splits out into) h = record {
       loses = λ t i w. either t (h .loses t (inside-up t (x .marks) i) (within t u .1 w));

@@ -6,6 +6,7 @@ ghost use Rattle.search.specs.Record.{fresh, openingOf};
 ghost use Rattle.search.specs.Replies.{refuses, reply, lent, Gives, GivesList};
 
 mod cost;
+mod keeping;
 mod opening;
 mod record;
 mod running;

@@ -13,7 +13,7 @@ ghost use Rattle.search.specs.Runs.Frames.{FrameHolds, Opens, CarriedBy}
 ghost use Rattle.search.specs.Runs.Running.{Runs};
 use crate::CARRIED_SIZE;
 use crate::STACK_SIZE;
-use crate::cost::tour_cost;
+use crate::keeping::keep;
 use crate::stack::get;
 use crate::stack::get_carried;
 use crate::stack::put;
@@ -66,8 +66,7 @@ fn settle<'a>(
         }
         Fate::Finds => {
             put(stack, p, top);
-            *best = *row;
-            let u = tour_cost(m, cost, row) - 1;
+            let u = keep(m, cost, f.has_best, row, best);
             Frame {
                 upper: u,
                 depth: p,

@@ -9,7 +9,7 @@ use Rattle.graph.specs.Network.{network}
 use Rattle.tours.specs.OneNetwork.{OneNetwork}
 use Rattle.machine.specs.Machine.{Opening, State}
 use Rattle.machine.specs.Calls.{Call, Verdict, History, noOpening, since, freeAtStart}
-use Rattle.machine.specs.Demand3.{Finished, Says}
+use Rattle.machine.specs.Demand3.{NumberedAlike, Finished, Says, ShowAlike}
 use Rattle.search.specs.Replies.{said}
 use Rattle.search.specs.declared.Answer.{Answer}
 use Rattle.lent_records.specs.Machine.{Machine, leaves}
@@ -55,15 +55,25 @@ SaysAfter f cs o v =
     let r = recordOf (callsSaid f) cs in
     Says (λ a. f (said a)) (λ c. callsSaid f .answer r (plain c)) (λ c. callsSaid f .list r (plain c)) o v
 
+-- of two lists: show with one list of bytes is answered alike, and leaves it with the same bytes
+abbrev pub ShowAlikeAfter : {A : Type 0} → (Answer → A) → List AnyCall → List AnyCall → Type 0
+ShowAlikeAfter f cs ds =
+    let r = recordOf (callsSaid f) cs in
+    let q = recordOf (callsSaid f) ds in
+    ShowAlike (λ c. callsSaid f .answer r (plain c)) (λ c. callsSaid f .list r (plain c)) (λ c. callsSaid f .answer q (plain c))
+    (λ c. callsSaid f .list q (plain c))
+
 pub record Demand3 {A : Type 0} (f : Answer → A) : Type 0 where
   -- "For every list of opening, run, tell, show and close calls on one record, refused ones included, from a fresh record .. each call answers
   -- as document 01's machine does", and "Demand 3 covers these lists too": both records to the byte, and 24 never
   pub equal : (cs : List AnyCall) → AsTheMachine (callsSaid f) cs
   -- "Take two such lists that each leave a finished hunt, both of one sea (its legs in any order) and opened with one ceiling, whatever
-  -- dues, sweeps and steps the two have. Tell gives both the same verdict: .."
+  -- dues, sweeps and steps the two have. Tell gives both the same verdict: .."; document 02, C-23: "With legs numbered alike, finished hunts
+  -- now agree on the round as well as its cost."
   pub agree : (cs ds : List AnyCall) (o p : Opening) → LeavesFinished cs o → LeavesFinished ds p
       → OneNetwork (network (o .graph)) (network (p .graph)) → o .settings .ceiling ≡ p .settings .ceiling
       → (v : Verdict) × SaysAfter f cs o v × SaysAfter f ds p v
+      × (NumberedAlike (network (o .graph)) (network (p .graph)) → ShowAlikeAfter f cs ds)
   -- "A hunt whose accepted run calls allow at least 2^(k+1) − 1 nodes in all, k legs being free at the start and k at most 62, is
   -- finished."
   pub ends : (cs : List AnyCall) (o : Opening) (total : ℕ) → history cs ≡ since o total

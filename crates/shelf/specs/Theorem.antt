@@ -24,7 +24,7 @@ use Rattle.shelf_theory.specs.ShelfRecords.{answerOn, listOn}
 use Rattle.shelf_theory.specs.Paths.{path, current-is, history-is}
 use Rattle.shelf_theory.specs.Paths as paths
 use Rattle.shelf_theory.specs.ShelfFollows.{shelf-list, plain-answer, plain-list, restores-record}
-use Rattle.shelf.specs.Demand3.{AnyCall, searchShelved, searchLeft, history, LeavesFinished, callsSaid, SaysAfter, Demand3}
+use Rattle.shelf.specs.Demand3.{AnyCall, searchShelved, searchLeft, history, LeavesFinished, callsSaid, SaysAfter, ShowAlikeAfter, Demand3}
 
 -- ---- the path of a list
 
@@ -81,6 +81,7 @@ module _ {A : Type 0} (f : Answer → A) where
           such = y .such;
           exact = y .exact;
           least = y .least;
+          first = y .first;
           accepts = λ l e. answer-next (show l) ∙ ap (λ (a : plainly.Answer). f (said a)) (y .accepts l e);
           writes = λ l e. list-next (show l) ∙ y .writes l e;
         }
@@ -91,13 +92,19 @@ module _ {A : Type 0} (f : Answer → A) where
         subst Finished (same-state cs ∙ sym (ap (λ (d : Shelved State). d .current) (equal cs .holds)))
         (machine-ends (pathOf cs) o total (same-past cs ∙ e) few enough)
 
+  show-alike : (cs ds : List AnyCall) → claim.ShowAlike (pathOf cs) (pathOf ds) → ShowAlikeAfter f cs ds
+  show-alike cs ds h l = (
+    answer-next cs (show l) ∙ ap (λ (a : plainly.Answer). f (said a)) (h l .0) ∙ sym (answer-next ds (show l)),
+    list-next cs (show l) ∙ h l .1 ∙ sym (list-next ds (show l)),
+  )
+
   -- where no refusal is said as 'accepted' is
   pub demand-3-said : ((n : ℕ) → ¬ (f (Refused (suc n) 0) ≡ f Accepted)) → Demand3 f
   demand-3-said apart = record {
     equal = equal;
     agree = λ cs ds o p l k one same.
         let a = machine-agrees (pathOf cs) (pathOf ds) o p (leaves-finished cs o l) (leaves-finished ds p k) one same in
-        (a .0, says cs o (a .0) (a .1), says ds p (a .0) (a .2));
+        (a .0, says cs o (a .0) (a .1), says ds p (a .0) (a .2), λ alike. show-alike cs ds (a .3 alike));
     ends = finishes;
     restores = restores-record searches (searchCalls f) (calls-follow f) apart;
   }

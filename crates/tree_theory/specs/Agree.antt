@@ -48,9 +48,14 @@ unfolding lacksFirst upTo
 lacks-agree zero s r t h = refl
 lacks-agree (suc m) s r t h = rw (h (suc m) (inl refl), lacks-agree m s r t (λ k i. h k (inr i)))
 
+pub lacks-second : (m : ℕ) (s r t : Edges) → Agree m r t → lacksFirst m s r ≡ lacksFirst m s t
+unfolding lacksFirst upTo
+lacks-second zero s r t h = refl
+lacks-second (suc m) s r t h = rw (h (suc m) (inl refl), lacks-second m s r t (λ k i. h k (inr i)))
+
 -- ---- where neither of two comes first, they agree
 
-neither : (m : ℕ) (s t : Edges) → lacksFirst m s t ≡ false → lacksFirst m t s ≡ false → Agree m s t
+pub neither : (m : ℕ) (s t : Edges) → lacksFirst m s t ≡ false → lacksFirst m t s ≡ false → Agree m s t
 unfolding lacksFirst upTo
 neither zero s t h i k j = absurd j
 neither (suc m) s t h i k j = go (s (suc m)) (t (suc m)) refl refl h i (λ h′ i′ j′. neither m s t h′ i′ k j′) j

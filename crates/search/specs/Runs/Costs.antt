@@ -10,7 +10,6 @@ use lib.Dec.{eqb}
 use lib.ListN.{getD}
 use lib.IntN.{ℤ, pos, _+ℤ_}
 use borrow.Author.Tests.{eq-eqb, ne-eqb}
-use Rattle.lists.specs.Members.{_∈_}
 use Rattle.lists.specs.Select.{select, select-cong}
 use Rattle.lists.specs.Numbers.{upTo}
 use Rattle.lists.specs.Fill.{fill-at}
@@ -21,6 +20,7 @@ use Rattle.graph.specs.declared.Graph.{Graph}
 use Rattle.graph.specs.Limits.{maxCost}
 use Rattle.graph.specs.Network.{network}
 use Rattle.graph.specs.Places.{network-cost}
+use Rattle.tree_theory.specs.Agree.{Agree}
 use Rattle.tree_theory.specs.Arrays.{bytes, edge-in}
 use Rattle.tours.specs.Tours.{cost}
 use Rattle.machine.specs.Machine.{edgesOf}
@@ -78,12 +78,14 @@ pub cost-all : (g : Graph) (w : List ℕ) → costTo (g .m) g w ≡ cost (networ
 unfolding costTo cost network
 cost-all g w = refl
 
+-- a tour's bytes as Booleans have its edges
+pub bits-edges : (g : Graph) (w : List ℕ) → Agree (g .m) (edgesOf (bits (g .m) w)) (bytes w)
+unfolding network
+bits-edges g w k i =
+    let r = edge-in g k i in
+    subst (λ (j : ℕ). edgesOf (bits (g .m) w) j ≡ bytes w j) (sym (r .2))
+    (unfold edgesOf bits in fill-at (g .m) (λ j. eqb (getD w j 0) 1) (r .0) false (r .1))
+
 pub cost-bits : (g : Graph) (w : List ℕ) → cost (network g) (edgesOf (bits (g .m) w)) ≡ cost (network g) (bytes w)
-unfolding cost
-cost-bits g w = ap (sumZ (network g .cost)) (select-cong (edgesOf (bits (g .m) w)) (bytes w) (upTo (network g .m)) same)
-  where
-    same : (k : ℕ) → k ∈ upTo (network g .m) → edgesOf (bits (g .m) w) k ≡ bytes w k
-    same k i =
-        let r = edge-in g k i in
-        subst (λ (j : ℕ). edgesOf (bits (g .m) w) j ≡ bytes w j) (sym (r .2))
-        (unfold edgesOf bits in fill-at (g .m) (λ j. eqb (getD w j 0) 1) (r .0) false (r .1))
+unfolding cost network
+cost-bits g w = ap (sumZ (network g .cost)) (select-cong (edgesOf (bits (g .m) w)) (bytes w) (upTo (g .m)) (bits-edges g w))

@@ -8,7 +8,7 @@ use Prim.Native.Nat.{ℕ, suc, _+_, _-_, _≤_, _<_}
 use native.Mathlib.Omega.{arith}
 use native.Mathlib.Numerals.{add-one}
 use lib.ListN.{length, replicate}
-use lib.IntN.{ℤ, pos, _-ℤ_}
+use lib.IntN.{ℤ}
 use lib.Signed.{mag}
 use Rattle.lists.specs.Bools.{bit}
 use Rattle.integers.specs.Parts.{mag-of-parts}
@@ -19,11 +19,12 @@ use Rattle.graph.specs.Fits.{ceiling-fits}
 use Rattle.graph.specs.Valid.{Valid}
 use Rattle.tree_theory.specs.Arrays.{bytes}
 use Rattle.tours.specs.Tours.{cost}
-use Rattle.machine.specs.Outcomes.{closes, finds, splits, aTour}
+use Rattle.machine.specs.Outcomes.{closes, finds, splits, Incumbent, noTour, aTour}
+use Rattle.machine.specs.Outcomes as outcomes
 use Rattle.machine.specs.Machine as M
-use Rattle.machine.specs.Machine.{Node, Progress, edgesOf, costOf, lowered, openNode, settled, openTop}
-use Rattle.machine.specs.Kept.{Kept, Sized, depth-most}
-use Rattle.machine.specs.Preserved.{top-kept}
+use Rattle.machine.specs.Machine.{Node, Progress, edgesOf, costOf, lowered, better, openNode, settled, openTop}
+use Rattle.machine.specs.Kept.{Kept, depth-most}
+use Rattle.machine.specs.Preserved.{top-kept, found-long}
 use Rattle.machine.specs.Inherited.{siblings}
 use Rattle.node.specs.declared.Fate.{Fate}
 use Rattle.node.specs.declared.Fate.the-variants as fate
@@ -31,11 +32,11 @@ use Rattle.node.specs.Marks.{bytesOf}
 use Rattle.node.specs.Opened.{Opened, places, noMultipliers, openedAs}
 use Rattle.node.specs.Refusing.{never-refused}
 use Rattle.search.specs.declared.running.Frame.{Frame}
-use Rattle.search.specs.Record.{maxNodes, stackSize, byteAt, stackBytes, carriedOf, bits, bestOf, hasBest, bestBytes}
+use Rattle.search.specs.Record.{maxNodes, stackSize, byteAt, stackBytes, carriedOf, bits, hasBest, bestBytes}
 use Rattle.search.specs.Cells.{bytes-places, cells-size}
-use Rattle.search.specs.Incumbents.{best-back}
 use Rattle.search.specs.Pushing.{PutBytes, PutCarried, pushed, replaced, popped, carried-pushed, carried-replaced, carried-popped}
 use Rattle.search.specs.Runs.Costs.{cost-bits}
+use Rattle.search.specs.Runs.Keeping.{keptOf, bits-back, kept-is}
 
 -- what changes of a search, but for the bytes of the stack and of the best tour
 unfoldable pub frameOf : Progress → Frame
@@ -178,13 +179,6 @@ CarriedBy (fate.Refused k) p d e e′ = PutCarried p d e e′
 
 -- ---- the search after the top node's opening
 
-bits-back : (m : ℕ) (t : List Bool) → m ≤ maxEdges → length t ≡ m → bits m (bestBytes (aTour t)) ≡ t
-unfolding bestOf hasBest
-bits-back m t few z = same (bits m (bestBytes (aTour t))) t (best-back m (aTour t) few z)
-  where
-    same : (x y : List Bool) → aTour x ≡ aTour y → x ≡ y
-    same x y e = cc
-
 module _ (m : ℕ) (costs : List ℤ) (f : Frame) (l w : List ℕ) (o : Opened) (t : Opens m costs f l w o) where
   abbrev g : Graph
   g = t .graph
@@ -267,28 +261,32 @@ module _ (m : ℕ) (costs : List ℤ) (f : Frame) (l w : List ℕ) (o : Opened) 
       r : Closes (openNode (s .opening) (s .upper) (t .top .node)) o
       r = opened-closes (openNode (s .opening) (s .upper) (t .top .node)) o (t .is) h
 
-  -- the tour becomes the incumbent
-  pub next-finds : (l′ : List ℕ) (upper : ℤ) → o .fate ≡ fate.Finds → upper ≡ cost (network g) (bytes (o .row)) -ℤ pos 1
-      → PutBytes (f .depth - 1) (o .top) l l′
-      → FrameHolds g (record { upper = upper; depth = f .depth - 1; «has_best» = 1; count = f .count + 1 }) l′ (o .row) next
+  -- of the tour and the incumbent the better is kept
+  pub next-finds : (l′ w′ : List ℕ) (upper : ℤ) → o .fate ≡ fate.Finds → upper ≡ cost (network g) (bytes (o .row))
+      → w′ ≡ keptOf g (f .«has_best») (o .row) w → PutBytes (f .depth - 1) (o .top) l l′
+      → FrameHolds g (record { upper = upper; depth = f .depth - 1; «has_best» = 1; count = f .count + 1 }) l′ w′ next
   unfolding s out settled frameOf lowered costOf hasBest
-  next-finds l′ upper h u put =
-      holds-next (finds (r .tour)) (r .is) _ l′ (o .row)
+  next-finds l′ w′ upper h u k put =
+      holds-next (finds (r .tour)) (r .is) _ l′ w′
       (λ i. record {
-        upper = (u ∙ ap (λ (z : ℤ). z -ℤ pos 1) same-cost) i;
+        upper = (u ∙ same-cost) i;
         depth = sym top-place i;
-        «has_best» = 1;
+        «has_best» = sym (one (s .incumbent)) i;
         count = count-next i;
       })
       (popped (f .depth - 1) l l′ (t .top .rest) top-place (t .top .node) old-bytes
       (subst (λ (x : List ℕ). PutBytes (f .depth - 1) x l l′) (r .top) put))
-      (r .row)
+      (k ∙ same-best)
     where
       r : Finds (openNode (s .opening) (s .upper) (t .top .node)) o
       r = opened-finds (openNode (s .opening) (s .upper) (t .top .node)) o (t .is) h
 
       long : length (r .tour) ≡ s .opening .graph .m
-      long = subst (λ (x : Progress). Sized (x .opening .graph .m) (x .incumbent)) (settles (finds (r .tour)) (r .is)) (next-kept .sized)
+      long = found-long s (t .holds .kept) (t .top .node) (t .top .rest) (t .top .stack) (t .top .room) (r .tour) (r .is)
+
+      one : (i : Incumbent (List Bool)) → bit (hasBest (outcomes.bestOf (better (network (s .opening .graph))) i (r .tour))) ≡ 1
+      one noTour = refl
+      one (aTour b) = refl
 
       same-cost : cost (network g) (bytes (o .row)) ≡ cost (network (s .opening .graph)) (edgesOf (r .tour))
       same-cost =
@@ -297,6 +295,12 @@ module _ (m : ℕ) (costs : List ℤ) (f : Frame) (l w : List ℕ) (o : Opened) 
           ∙ ap (λ (h : Graph). cost (network h) (edgesOf (bits (h .m) (bestBytes (aTour (r .tour)))))) (sym (t .holds .graph))
           ∙ ap (λ (b : List Bool). cost (network (s .opening .graph)) (edgesOf b))
           (bits-back (s .opening .graph .m) (r .tour) (t .holds .kept .opening .valid .few) long)
+
+      same-best : keptOf g (f .«has_best») (o .row) w ≡ bestBytes (outcomes.bestOf (better (network (s .opening .graph))) (s .incumbent) (r .tour))
+      same-best =
+          (λ i.
+          keptOf (sym (t .holds .graph) i) (ap (λ (x : Frame). x .«has_best») (t .holds .frame) i) (r .row i) (t .holds .best i))
+          ∙ kept-is (s .opening .graph) (s .incumbent) (r .tour) (t .holds .kept .opening .valid .few) (t .holds .kept .sized) long
 
   -- the node splits in two
   split : o .fate ≡ fate.Splits → Splits (openNode (s .opening) (s .upper) (t .top .node)) o

@@ -1,18 +1,10 @@
 -- Each fate leaves the frame and the bytes that its law says.
-use Prim.Native.Nat.{_*_, _-_, _<_}
+use Prim.Native.Nat.{_-_, _<_}
 use mathlib.Core.Path.{_≡_, sym, ap, _∙_}
 use native.Mathlib.Omega.{arith}
 use borrow.Author.Needs.{needs}
 use lib.ListN.{length}
-use lib.IntN.{ℤ, pos, _+ℤ_, _-ℤ_}
-use mir.Facts.{toZ-ofZ}
-use mir.Val.{SFits}
-use mir.Syntax.{w64}
-use Rattle.integers.specs.Parts.{add-up, add-dn, mag-of-parts}
-use Rattle.integers.specs.Range.{InRange}
 use Rattle.integers.specs.Words.{back64}
-use Rattle.graph.specs.Limits.{maxCost, maxEdges}
-use Rattle.graph.specs.Fits.{total-fits}
 use Rattle.machine.specs.Machine.{openNode}
 use Rattle.node.specs.Opened.{Opened}
 use Rattle.node.specs.Refusing.{never-refused}
@@ -20,14 +12,6 @@ use Rattle.search.specs.Runs.Frames.{holds-mag, holds-size, holds-valid,
 use Rattle.search.specs.Runs.Frames.{next-closes, next-finds, next-splits}
 use Rattle.search.proofs.running.settle.Statement.{statement}
 use Rattle.search.proofs.running.settle.Tie as tie
-
--- the cost and a small number fit
-sum-fits : (z y : ℤ) → InRange (maxCost * maxEdges) z → InRange 10 y → SFits w64 (z +ℤ y)
-sum-fits z y r s = record {
-  sfits =
-      mag-of-parts (z +ℤ y) 9223372036854775808 (omega (arith, add-up z y, r .high, s .high, total-fits))
-      (omega (arith, add-dn z y, r .low, s .low, total-fits));
-}
 
 -- the place of the top node is one of the stack's
 in-stack : (s : tie.Start) → (s .args .f .depth - 1 < 22) × (length (s .args .stack .now) ≡ 4180)
@@ -71,16 +55,11 @@ finding told = start (told .before .before)
 put-requires-2 : tie.Need-put-requires-2
 put-requires-2 c κs = in-stack (finding (c .before))
 
-tour-cost-requires : tie.Need-tour-cost-requires
-tour-cost-requires c κs =
+keep-requires : tie.Need-keep-requires
+keep-requires c κs =
     let told = c .before .before .before in
     let t = finding told .pre .1 in
     (t .graph, holds-valid _ _ _ _ _ (t .holds), t .many, t .costs-are)
-
-sub-u : tie.Need-sub-u
-sub-u c =
-    let k = c .tour-cost in
-    rw (back64 (k .result) (k .ok)) (sum-fits (k .result) _ (k .ensures .1) (record { low = omega arith; high = omega arith }))
 
 enum-told-4 : tie.Need-enum-told-4
 enum-told-4 c = search needs
@@ -104,8 +83,8 @@ put-requires-4 c κs =
     let s = splitting told in
     (split-room _ _ _ _ _ _ (s .pre .1) (told .enum-told4 .given .1), c .before .put3 .ensures .size ∙ in-stack s .1)
 
-add-t22 : tie.Need-add-t22
-add-t22 c = omega (arith, in-stack (splitting (lower (c .before .before))) .0)
+add-t21 : tie.Need-add-t21
+add-t21 c = omega (arith, in-stack (splitting (lower (c .before .before))) .0)
 
 returns-2 : tie.Need-returns-2
 returns-2 c =
@@ -116,14 +95,13 @@ returns-2 c =
 
 returns-3 : tie.Need-returns-3
 returns-3 c =
-    let k = c .tour-cost in
+    let k = c .keep in
     let put = c .before .before in
     let told = put .before .before in
     λ d t.
-    rw (toZ-ofZ (sub-u c), back64 (k .result) (k .ok))
-    (next-finds _ _ _ _ _ _ t _ _ (told .enum-told3 .given .1)
-    (ap (λ (z : ℤ). z -ℤ pos 1) (k .ensures .0 (t .graph) (holds-valid _ _ _ _ _ (t .holds)) (t .many) (t .costs-are)))
-    (put .put2 .ensures))
+    let is = k .ensures (t .graph) (holds-valid _ _ _ _ _ (t .holds)) (t .many) (t .costs-are) in
+    rw (back64 (k .result) (k .ok))
+    (next-finds _ _ _ _ _ _ t _ _ _ (told .enum-told3 .given .1) (is .0) (is .1) (put .put2 .ensures))
 
 returns-4 : tie.Need-returns-4
 returns-4 c =
@@ -144,13 +122,12 @@ settle-spec =
     put-requires
     enum-told-3
     put-requires-2
-    tour-cost-requires
-    sub-u
+    keep-requires
     enum-told-4
     put-requires-3
     add-put
     put-requires-4
-    add-t22
+    add-t21
     returns
     returns-2
     returns-3

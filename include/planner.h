@@ -165,7 +165,8 @@ planner_said planner_run(planner_search *s, uint64_t budget);
 /* PLANNER_GOING_ON, PLANNER_NO_TOUR, or PLANNER_BEST with the cost as value; each with the count as nodes; 24 or 20. */
 planner_said planner_tell(planner_search *s);
 
-/* The best tour into out, a byte for each edge; 0, 24, 20, 22, 23 or 11. */
+/* The best tour into out, a byte for each edge: of the cheapest the first, which of two is the one that lacks the highest-numbered edge in which
+   they differ; 0, 24, 20, 22, 23 or 11. */
 planner_said planner_show(planner_search *s, uint8_t *out, size_t length);
 
 /* Makes the record fresh again; 0, 24 or 20. */

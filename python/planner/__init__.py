@@ -32,7 +32,7 @@ def graph_of(chart: Chart) -> Graph:
 
 
 def solve(chart: Chart, ceiling: int | None = None, nodes: int = LONG, progress: Progress | None = None) -> Answer:
-    """The cheapest tour, or that there is none (with a ceiling: none of at most so much), or that so many nodes did not decide it."""
+    """The first of the cheapest tours, or that there is none (with a ceiling: none of at most so much), or that so many nodes did not decide it."""
     return _search.solve(graph_of(chart), ceiling, nodes, progress)
 
 

@@ -502,7 +502,11 @@ class Search:
 
     def best_so_far(self) -> int | None:
         """What the best tour met so far costs. It need not be the cheapest: only tell says that."""
-        return self.record.upper + 1 - self.more if self.record.has_best else None
+        return self.record.upper - self.more if self.record.has_best else None
+
+    def tour_so_far(self) -> tuple[int, ...]:
+        """The numbers of its edges; none where no tour was met. It need not be the first of its cost: only show gives that."""
+        return _chosen(self.record.best, self.record.graph.m)
 
 
 class Shelf:

@@ -1,7 +1,8 @@
 """The cheapest tour without a ceiling at hand: guesswork for a first ceiling, an ascent of multipliers, a climb of ceilings.
 
-What is chosen here, ceilings, multipliers, sweeps and step, decides how long a search takes and which of several cheapest tours it finds.
-Every answer is the library's: that a cost is the least, or that there is no tour, is proved for every choice. Where costs lie further apart than
+What is chosen here, ceilings, multipliers, sweeps and step, decides how long a search takes. Every answer is the library's: that a cost is the
+least, that a tour is the first of those that cost it, or that there is no tour, is proved for every choice. Where many tours cost the same a search
+that has met a cheapest one goes on to the first, often for long; a ceiling one below its cost settles the cost sooner. Where costs lie further apart than
 multipliers reach, it is asked about the same graph with levelled costs (`levelled`), and about the graph itself what the tour found costs.
 """
 from __future__ import annotations
@@ -43,7 +44,8 @@ Progress = Callable[[Search], None]
 class Answer:
     """A verdict ('cost', 'none' or 'going on'), the count of nodes, and where there is a tour its cost and the numbers of its edges.
 
-    Where the verdict is 'going on', no tour costs `above` or less.
+    Where the verdict is 'going on', no tour costs `above` or less. `first` says whether the tour is known to be the first of those that cost as
+    little: of two, the one that lacks the highest-numbered edge in which they differ.
     """
 
     verdict: str
@@ -51,6 +53,7 @@ class Answer:
     cost: int | None = None
     tour: tuple[int, ...] = ()
     above: int | None = None
+    first: bool = False
 
 
 def within(value: int, allowed: range) -> int:
@@ -152,7 +155,7 @@ class Solver:
         return ascent_of(graph), more
 
     def ask(self, ceiling: int, limit: int) -> Answer:
-        """What a search answers after at most so many nodes."""
+        """What a search answers after at most so many nodes; while it is going on, the best tour that it has met and its cost, if any."""
         ascent, more = self.asked
         search = Search(more)
         there = within(ceiling + more, CEILINGS)  # beyond them no tour has its cost
@@ -161,14 +164,15 @@ class Solver:
         search.run(limit, self.progress)
         told = search.tell()
         if told.verdict != "cost":
-            return Answer(told.verdict, told.nodes)
+            met = search.tour_so_far()
+            return Answer(told.verdict, told.nodes, cost_of(self.graph, met) if met else None, met)
         tour = search.show()
         cost = told.cost if ascent.graph is self.graph else cost_of(self.graph, tour)
         if cost + more != told.cost:
             # It only seemed so cheap. The graph itself is asked about from now on.
             self.asked = ascent_of(self.graph), 0
             return self.ask(ceiling, limit)
-        return Answer(told.verdict, told.nodes, cost, tour)
+        return Answer(told.verdict, told.nodes, cost, tour, first=True)
 
 
 def cost_of(graph: Graph, tour: Iterable[int]) -> int:
@@ -194,8 +198,12 @@ def guessed_cost(graph: Graph) -> int | None:
 
 def some_tour(graph: Graph, progress: Progress | None = None) -> Answer:
     """A tour and its cost, or 'none' where there is no tour: the same graph has one of cost 0 when all costs are 0."""
-    answer = Solver(graph.recosted([0] * graph.m), progress).ask(0, SHORT)
-    return replace(answer, cost=sum(graph.edges[number - 1].cost for number in answer.tour)) if answer.tour else answer
+    solver = Solver(graph.recosted([0] * graph.m), progress)
+    answer = solver.ask(0, SHORT // 100)
+    if answer.verdict == "going on" and not answer.tour:
+        answer = solver.ask(0, SHORT)
+    cost = sum(graph.edges[number - 1].cost for number in answer.tour)
+    return replace(answer, verdict="cost", cost=cost) if answer.tour else answer
 
 
 class Climb:
@@ -228,36 +236,63 @@ class Climb:
     def climb(self, low: int, high: int, first: int) -> Answer:
         """Asks above low and up to high, beginning with first.
 
-        Steps double from 1. Where a short search is going on the rest is halved, and long searches go on from there.
+        Steps double from 1. Where a short search is going on and has met a tour, the ceilings below its cost decide. Where it has met none the rest
+        is halved, and long searches go on from there.
         """
-        top, ceiling, step, answer, stuck = high, max(low + 1, min(first, high)), 1, NOTHING, False
+        top, ceiling, step, answer, stuck, best = high, max(low + 1, min(first, high)), 1, NOTHING, False, None
         while low < high:
             answer = self.ask(ceiling, self.short)
             if answer.verdict == "cost":
                 return answer
             if answer.verdict == "none":
                 low = ceiling
+            elif met(answer, ceiling):
+                best, high = answer, answer.cost - 1
+                top, step = high, high - low
             else:
                 stuck, high = True, ceiling - 1
             step = (high - low + 1) // 2 if stuck else 2 * step
             ceiling = low + min(step, high - low)
-        return self.climb_on(low, top, first) if stuck else answer
+        return self.climb_on(low, top, first, best) if stuck else settled(best, answer)
 
-    def climb_on(self, low: int, high: int, first: int) -> Answer:
-        """As climb, by long searches, until one is going on."""
+    def climb_on(self, low: int, high: int, first: int, best: Answer | None = None) -> Answer:
+        """As climb, by long searches, until one is going on and has met no tour; none but those of the best one's cost are above high."""
         step, answer = 1, NOTHING
         while low < high:
             ceiling = low + min(step, (first if low < first < high else high) - low)
             answer = self.ask(ceiling, self.long)
-            if answer.verdict != "none":
-                break
-            low, step = ceiling, 2 * step
-        return replace(answer, above=low) if answer.verdict == "going on" else answer
+            if answer.verdict == "cost":
+                return answer
+            if answer.verdict == "none":
+                low, step = ceiling, 2 * step
+            elif met(answer, ceiling):
+                best, high = answer, answer.cost - 1
+            else:
+                return Answer("going on", answer.nodes, above=low)
+        return settled(best, answer)
+
+    def first(self, answer: Answer) -> Answer:
+        """The first of the cheapest tours, where so many nodes find it at their cost; otherwise the one at hand."""
+        if answer.verdict != "cost" or answer.first:
+            return answer
+        found = self.ask(answer.cost, self.long)
+        return found if found.verdict == "cost" else replace(answer, nodes=found.nodes)
+
+
+def met(answer: Answer, ceiling: int) -> bool:
+    """Whether a search that is going on has met a tour of at most the ceiling. (With levelled costs one may only seem so cheap.)"""
+    return answer.cost is not None and answer.cost <= ceiling
+
+
+def settled(best: Answer | None, answer: Answer) -> Answer:
+    """The answer where no tour costs less than the best one met; the last search's where none was met."""
+    return answer if best is None else replace(best, verdict="cost")
 
 
 def solve(graph: Graph, ceiling: int | None = None, nodes: int = LONG, progress: Progress | None = None) -> Answer:
-    """The cheapest tour, or that there is none (with a ceiling: none of at most so much), or that so many nodes did not decide it."""
-    return Climb(graph, nodes, progress).cheapest(HIGHEST_TOUR if ceiling is None else ceiling)
+    """The first of the cheapest tours, or that there is none (with a ceiling: none of at most so much), or that so many nodes did not decide it."""
+    climb = Climb(graph, nodes, progress)
+    return climb.first(climb.cheapest(HIGHEST_TOUR if ceiling is None else ceiling))
 
 
 def order(graph: Graph, tour: Iterable[int]) -> list[int]:

@@ -84,7 +84,7 @@ def run_solve(arguments: argparse.Namespace, name: str, graph: Graph) -> int:
     answer = solved(graph, arguments.ceiling, arguments.nodes)
     fields: dict[str, object] = {"verdict": answer.verdict}
     if answer.verdict == "cost":
-        fields |= {"cost": answer.cost, "round": order(graph, answer.tour), "legs": answer.tour}
+        fields |= {"cost": answer.cost, "round": order(graph, answer.tour), "legs": answer.tour, "first": answer.first}
     elif answer.verdict == "going on":
         fields |= {"above": answer.above}
     if arguments.json:
@@ -99,6 +99,7 @@ def say_answer(graph: Graph, answer: Answer) -> None:
     lines = [answer.verdict]
     if answer.verdict == "cost":
         lines = [f"cost {answer.cost}", f"round {listed(order(graph, answer.tour), '-')}", f"legs {listed(answer.tour)}"]
+        lines += [] if answer.first else ["another round of this cost may come first"]
     elif answer.verdict == "going on":
         lines.append(f"no round costs {answer.above} or less")
     say("\n".join([*lines, f"nodes {answer.nodes}"]))

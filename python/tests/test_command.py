@@ -73,8 +73,8 @@ class Answers(unittest.TestCase):
         four = {"file": "examples/four.txt"}
         refused = {"file": "examples/regrade/loop.chart", "refused": 6, "place": 3, "meaning": "record met before"}
         for words, said, status in (
-            (("solve", "examples/four.txt"), four | {"verdict": "cost", "cost": 12, "round": [1, 2, 3, 4, 1], "legs": [1, 3, 4, 6], "nodes": 1},
-                0),
+            (("solve", "examples/four.txt"),
+                four | {"verdict": "cost", "cost": 12, "round": [1, 2, 3, 4, 1], "legs": [1, 3, 4, 6], "first": True, "nodes": 1}, 0),
             (("solve", "examples/four.txt", "--ceiling", 11), four | {"verdict": "none", "nodes": 1}, 1),
             (("solve", "examples/regrade/gulf.txt", "--nodes", 0),
                 {"file": "examples/regrade/gulf.txt", "verdict": "going on", "above": 412, "nodes": 0}, 3),

@@ -48,7 +48,7 @@ class Calls(unittest.TestCase):
             search = planner.Search()
             search.open(FOUR, 12, 2, 1, dues, q)
             search.run(99)
-            self.assertEqual((search.tell().verdict, search.tell().cost, search.best_so_far(), search.record.upper), ("cost", 12, 12, 11))
+            self.assertEqual((search.tell().verdict, search.tell().cost, search.best_so_far(), search.record.upper), ("cost", 12, 12, 12))
 
     def test_fractions_by_copies(self):
         """As the same sea with each cost multiplied, where that fits; and with denominator 1 as without."""

@@ -47,7 +47,8 @@ class Solve(unittest.TestCase):
                 expected = least if least is not None and (ceiling is None or least <= ceiling) else None
                 self.assertEqual(answer.cost, expected, (graph, ceiling))
                 if answer.tour:
-                    self.assertEqual(tours[frozenset(answer.tour)], least)
+                    cheapest = [sorted(tour, reverse=True) for tour, cost in tours.items() if cost == least]
+                    self.assertEqual((sorted(answer.tour, reverse=True), answer.first), (min(cheapest), True), (graph, ceiling))
                     way = planner.order(graph, answer.tour)
                     self.assertEqual((way[0], way[-1], sorted(way[1:])), (1, 1, list(range(1, graph.n + 1))))
                     self.assertLess(way[1], way[-2])
@@ -71,6 +72,16 @@ class Solve(unittest.TestCase):
             for graph in (graph, distances(source, 20, most), full_graph(20, lambda *_: source.randint(1, most))):
                 least = self.solved(graph).cost
                 self.assertEqual(self.solved(graph, least - 1).verdict, "none")
+
+    def test_first_of_many(self):
+        """All rounds cost the same: the first, where the nodes suffice; otherwise the cost, and a round of it."""
+        graph = full_graph(7, lambda *_: 1)
+        answer = self.solved(graph)
+        self.assertEqual((answer.cost, answer.first), (7, True))
+        self.assertEqual(sorted(answer.tour, reverse=True), min(sorted(tour, reverse=True) for tour in allowed_tours(graph)))
+        graph = full_graph(12, lambda *_: 1)
+        answer = planner.solve(graph, nodes=300)
+        self.assertEqual((answer.verdict, answer.cost, answer.first, is_tour(graph, answer.tour)), ("cost", 12, False, True))
 
     def test_limit(self):
         graph = full_graph(12, lambda a, b: (a * b) % 7)
@@ -139,6 +150,28 @@ class Ceilings(unittest.TestCase):
         climb.ask = ask
         answer = climb.climb(10, 1000, first)
         return answer.verdict, answer.cost, answer.nodes, answer.above
+
+    def test_climb_below_a_tour(self):
+        """Searches that have met a tour and go on: the cost is settled below it, by short searches or by long ones."""
+        for costs, long_from, said in (
+            ((60,), 1000, ("cost", 60, (1,), False)),
+            ((60, 40), 1000, ("cost", 40, (1,), False)),
+            ((11,), 1000, ("cost", 11, (1,), False)),
+            ((60,), 50, ("cost", 60, (1,), False)),
+        ):
+
+            def ask(ceiling, limit, costs=costs, long_from=long_from):
+                self.assertTrue(10 < ceiling <= 1000)
+                for cost in costs:
+                    if cost <= ceiling:
+                        return Answer("going on", limit, cost, (1,))
+                return Answer("going on", limit) if long_from <= ceiling and limit == SHORT else Answer("none", 1)
+
+            for first in (11, 60, 500, 1000):
+                climb = Climb(FOUR)
+                climb.ask = ask
+                answer = climb.climb(10, 1000, first)
+                self.assertEqual((answer.verdict, answer.cost, answer.tour, answer.first), said)
 
     def test_climb(self):
         for least, short, long, said in (

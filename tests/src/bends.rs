@@ -42,14 +42,39 @@ pub const LENGTH_BEFORE_ZERO_BYTES: Bend = Bend {
     bend: |law| law.zero_bytes_before_length = false,
 };
 
-pub const UPPER_TOO_LOW: Bend = Bend {
-    what: "U becomes a tour's cost less 2",
-    bend: |law| law.below_tour = 2,
+pub const UPPER_BELOW_COST: Bend = Bend {
+    what: "U becomes document 01's, a tour's cost less 1",
+    bend: |law| law.below_tour = 1,
 };
 
-pub const UPPER_AT_COST: Bend = Bend {
-    what: "U becomes a tour's cost",
-    bend: |law| law.below_tour = 0,
+pub const UPPER_ABOVE_COST: Bend = Bend {
+    what: "U becomes a tour's cost and 1",
+    bend: |law| law.below_tour = -1,
+};
+
+pub const CLOSED_AT_UPPER: Bend = Bend {
+    what: "a node closes at a bound equal to U",
+    bend: |law| law.equal_bound_stays = false,
+};
+
+pub const EQUALS_NEVER_REPLACE: Bend = Bend {
+    what: "a later tour of one cost never replaces the best",
+    bend: |law| law.equal_replaces = false,
+};
+
+pub const EQUALS_ALWAYS_REPLACE: Bend = Bend {
+    what: "a later tour of one cost always replaces the best",
+    bend: |law| law.only_the_first = false,
+};
+
+pub const LAST_OF_EQUALS: Bend = Bend {
+    what: "of two tours of one cost the last is kept",
+    bend: |law| law.lacking_first = false,
+};
+
+pub const LOWEST_LEG_DECIDES: Bend = Bend {
+    what: "the lowest-numbered edge in which two tours differ decides which comes first",
+    bend: |law| law.highest_decides = false,
 };
 
 pub const CEILING_NOT_WITHIN: Bend = Bend {
@@ -423,7 +448,7 @@ pub const UPPER_NOT_SCALED: Bend = Bend {
 };
 
 pub const UPPER_IN_PARTS: Bend = Bend {
-    what: "U becomes q times a tour's cost, less 1",
+    what: "U becomes q times a tour's cost",
     bend: |law| law.upper_in_minutes = false,
 };
 

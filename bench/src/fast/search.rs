@@ -190,7 +190,7 @@ impl Search {
         self.changes.forced.len = 0;
     }
 
-    /// The tour is the best, and others must cost less.
+    /// The tour is the best where there is none, where it costs less, or where it costs as much and comes first; U is its cost.
     fn improve(&mut self, node: &Node) {
         let mut best = [0; PLACES];
         for (k, byte) in best.iter_mut().enumerate().take(self.m) {
@@ -199,9 +199,15 @@ impl Search {
         for k in self.pass.free_in_tree() {
             best[k] = 1;
         }
-        self.best = Some(best);
-        self.best_cost = self.pass.tree_cost();
-        self.upper = self.best_cost - 1;
+        self.upper = self.pass.tree_cost();
+        let replaces = match &self.best {
+            Some(kept) if self.upper == self.best_cost => best.iter().rev().lt(kept.iter().rev()),
+            _ => true,
+        };
+        if replaces {
+            self.best = Some(best);
+        }
+        self.best_cost = self.upper;
     }
 
     /// The lowest-numbered free edge excluded and, on top, required.

@@ -211,15 +211,24 @@ fn is_tour(tree: &Tree, n: usize) -> bool {
     degrees.fold(true, |all, degree| all & (*degree == 2))
 }
 
-/// The tour is the best, and others must cost less.
+/// The tour is the best where there is none, where it costs less, or where it costs as much and comes first; U is its cost.
 fn improve(record: &mut Record, tree: &Tree) {
-    record.best = [0; PLACES];
+    let mut found = [0; PLACES];
     for k in &tree.edges[..record.graph.n()] {
-        record.best[*k as usize] = 1;
+        found[*k as usize] = 1;
+    }
+    // A tour's multipliers cancel out: its bound is its cost. With a best tour U is that one's cost, and this one is within it.
+    let cheaper = record.has_best == 0 || tree.bound < record.upper;
+    if cheaper || comes_first(&found, &record.best) {
+        record.best = found;
     }
     record.has_best = 1;
-    // A tour's multipliers cancel out: its bound is its cost.
-    record.upper = tree.bound - 1;
+    record.upper = tree.bound;
+}
+
+/// "of two, the one that lacks the highest-numbered leg in which they differ"
+fn comes_first(one: &Marks, other: &Marks) -> bool {
+    one.iter().rev().lt(other.iter().rev())
 }
 
 /// "each d(i), i ≥ 2, gains step × (g − 2) [..] and is held to its range"

@@ -542,7 +542,8 @@ impl Search {
         Told::of(unsafe { raw::planner_tell(&mut *self.record) })
     }
 
-    /// For each edge whether the cheapest tour has it; 24, 20, 22, 23.
+    /// For each edge whether the cheapest tour has it: of several the first, which of two is the one that lacks the highest-numbered edge in
+    /// which they differ; 24, 20, 22, 23.
     pub fn show(&mut self) -> Result<Vec<bool>, Refusal> {
         let mut out = vec![0; self.record.graph.places()];
         // SAFETY: the record and `out` are borrowed here alone; `out` has the length that is passed with it.
@@ -687,9 +688,8 @@ impl Dispatcher {
         let held = place.checked_sub(1).and_then(|k| self.places.places.get(k));
         let mut out = vec![0; held.map_or(0, |record| record.graph.places())];
         // SAFETY: the dispatcher and `out` are borrowed here alone; `out` has the length that is passed with it.
-        let said = unsafe {
-            raw::planner_show_at(&mut *self.places, place, out.as_mut_ptr(), out.len())
-        };
+        let said =
+            unsafe { raw::planner_show_at(&mut *self.places, place, out.as_mut_ptr(), out.len()) };
         said.accepted().map(|_| bits(&out))
     }
 

@@ -324,7 +324,7 @@ fn self_test() -> Result<(), String> {
 /// Whether some run of a kind differs from this law.
 fn noticed(kind: &Kind, law: &Law) -> bool {
     let mut watch = Watch::new(law);
-    (0..3_000).any(|number| (kind.run)(&mut random_of(SEED, number), &mut watch).is_err())
+    (0..10_000).any(|number| (kind.run)(&mut random_of(SEED, number), &mut watch).is_err())
 }
 
 /// A worker that ends by a signal: the run is found and its input left.

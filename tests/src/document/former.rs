@@ -70,8 +70,16 @@ impl Hunt {
                 return;
             };
             if is_tour(&graph, &edges) {
-                self.upper = cost(&graph, &edges) - 1;
-                self.best = Some(edges);
+                self.upper = cost(&graph, &edges);
+                let before = |best: &Vec<u8>| {
+                    let kept = cost(&graph, best);
+                    // C-23: the first "lacks the highest-numbered leg in which they differ"
+                    self.upper < kept
+                        || self.upper == kept && edges.iter().rev().lt(best.iter().rev())
+                };
+                if self.best.as_ref().is_none_or(before) {
+                    self.best = Some(edges);
+                }
                 return;
             }
             let (_, rulings) = rule(&graph, &dues, self.upper).expect("a tree within U");

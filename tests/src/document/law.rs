@@ -151,10 +151,20 @@ pub struct Law {
     pub max_sweeps: u32,
     /// "a step (0 to 10,000)"
     pub max_step: u32,
-    /// "U becomes its cost − 1"
+    /// C-23: "On finding a round the ceiling becomes its cost and not one less"
     pub below_tour: i64,
     /// U is lowered at all
     pub upper_lowered: bool,
+    /// "bound above U: the node closes", not a bound equal to it
+    pub equal_bound_stays: bool,
+    /// C-23: "a later round of that cost replaces the best"
+    pub equal_replaces: bool,
+    /// C-23: "if it comes first"
+    pub only_the_first: bool,
+    /// C-23: "the one that lacks" the leg, not the one that has it
+    pub lacking_first: bool,
+    /// C-23: "the highest-numbered leg in which they differ"
+    pub highest_decides: bool,
     /// C-16: "A piled node now carries the dues that its parent had", and is not reset to the opening ones
     pub multipliers_inherited: bool,
     /// C-16: those "after its last pass": in the last pass nothing gains
@@ -300,8 +310,13 @@ impl Law {
         budget_each: true,
         max_sweeps: 15,
         max_step: 10_000,
-        below_tour: 1,
+        below_tour: 0,
         upper_lowered: true,
+        equal_bound_stays: true,
+        equal_replaces: true,
+        only_the_first: true,
+        lacking_first: true,
+        highest_decides: true,
         multipliers_inherited: true,
         last_pass_gains: false,
         multipliers_apart: true,

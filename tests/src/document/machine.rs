@@ -140,20 +140,14 @@ impl Search {
         }
         for pass in 0..=self.sweeps {
             let graph = self.graph.with_marks(&marks);
+            let top = self.top(law);
             let tree = match tree::least(law, method, &graph, &multipliers, self.denominator) {
-                Some(tree) if tree.bound <= self.top(law) => tree,
+                Some(tree) if tree.bound < top => tree,
+                Some(tree) if tree.bound == top && law.equal_bound_stays => tree,
                 _ => return,
             };
             if is_tour(&graph, &tree.edges) {
-                if law.upper_lowered {
-                    let times = if law.upper_in_minutes {
-                        1
-                    } else {
-                        self.denominator
-                    };
-                    self.upper = times as i64 * cost(&graph, &tree.edges) - law.below_tour;
-                }
-                self.incumbent = Some(tree.edges);
+                self.find(law, tree.edges);
                 return;
             }
             let q = self.denominator;
@@ -177,6 +171,26 @@ impl Search {
         self.split(law, &marks, &multipliers);
     }
 
+    /// Document 02, C-23: "On finding a round the ceiling becomes its cost and not one less, and a later round of that cost replaces the
+    /// best if it comes first."
+    fn find(&mut self, law: &Law, edges: Vec<u8>) {
+        let found = cost(&self.graph, &edges);
+        if law.upper_lowered {
+            let times = match law.upper_in_minutes {
+                true => 1,
+                false => self.denominator as i64,
+            };
+            self.upper = times * found - law.below_tour;
+        }
+        let replaces = self.incumbent.as_ref().is_none_or(|best| {
+            let kept = cost(&self.graph, best);
+            found < kept || found == kept && replaces_equal(law, &edges, best)
+        });
+        if replaces {
+            self.incumbent = Some(edges);
+        }
+    }
+
     /// "takes its lowest-numbered free leg and piles two nodes with the marks it now has: first that
     /// leg struck, then, on top, that leg required. With no free leg it closes." "Both branches see the same parent dues".
     fn split(&mut self, law: &Law, marks: &[u8], multipliers: &[i32]) {
@@ -197,6 +211,20 @@ impl Search {
             });
         }
     }
+}
+
+fn replaces_equal(law: &Law, found: &[u8], best: &[u8]) -> bool {
+    law.equal_replaces && (!law.only_the_first || comes_first(law, found, best))
+}
+
+/// Document 02, C-23: "the first: of two, the one that lacks the highest-numbered leg in which they differ".
+pub fn comes_first(law: &Law, one: &[u8], other: &[u8]) -> bool {
+    let mut differ = (0..one.len()).filter(|k| one[*k] != other[*k]);
+    let decides = match law.highest_decides {
+        true => differ.next_back(),
+        false => differ.next(),
+    };
+    decides.is_some_and(|k| (one[k] == 0) == law.lacking_first)
 }
 
 /// "the rulings under U are applied together"

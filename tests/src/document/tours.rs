@@ -43,6 +43,18 @@ pub fn is_allowed(graph: &Graph, edges: &[u8]) -> bool {
     })
 }
 
+/// Document 02, C-23: "Of allowed rounds of least cost .. the first: of two, the one that lacks the highest-numbered leg in which they
+/// differ", which read from the last leg down has the smaller bytes.
+pub fn first(graph: &Graph) -> Option<Tour> {
+    let allowed = all(graph).into_iter();
+    allowed
+        .filter(|tour| is_allowed(graph, &tour.edges))
+        .min_by_key(|tour| {
+            let down: Vec<u8> = tour.edges.iter().rev().copied().collect();
+            (tour.cost, down)
+        })
+}
+
 /// Every tour of the graph, whatever its marks; each once.
 pub fn all(graph: &Graph) -> Vec<Tour> {
     let mut number = vec![vec![None; graph.n + 1]; graph.n + 1];

@@ -35,11 +35,15 @@ fn run(random: &mut Random, watch: &mut Watch) -> Outcome {
         false => Dispatched::made_fresh(),
     };
     let first = d.clone();
-    let list: Vec<_> = (0..6 + random.below(16)).map(|_| call(random, true)).collect();
+    let list: Vec<_> = (0..6 + random.below(16))
+        .map(|_| call(random, true))
+        .collect();
     for (i, call) in list.iter().enumerate() {
         let wanted = expected(watch.law, &d, call);
         let input = || format!("the first {} of {list:?} on {first:?}", i + 1);
-        watch.compare("a dispatcher's call", input, wanted, || (d.call(call), d.clone()))?;
+        watch.compare("a dispatcher's call", input, wanted, || {
+            (d.call(call), d.clone())
+        })?;
     }
     Ok(())
 }

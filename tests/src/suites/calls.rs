@@ -20,7 +20,7 @@ pub const SUITE: Suite = Suite {
         bends::MULTIPLIERS_NOT_HELD,
         bends::REQUIRED_SWAPPED_OUT,
         bends::MARKS_FROM_BELOW,
-        bends::UPPER_AT_COST,
+        bends::UPPER_BELOW_COST,
         bends::UPPER_NOT_LOWERED,
         bends::MORE_SWEEPS,
         bends::LARGER_STEP,

@@ -20,7 +20,7 @@ pub const SUITE: Suite = Suite {
         bends::MORE_PAIRS,
         bends::ONE_BUDGET,
         bends::MORE_SWEEPS,
-        bends::UPPER_AT_COST,
+        bends::UPPER_BELOW_COST,
         bends::LENGTH_BEFORE_VALUE,
         bends::HIGHER_MULTIPLIER,
         bends::CEILING_NOT_SCALED,

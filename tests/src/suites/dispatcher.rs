@@ -33,7 +33,7 @@ pub const SUITE: Suite = Suite {
         bends::SEVEN_PLACES_CHECKED,
         bends::LAST_OF_NINE,
         bends::LENGTH_BEFORE_RECORD,
-        bends::UPPER_AT_COST,
+        bends::UPPER_BELOW_COST,
     ],
 };
 

@@ -22,7 +22,7 @@ pub const SUITE: Suite = Suite {
         bends::HIGHER_NUMBERED_FIRST,
         bends::MULTIPLIERS_OFF_ONCE,
         bends::REQUIRED_LEFT_OUT,
-        bends::UPPER_AT_COST,
+        bends::UPPER_BELOW_COST,
     ],
 };
 

@@ -19,7 +19,7 @@ pub const SUITE: Suite = Suite {
     name: "layout",
     run,
     bends: &[
-        bends::UPPER_AT_COST,
+        bends::UPPER_BELOW_COST,
         bends::EXCLUDED_ON_TOP,
         bends::MULTIPLIERS_RESET,
         bends::LAST_PASS_GAINS,

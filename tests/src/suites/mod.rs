@@ -24,6 +24,8 @@ pub mod dispatcher;
 #[cfg(feature = "library")]
 pub mod falling_ceilings;
 #[cfg(feature = "library")]
+pub mod firsts;
+#[cfg(feature = "library")]
 pub mod inherited;
 #[cfg(feature = "library")]
 pub mod layout;
@@ -98,6 +100,8 @@ pub fn all() -> Vec<Suite> {
         inherited::SUITE,
         #[cfg(feature = "library")]
         shelves::SUITE,
+        #[cfg(feature = "library")]
+        firsts::SUITE,
         #[cfg(feature = "library")]
         damage::SUITE,
         #[cfg(feature = "library")]

@@ -35,15 +35,15 @@ pub const SUITE: Suite = Suite {
         bends::CEILING_NOT_WITHIN,
         bends::HIGHER_MULTIPLIER,
         bends::ENTRIES_FROM_ZERO,
-        bends::UPPER_AT_COST,
+        bends::UPPER_BELOW_COST,
         bends::MORE_SWEEPS,
         bends::BOUND_DIVIDED,
         bends::COSTS_IN_PARTS,
         bends::HIGHER_DENOMINATOR,
         bends::DENOMINATOR_BEFORE_STEP,
         bends::LEG_BEFORE_DENOMINATOR,
-        bends::BACK_OF_NEXT_NAME,
         bends::HIGHEST_FREE,
+        bends::BACK_OF_NEXT_NAME,
     ],
 };
 

@@ -12,10 +12,10 @@ cost-fits = omega arith
 pub ceiling-fits : maxCeiling < 9223372036854775808
 ceiling-fits = omega arith
 
--- and so is the sum of any edges' costs, less 1 too
+-- and so is the sum of any edges' costs, with one to spare
 pub total-fits : maxCost * maxEdges + 1 < 9223372036854775808
 total-fits = omega arith
 
--- "U becomes its cost − 1": that of a tour is in a ceiling's range
+-- document 02, C-23: "On finding a round the ceiling becomes its cost": that of a tour is in a ceiling's range, with one to spare
 pub tour-in-range : maxCost * maxVertices + 1 ≤ maxCeiling
 tour-in-range = omega arith

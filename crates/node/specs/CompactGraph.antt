@@ -7,10 +7,10 @@ use mathlib.Core.List.{List}
 use Prim.Native.Nat.{ℕ, zero, suc, _≤_, _<_}
 use native.Mathlib.Omega.{arith}
 use native.Mathlib.Decide.{decLe}
-use lib.ListN.{length, getD, List·getD-eq-default}
+use lib.ListN.{length, getD, replicate, List·getD-eq-default}
 use lib.IntN.{ℤ, pos}
 use borrow.Author.Tests.{eqb-true}
-use Rattle.lists.specs.Fill.{fill-size, fill-at}
+use Rattle.lists.specs.Fill.{fill-size, fill-at, replicate-at}
 use Rattle.lists.specs.Filling.{Filling}
 use Rattle.integers.specs.Range.{within}
 use Rattle.graph.specs.declared.Graph.{Graph}
@@ -28,7 +28,7 @@ use Rattle.compaction.specs.Passes.{passes-thin}
 use Rattle.node.specs.Marks.{marksIn, marks-size, marks-at, Padded}
 use Rattle.node.specs.Opened.{kept, leftOf, left}
 use Rattle.node.specs.Compacting.{Listed, listedAt, gathered-is, old, old-rank, old-nth, listed-old}
-use Rattle.node.specs.Expanding.{Places, Expanded, expandedAt}
+use Rattle.node.specs.Expanding.{Places, Placed, expandedAt}
 
 -- ---- what a kept edge has
 
@@ -180,19 +180,19 @@ module _ (marks : List ℕ) (m : ℕ) (few : m ≤ maxEdges) (q : List ℕ) (h :
         omega (arith, listed-old u m i k q h, listed-old u m j l q h, old-up u m i k j l b);
   }
 
-  pub left-expanded : (row : List ℕ) (other : ℕ) (w : List ℕ) → Expanded (rank u m) q row m other w
-      → Filling 0 maxEdges m (expandedAt marks row other) w
-  left-expanded row other w x = record {
+  pub left-expanded : (row w : List ℕ) → Placed (rank u m) q row (replicate maxEdges 0) w → Filling 0 maxEdges m (expandedAt marks row 0) w
+  left-expanded row w x = record {
     size = x .size;
     new = λ i l. at i l (u (suc i)) refl;
-    past = λ i l. x .past i l (λ j b p. omega (arith, listed-old u m j b q h, old u m j b .low));
+    past = λ i l. x .miss i (λ j b p. omega (arith, listed-old u m j b q h, old u m j b .low)) ∙ replicate-at maxEdges 0 i;
   }
     where
-      at : (i : ℕ) → i < m → (b : Bool) → u (suc i) ≡ b → getD w i 0 ≡ cond b (getD row (rank u i) 0) other
+      at : (i : ℕ) → i < m → (b : Bool) → u (suc i) ≡ b → getD w i 0 ≡ cond b (getD row (rank u i) 0) 0
       at i l true p = ap (λ (k : ℕ). getD w k 0) (sym (h .new i l p)) ∙ x .hit (rank u i) (rank-less u i m l p)
       at i l false p =
-          x .rest i l (λ j b o.
+          x .miss i (λ j b o.
           true≢false (sym (old u m j b .kept) ∙ ap (λ (k : ℕ). u (suc k)) (sym (listed-old u m j b q h) ∙ o) ∙ p))
+          ∙ replicate-at maxEdges 0 i
 
 -- ---- the code's arrays
 

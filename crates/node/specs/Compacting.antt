@@ -1,16 +1,15 @@
 -- The loops that compact a graph to the edges that a node's marks do not exclude: one lists the places of those edges, the other copies
 -- what stands there. Assumes nothing.
-use mathlib.Core.Path.{_≡_, refl, sym, ap, _∙_, subst}
-use mathlib.Core.Bool.{Bool, true, false, not}
+use mathlib.Core.Path.{_≡_, sym, ap, _∙_, subst}
+use mathlib.Core.Bool.{true}
 use mathlib.Core.List.{List}
 use Prim.Native.Nat.{ℕ, suc, _+_, _≤_, _<_}
 use native.Mathlib.Omega.{arith}
 use native.Mathlib.Decide.{ℕ-discrete}
 use native.Mathlib.Numerals.{add-one}
-use lib.Dec.{eqb}
 use lib.ListN.{length, getD, set, length-set}
 use lib.Seq.{getD-set-same, getD-set-other}
-use Rattle.lists.specs.Bools.{by-cases, bit}
+use Rattle.lists.specs.Bools.{by-cases}
 use Rattle.lists.specs.Filling.{Filling, filling-is}
 use Rattle.graph.specs.Limits.{maxEdges}
 use Rattle.graph.specs.Network.{place}
@@ -18,22 +17,6 @@ use Rattle.graph.specs.Places.{place-at, place-zero}
 use Rattle.tree_theory.specs.OneTree.{Edges}
 use Rattle.compaction.specs.Ranks.{rank, nth, Kept, rank-yes, rank-no, rank-most, rank-less, rank-nth, nth-rank, nth-past}
 use Rattle.node.specs.Opened.{kept, leftOf}
-
--- one more for an edge that is kept, by its mark
-abbrev pub counted : ℕ → ℕ
-counted mark = bit (not (eqb mark 2))
-
--- the new place of the next edge, as the code counts it
-pub rank-none : (marks : List ℕ) → 0 ≡ rank (kept marks) 0
-unfolding rank
-rank-none marks = refl
-
-pub rank-next : (marks : List ℕ) (k f : ℕ) → f ≡ rank (kept marks) k → f + counted (getD marks k 0) ≡ rank (kept marks) (k + 1)
-rank-next marks k f e = rw add-one (go (kept marks (suc k)) refl)
-  where
-    go : (b : Bool) → kept marks (suc k) ≡ b → f + bit b ≡ rank (kept marks) (suc k)
-    go true q = omega (arith, rank-yes (kept marks) k q)
-    go false q = omega (arith, rank-no (kept marks) k q)
 
 -- ---- the places of the kept edges
 
@@ -49,7 +32,7 @@ module _ (c : Edges) where
   unfolding rank
   listed-none q e = record { size = e; new = λ i h. absurd (omega arith); low = λ j h. absurd (omega arith) }
 
-  -- whether or not the edge at k is kept, its place is written where the next kept one's is to stand
+  -- the place of an edge is written where the next kept one's is to stand
   pub listed-more : (k f : ℕ) (q : List ℕ) → f ≡ rank c k → k < maxEdges → Listed c k q → Listed c (k + 1) (set q f k)
   listed-more k f q e b h = record {
     size = length-set q f k ∙ h .size;

@@ -1,5 +1,4 @@
--- The loops that expand bytes for the kept edges to bytes for all edges, and what an opened node's bytes come to by that: those of the
--- node that it stands for.
+-- The loop that expands bytes for the kept edges to bytes for all edges, and what a tour's bytes, and a node's marks, come to by that.
 use mathlib.Core.Path.{_≡_, refl, sym, ap, _∙_, subst}
 use mathlib.Core.Logic.{_≢_}
 use mathlib.Core.Bool.{Bool, true, false, cond}
@@ -7,22 +6,18 @@ use mathlib.Core.List.{List}
 use Prim.Native.Nat.{ℕ, suc, _+_, _≤_, _<_}
 use native.Mathlib.Omega.{arith}
 use native.Mathlib.Decide.{ℕ-discrete}
-use lib.ListN.{length, getD, set, length-set, replicate, List·getD-eq-default}
+use lib.ListN.{length, getD, set, length-set, List·getD-eq-default}
 use lib.Seq.{getD-set-same, getD-set-other}
 use Rattle.lists.specs.Bools.{bit}
 use Rattle.lists.specs.Fill.{fill-at}
 use Rattle.lists.specs.Filling.{Filling, filling-is}
 use Rattle.graph.specs.Limits.{maxEdges}
 use Rattle.graph.specs.Network.{free, excluded}
-use Rattle.machine.specs.Outcomes.{closes, finds, splits}
-use Rattle.machine.specs.Machine as M
 use Rattle.machine.specs.Machine.{Marks}
 use Rattle.compaction.specs.Ranks.{rank, rank-most}
-use Rattle.compaction.specs.Spread.{spreadMarks, spreadTour, spreadOpened, spread-size, spread-kept, spread-rest}
-use Rattle.node.specs.declared.Fate.{Fate}
-use Rattle.node.specs.declared.Fate.the-variants as fate
+use Rattle.compaction.specs.Spread.{spreadMarks, spreadTour, spread-size, spread-kept, spread-rest}
 use Rattle.node.specs.Marks.{byteOf, bytesOfTour, bytesOf, bytes-at}
-use Rattle.node.specs.Opened.{Opened, opened, openedAs, kept}
+use Rattle.node.specs.Opened.{kept}
 
 -- ---- bytes put at places
 
@@ -41,13 +36,6 @@ pub record Placed (f : ℕ) (q row base r : List ℕ) : Type 0 where
   pub size : length r ≡ maxEdges
   pub hit : (j : ℕ) → j < f → getD r (getD q j 0) 0 ≡ getD row j 0
   pub miss : (i : ℕ) → Unmet f q i → getD r i 0 ≡ getD base i 0
-
--- the same, where `other` stood at each of m places and zero at the others
-pub record Expanded (f : ℕ) (q row : List ℕ) (m other : ℕ) (r : List ℕ) : Type 0 where
-  pub size : length r ≡ maxEdges
-  pub hit : (j : ℕ) → j < f → getD r (getD q j 0) 0 ≡ getD row j 0
-  pub rest : (i : ℕ) → i < m → Unmet f q i → getD r i 0 ≡ other
-  pub past : (i : ℕ) → m ≤ i → Unmet f q i → getD r i 0 ≡ 0
 
 module _ (q row base : List ℕ) where
   pub placed-none : length base ≡ maxEdges → Placed 0 q row base base
@@ -72,15 +60,6 @@ module _ (q row base : List ℕ) where
 pub placed-to : (q row base : List ℕ) (j f : ℕ) (r : List ℕ) → j ≡ f → Placed j q row base r → Placed f q row base r
 placed-to q row base j f r e h = subst (λ (i : ℕ). Placed i q row base r) e h
 
-pub placed-expanded : (f : ℕ) (q row : List ℕ) (m other : ℕ) (base r : List ℕ) → Filling 0 maxEdges m (λ k. other) base
-    → Placed f q row base r → Expanded f q row m other r
-placed-expanded f q row m other base r b h = record {
-  size = h .size;
-  hit = h .hit;
-  rest = λ i l u. h .miss i u ∙ b .new i l;
-  past = λ i l u. h .miss i u ∙ b .past i l;
-}
-
 -- ---- the bytes of all edges
 
 -- the byte at the place of each edge
@@ -89,22 +68,18 @@ expandedAt marks row other k = cond (kept marks (suc k)) (getD row (rank (kept m
 
 module _ (marks : List ℕ) (m : ℕ) (few : m ≤ maxEdges) where
   -- of a node's marks
-  expanded-marks : (y : Marks) (w : List ℕ) → Filling 0 maxEdges m (expandedAt marks (bytesOf y) 2) w → w ≡ bytesOf (spreadMarks (kept marks) m y)
-  unfolding bytesOf
-  expanded-marks y w h =
-      filling-is 0 maxEdges (expandedAt marks (bytesOf y) 2) m w (λ j. byteOf (getD (spreadMarks (kept marks) m y) j free)) h
-      (λ i l. at i l (kept marks (suc i)) refl)
-      (λ i l. ap byteOf (List·getD-eq-default (spreadMarks (kept marks) m y) free (omega (arith, spread-size (kept marks) m excluded free y))))
+  pub expanded-mark : (y : Marks) (i : ℕ) → i < m → expandedAt marks (bytesOf y) 2 i ≡ byteOf (getD (spreadMarks (kept marks) m y) i free)
+  expanded-mark y i l = at (kept marks (suc i)) refl
     where
-      at : (i : ℕ) → i < m → (b : Bool) → kept marks (suc i) ≡ b
+      at : (b : Bool) → kept marks (suc i) ≡ b
           → cond b (getD (bytesOf y) (rank (kept marks) i) 0) 2 ≡ byteOf (getD (spreadMarks (kept marks) m y) i free)
-      at i l true e =
+      at true e =
           bytes-at y (rank (kept marks) i) (omega (arith, rank-most (kept marks) i))
           ∙ ap byteOf (sym (spread-kept (kept marks) m excluded free y i l e))
-      at i l false e = ap byteOf (sym (spread-rest (kept marks) m excluded free y i l e))
+      at false e = ap byteOf (sym (spread-rest (kept marks) m excluded free y i l e))
 
   -- of a tour
-  expanded-tour : (r : List Bool) (w : List ℕ) → Filling 0 maxEdges m (expandedAt marks (bytesOfTour r) 0) w
+  pub expanded-tour : (r : List Bool) (w : List ℕ) → Filling 0 maxEdges m (expandedAt marks (bytesOfTour r) 0) w
       → w ≡ bytesOfTour (spreadTour (kept marks) m r)
   unfolding bytesOfTour
   expanded-tour r w h =
@@ -118,43 +93,3 @@ module _ (marks : List ℕ) (m : ℕ) (few : m ≤ maxEdges) where
           fill-at maxEdges (λ j. bit (getD r j false)) (rank (kept marks) i) 0 (omega (arith, rank-most (kept marks) i))
           ∙ ap bit (sym (spread-kept (kept marks) m false false r i l e))
       at i l false e = ap bit (sym (spread-rest (kept marks) m false false r i l e))
-
-  -- ---- by the fate of the node
-
-  pub closes-same : (out : M.Opened) (o : Opened) → o ≡ openedAs out → o .fate ≡ fate.Closes
-      → opened (o .fate) (replicate maxEdges 0) (replicate maxEdges 0) (o .last) ≡ openedAs (spreadOpened (kept marks) m out)
-  unfolding openedAs
-  closes-same closes o e f = λ i. record {
-    fate = f i;
-    row = replicate maxEdges 0;
-    top = replicate maxEdges 0;
-    last = ap (λ (p : Opened). p .last) e i;
-  }
-  closes-same (finds r) o e f = let z : fate.Finds ≡ fate.Closes = sym (ap (λ (p : Opened). p .fate) e) ∙ f in cc
-  closes-same (splits x y) o e f = let z : fate.Splits ≡ fate.Closes = sym (ap (λ (p : Opened). p .fate) e) ∙ f in cc
-
-  pub finds-same : (out : M.Opened) (o : Opened) → o ≡ openedAs out → o .fate ≡ fate.Finds
-      → (w : List ℕ) → Filling 0 maxEdges m (expandedAt marks (o .row) 0) w
-      → opened (o .fate) w (replicate maxEdges 0) (o .last) ≡ openedAs (spreadOpened (kept marks) m out)
-  unfolding openedAs
-  finds-same closes o e f w h = let z : fate.Closes ≡ fate.Finds = sym (ap (λ (p : Opened). p .fate) e) ∙ f in cc
-  finds-same (finds r) o e f w h = λ i. record {
-    fate = f i;
-    row = expanded-tour r w (subst (λ (p : Opened). Filling 0 maxEdges m (expandedAt marks (p .row) 0) w) e h) i;
-    top = replicate maxEdges 0;
-    last = ap (λ (p : Opened). p .last) e i;
-  }
-  finds-same (splits x y) o e f w h = let z : fate.Splits ≡ fate.Finds = sym (ap (λ (p : Opened). p .fate) e) ∙ f in cc
-
-  pub splits-same : (out : M.Opened) (o : Opened) → o ≡ openedAs out → o .fate ≡ fate.Splits
-      → (w u : List ℕ) → Filling 0 maxEdges m (expandedAt marks (o .row) 2) w → Filling 0 maxEdges m (expandedAt marks (o .top) 2) u
-      → opened (o .fate) w u (o .last) ≡ openedAs (spreadOpened (kept marks) m out)
-  unfolding openedAs
-  splits-same closes o e f w u h k = let z : fate.Closes ≡ fate.Splits = sym (ap (λ (p : Opened). p .fate) e) ∙ f in cc
-  splits-same (finds r) o e f w u h k = let z : fate.Finds ≡ fate.Splits = sym (ap (λ (p : Opened). p .fate) e) ∙ f in cc
-  splits-same (splits x y) o e f w u h k = λ i. record {
-    fate = f i;
-    row = expanded-marks (x .marks) w (subst (λ (p : Opened). Filling 0 maxEdges m (expandedAt marks (p .row) 2) w) e h) i;
-    top = expanded-marks (y .marks) u (subst (λ (p : Opened). Filling 0 maxEdges m (expandedAt marks (p .top) 2) u) e k) i;
-    last = ap (λ (p : Opened). p .last) e i;
-  }

@@ -13,8 +13,10 @@ pub mod Passing
 pub mod OnePass
 -- the passes, turn by turn
 pub mod Passes
--- on the edges that are left, and back to all
+-- on the edges that are left, listed from the words, and back to all
 pub mod Compacting
+pub mod Walking
+pub mod Words
 pub mod Expanding
 pub mod CompactGraph
 -- the node: what is promised, and that it is the machine's

@@ -1,6 +1,6 @@
--- What the opening of a node comes to, for every input: its fate, and the two lists of bytes and the multipliers that go with it. Definitions
+-- What the opening of a node comes to, for every input: its fate, and the rows, the tour and the multipliers that go with it. Definitions
 -- only.
---   Opened, openedAs   what the machine's opening of a node comes to, in bytes
+--   Opened, openedAs   what the machine's opening of a node comes to, in words and bytes
 --   places             a list of multipliers in an array's places
 --   kept, left         the edges that a graph's marks do not exclude, and the graph of those alone
 --   taken              what a node is opened with, as the arguments of an opening
@@ -21,21 +21,24 @@ use Rattle.machine.specs.Outcomes.{closes, finds, splits}
 use Rattle.machine.specs.Machine as M
 use Rattle.machine.specs.Machine.{nodeOf, Opening, openNode}
 use Rattle.machine.specs.Calls.{fault}
+use Rattle.mark_rows.specs.MarkRows.{nodeWords, rowsOf}
 use Rattle.compaction.specs.Ranks.{rank, nth}
 use Rattle.node.specs.declared.Fate.{Fate}
 use Rattle.node.specs.declared.Fate.the-variants as fate
 use Rattle.node.specs.declared.Subproblem.{Subproblem}
-use Rattle.node.specs.Marks.{marksIn, bytesOf, bytesOfTour}
+use Rattle.node.specs.Marks.{marksIn, bytesOfTour}
 
--- a node's fate, and the two lists of bytes and the multipliers that go with it
+-- a node's fate, and what goes with it: the words of the lower and of the upper node of a split, a found tour, and the multipliers of both
+-- nodes
 pub record Opened : Type 0 where
   pub fate : Fate
-  pub row : List ℕ
+  pub rows : List ℕ
   pub top : List ℕ
+  pub tour : List ℕ
   pub last : List ℤ
 
-abbrev pub opened : Fate → List ℕ → List ℕ → List ℤ → Opened
-opened a w u e = record { fate = a; row = w; top = u; last = e }
+abbrev pub opened : Fate → List ℕ → List ℕ → List ℕ → List ℤ → Opened
+opened a w u t e = record { fate = a; rows = w; top = u; tour = t; last = e }
 
 -- multipliers in an array's places, zero past them
 abbrev pub places : List ℤ → List ℤ
@@ -44,17 +47,18 @@ places d = fit maxVertices (pos 0) d
 abbrev pub noMultipliers : List ℤ
 noMultipliers = replicate maxVertices (pos 0)
 
--- a tour is found, and w has its bytes
-abbrev pub foundAs : List ℕ → Opened
-foundAs w = opened fate.Finds w (replicate maxEdges 0) noMultipliers
+-- no edge required and none excluded
+abbrev pub noRows : List ℕ
+noRows = replicate nodeWords 0
 
--- what the machine's opening of a node comes to, in bytes. Both halves have the multipliers of one list (document 02, C-16: "Both branches
--- see the same parent dues"; `siblings` in machine's Inherited)
+-- what the machine's opening of a node comes to, in words and bytes. Both halves have the multipliers of one list (document 02, C-16: "Both
+-- branches see the same parent dues"; `siblings` in machine's Inherited)
 unfoldable pub openedAs : M.Opened → Opened
-unfolding bytesOfTour bytesOf fit
-openedAs closes = opened fate.Closes (replicate maxEdges 0) (replicate maxEdges 0) noMultipliers
-openedAs (finds r) = foundAs (bytesOfTour r)
-openedAs (splits out into) = opened fate.Splits (bytesOf (out .marks)) (bytesOf (into .marks)) (places (into .multipliers))
+unfolding bytesOfTour rowsOf fit
+openedAs closes = opened fate.Closes noRows noRows (replicate maxEdges 0) noMultipliers
+openedAs (finds r) = opened fate.Finds noRows noRows (bytesOfTour r) noMultipliers
+openedAs (splits out into) =
+    opened fate.Splits (rowsOf (out .marks)) (rowsOf (into .marks)) (replicate maxEdges 0) (places (into .multipliers))
 
 -- ---- the edges that are left
 
@@ -99,18 +103,18 @@ unfoldable pub nodeFault : Opening → ℕ
 unfolding fault
 nodeFault o = cond (leb (o .graph .m) maxEdges) (fault (leftIn o)) 15
 
--- a fault is refused, and leaves the lists as they were
-abbrev pub unlessRefused : ℕ → List ℕ → List ℕ → List ℤ → Opened → Opened
-unlessRefused zero row top last out = out
-unlessRefused (suc k) row top last out = opened (fate.Refused (suc k)) row top last
+-- a fault is refused, and leaves everything as it was
+abbrev pub unlessRefused : ℕ → List ℕ → List ℕ → List ℕ → List ℤ → Opened → Opened
+unlessRefused zero rows top tour last out = out
+unlessRefused (suc k) rows top tour last out = opened (fate.Refused (suc k)) rows top tour last
 
 -- by the number of a fault
-unfoldable pub opensBy : ℕ → Opening → List ℕ → List ℤ → Opened
+unfoldable pub opensBy : ℕ → Opening → List ℕ → List ℕ → List ℕ → List ℤ → Opened
 unfolding openedAs openNode marksIn
-opensBy number o top last =
-    unlessRefused number (o .graph .mark) top last
+opensBy number o rows top tour last =
+    unlessRefused number rows top tour last
     (openedAs (openNode o (o .settings .ceiling) (nodeOf (o .multipliers) (marksIn (o .graph .m) (o .graph .mark)))))
 
-unfoldable pub opens : Opening → List ℕ → List ℤ → Opened
+unfoldable pub opens : Opening → List ℕ → List ℕ → List ℕ → List ℤ → Opened
 unfolding opensBy nodeFault
-opens o top last = opensBy (nodeFault o) o top last
+opens o rows top tour last = opensBy (nodeFault o) o rows top tour last

@@ -1,13 +1,14 @@
 -- The passes of a node, turn by turn, over the bytes of the node's marks and the multipliers so far (`AtPass`): each of the ends of a
 -- turn of a node that is not refused, as the code comes to them. Rests on the passes' definition alone.
 use mathlib.Core.Path.{_≡_, refl, sym, ap, _∙_}
-use mathlib.Core.Bool.{true}
+use mathlib.Core.Bool.{Bool, true}
 use mathlib.Core.List.{List, _∷_}
 use Prim.Native.Nat.{ℕ, zero, suc, _≤_, _<_}
 use native.Mathlib.Omega.{arith}
 use native.Mathlib.Decide.{decLe}
 use lib.ListN.{length, getD, List·getD-eq-default}
 use lib.IntN.{ℤ, pos}
+use Rattle.lists.specs.Rows.{row}
 use Rattle.lists.specs.Fill.{fit, fit-size}
 use Rattle.graph.specs.declared.Graph.{Graph}
 use Rattle.graph.specs.Limits.{maxEdges}
@@ -17,16 +18,16 @@ use Rattle.graph.specs.Valid.{Valid}
 use Rattle.tree_theory.specs.OneTree.{Edges}
 use Rattle.tree_theory.specs.Scaled.{scaledBy}
 use Rattle.tree_theory.specs.Inputs.{multiplier, multipliersFit}
-use Rattle.machine.specs.Outcomes.{closes}
+use Rattle.machine.specs.Outcomes.{closes, finds}
 use Rattle.tours.specs.Tours as T
 use Rattle.machine.specs.Machine as M
 use Rattle.machine.specs.Machine.{Marks, withMarks, Pass, shut, found, unclosed, pass, gained, branch, concluded, passes}
 use Rattle.machine.specs.Kept.{FitFor}
 use Rattle.machine.specs.Gained.{gained-fits}
-use Rattle.node.specs.Marks.{marksIn, mark-byte, bytesOf, bytes-at, bytes-small, bytes-back, marks-size}
+use Rattle.node.specs.Marks.{marksIn, mark-byte, bytesOf, bytesOfTour, bytes-at, bytes-small, marks-size}
 use Rattle.node.specs.Gains.{GainsTo, gains-is}
 use Rattle.node.specs.OnePass.{FoundAs, RuledAs, treeBytes}
-use Rattle.node.specs.Opened.{openedAs, foundAs}
+use Rattle.node.specs.Opened.{places}
 
 -- ---- the graph with other marks
 
@@ -71,6 +72,23 @@ valid-bytes g x v = record {
   };
   once = λ j k b h p. v .once j k b h (record { a = p .a; b = p .b });
 }
+
+-- ---- what passes come to
+
+-- a tour is found, and w has its bytes
+pub record FoundIn (out : M.Opened) (w : List ℕ) : Type 0 where
+  pub tour : List Bool
+  pub is : out ≡ finds tour
+  pub bytes : w ≡ bytesOfTour tour
+
+-- the node is unclosed after the last pass: w has the bytes of its marks, and `last` the multipliers of that pass
+pub record Pending (m : ℕ) (out : M.Opened) (w : List ℕ) (last : List ℤ) : Type 0 where
+  pub marks : Marks
+  pub dues : List ℤ
+  pub long : length marks ≡ m
+  pub comes : out ≡ branch dues marks
+  pub bytes : w ≡ bytesOf marks
+  pub told : last ≡ places dues
 
 -- ---- a turn of the machine's passes
 
@@ -133,11 +151,6 @@ module _ (den : ℕ) (g : Graph) (valid : Valid g) (step : ℕ) (upper : ℤ) (o
   pub at-valid : Valid h
   at-valid = rw (s .bytes) (valid-bytes g (s .marks) valid)
 
-  pub at-marks : x ≡ bytesOf (marksIn (g .m) x)
-  at-marks =
-      s .bytes
-      ∙ ap bytesOf (sym (ap (marksIn (g .m)) (s .bytes) ∙ bytes-back (g .m) (s .marks) (valid .few) (s .long)))
-
   -- the machine's pass is the one that the code makes
   pass-is : (p : Pass) → pass (scaledBy den (network h)) (multiplier (fit (g .n) (pos 0) d)) upper ≡ p
       → out ≡ concluded (g .m) p (later (scaledBy den (network g)) step upper left (fit (g .n) (pos 0) d))
@@ -153,31 +166,27 @@ module _ (den : ℕ) (g : Graph) (valid : Valid g) (step : ℕ) (upper : ℤ) (o
           (sym (network-marks g (s .marks) (valid .few) (s .long)) ∙ ap (λ (y : List ℕ). network (withBytes g y)) (sym (s .bytes)))
           ∙ e
 
-  pub turn-shut : pass (scaledBy den (network h)) (multiplier (fit (g .n) (pos 0) d)) upper ≡ shut → openedAs closes ≡ openedAs out
-  turn-shut e = ap openedAs (sym (pass-is shut e))
+  pub turn-shut : pass (scaledBy den (network h)) (multiplier (fit (g .n) (pos 0) d)) upper ≡ shut → out ≡ closes
+  turn-shut e = pass-is shut e
 
-  pub turn-found : (w : List ℕ) → FoundAs den h (fit (g .n) (pos 0) d) upper w
-      → foundAs w ≡ openedAs out
-  unfolding openedAs treeBytes
-  turn-found w f =
-      ap foundAs (f .bytes)
-      ∙ ap openedAs (sym (pass-is (found (f .tour)) (f .is)))
+  pub turn-found : (w : List ℕ) → FoundAs den h (fit (g .n) (pos 0) d) upper w → FoundIn out w
+  unfolding treeBytes
+  turn-found w f = record { tour = row (g .m) (f .tour); is = pass-is (found (f .tour)) (f .is); bytes = f .bytes }
 
   module _ (w degrees : List ℕ) (r : RuledAs den h (fit (g .n) (pos 0) d) upper w degrees) where
     goes-on : out ≡ later (scaledBy den (network g)) step upper left (fit (g .n) (pos 0) d) (r .tree) (r .marks)
     goes-on = pass-is (unclosed (r .tree) (r .marks)) (r .is)
 
-    -- the marks that the code now has
-    marks-now : marksIn (g .m) w ≡ r .marks
-    marks-now = ap (marksIn (g .m)) (r .bytes) ∙ bytes-back (g .m) (r .marks) (valid .few) (r .long)
-
-    pub turn-marks : w ≡ bytesOf (marksIn (g .m) w)
-    turn-marks = r .bytes ∙ ap bytesOf (sym marks-now)
-
-    pub turn-last : left ≡ 0 → openedAs (branch (fit (g .n) (pos 0) d) (marksIn (g .m) w)) ≡ openedAs out
-    turn-last z =
-        ap (λ (y : Marks). openedAs (branch (fit (g .n) (pos 0) d) y)) marks-now
-        ∙ ap openedAs (sym (goes-on ∙ ap (λ (i : ℕ). later (scaledBy den (network g)) step upper i (fit (g .n) (pos 0) d) (r .tree) (r .marks)) z))
+    -- after the last pass
+    pub turn-last : left ≡ 0 → (last : List ℤ) → last ≡ places (fit (g .n) (pos 0) d) → Pending (g .m) out w last
+    turn-last z last e = record {
+      marks = r .marks;
+      dues = fit (g .n) (pos 0) d;
+      long = r .long;
+      comes = goes-on ∙ ap (λ (i : ℕ). later (scaledBy den (network g)) step upper i (fit (g .n) (pos 0) d) (r .tree) (r .marks)) z;
+      bytes = r .bytes;
+      told = e;
+    }
 
     module _ (next : List ℤ) (gains : GainsTo (g .n) step degrees d next) (less : ℕ) (e : left ≡ suc less) where
       degree-now : (v : ℕ) → 1 ≤ v → v ≤ g .n → getD degrees v 0 ≡ T.degree (scaledBy den (network g)) (r .tree) v

@@ -18,11 +18,13 @@ use Rattle.machine.specs.Calls.{fault}
 use Rattle.node.specs.declared.Fate.{Fate}
 use Rattle.node.specs.declared.Fate.the-variants as fate
 use Rattle.node.specs.declared.Subproblem.{Subproblem}
+use Rattle.node.specs.declared.passes.Ending.{Ending}
+use Rattle.node.specs.declared.passes.Ending.the-variants as ending
 use Rattle.node.specs.Marks.{marksIn, Padded, bytes-padded, marks-back}
 use Rattle.node.specs.Opened.{opened, openedAs, taken, opensBy}
 use Rattle.node.specs.Faults.{fault-fit, fit-fault}
 use Rattle.node.specs.OnePass.{topOf}
-use Rattle.node.specs.Passes.{AtPass, withBytes, at-first, at-valid}
+use Rattle.node.specs.Passes.{FoundIn, Pending, AtPass, withBytes, at-first, at-valid}
 
 -- what the node comes to, where it has no fault
 abbrev pub outcome : Opening → M.Opened
@@ -43,16 +45,26 @@ never-refused closes k e = true≢false (sym (ap isRefused e))
 never-refused (finds r) k e = true≢false (sym (ap isRefused e))
 never-refused (splits x y) k e = true≢false (sym (ap isRefused e))
 
-pub opens-refused : (k : ℕ) (o : Opening) (top : List ℕ) (last : List ℤ) → k ≢ 0
-    → opened (fate.Refused k) (o .graph .mark) top last ≡ opensBy k o top last
-unfolding opensBy
-opens-refused zero o top last n = absurd (n refl)
-opens-refused (suc k) o top last n = refl
+module _ (o : Opening) (rows top tour : List ℕ) (last : List ℤ) where
+  pub opens-refused : (k : ℕ) → k ≢ 0 → opened (fate.Refused k) rows top tour last ≡ opensBy k o rows top tour last
+  unfolding opensBy
+  opens-refused zero n = absurd (n refl)
+  opens-refused (suc k) n = refl
 
-pub opens-accepted : (k : ℕ) (o : Opening) (top : List ℕ) (last : List ℤ) → k ≡ 0 → openedAs (outcome o) ≡ opensBy k o top last
-unfolding opensBy openNode
-opens-accepted zero o top last e = refl
-opens-accepted (suc k) o top last e = absurd (omega arith)
+  pub opens-accepted : (k : ℕ) → k ≡ 0 → openedAs (outcome o) ≡ opensBy k o rows top tour last
+  unfolding opensBy openNode
+  opens-accepted zero e = refl
+  opens-accepted (suc k) e = absurd (omega arith)
+
+-- what the passes of a node show by their ending: it is refused with its fault, or has none and comes to what the machine's does
+abbrev pub EndsAs : Opening → Ending → List ℕ → List ℤ → List ℤ → Type 0
+EndsAs o (ending.Refused k) w was last = (fault o ≡ k) × (k ≢ 0) × (last ≡ was)
+EndsAs o ending.Shut w was last = (fault o ≡ 0) × (outcome o ≡ closes)
+EndsAs o ending.Found w was last = (fault o ≡ 0) × FoundIn (outcome o) w
+EndsAs o ending.Unclosed w was last = (fault o ≡ 0) × Pending (o .graph .m) (outcome o) w last
+
+pub ends-as : (o : Opening) (w : List ℕ) (was last : List ℤ) (a b : Ending) → a ≡ b → EndsAs o a w was last → EndsAs o b w was last
+ends-as o w was last a b e h = subst (λ (x : Ending). EndsAs o x w was last) e h
 
 -- ---- a turn of the loop
 
@@ -94,13 +106,9 @@ module _ (p : Subproblem) (g : Graph) (padded : Padded (g .m) (g .mark)) (left :
         denominator = f .denominator;
       })
 
-  pub turn-refused : (k : ℕ) (w top : List ℕ) (last : List ℤ) → fault (takenAt p g x d) ≡ k → k ≢ 0 → w ≡ x
-      → opened (fate.Refused k) w top last ≡ opensBy (fault (taken p g)) (taken p g) top last
-  turn-refused k w top last e n same = ⊎-elim
-      (λ r.
-      ap (λ (y : List ℕ). opened (fate.Refused k) y top last) (same ∙ r .1)
-      ∙ opens-refused k (taken p g) top last n
-      ∙ ap (λ (i : ℕ). opensBy i (taken p g) top last) (sym e ∙ ap fault (first-taken (r .1) (r .2))))
+  pub turn-refused : (k : ℕ) → fault (takenAt p g x d) ≡ k → k ≢ 0 → fault (taken p g) ≡ k
+  turn-refused k e n = ⊎-elim
+      (λ r. sym (ap fault (first-taken (r .1) (r .2))) ∙ e)
       (λ r. absurd (n (sym e ∙ later-fit (r .0) (r .1)))) s
 
   pub turn-accepted : fault (takenAt p g x d) ≡ 0

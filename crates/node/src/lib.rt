@@ -1,20 +1,25 @@
 // The opening of a node: document 01's passes, made on the edges that the node does not exclude. One call, `open`.
 ghost use mathlib.Core.Path.{_≡_};
 ghost use Rattle.graph.specs.Valid.{graphOf};
+ghost use Rattle.mark_rows.specs.MarkRows.{marksInRows};
+ghost use Rattle.node.specs.Marks.{bytesOf};
 ghost use Rattle.node.specs.Opened.{opened, taken, opens};
 
 mod compact;
 mod passes;
+mod rows;
 
 use compact::expand;
 use compact::gather;
-use compact::gather_costs;
-use compact::list_left;
-use graph::EXCLUDED;
 use graph::MAX_EDGES;
 use graph::MAX_VERTICES;
 use machine::Settings;
+use passes::Ending;
 use passes::open_left;
+use rows::close;
+use rows::list_left;
+use rows::pack;
+use rows::split;
 
 // Limits, as specs/Limits.antt of crate graph has them.
 pub const MAX_SWEEPS: u32 = 15;
@@ -30,9 +35,13 @@ pub struct Subproblem {
     pub settings: Settings,
 }
 
-// What the opening of a node comes to. With it go two lists of bytes for each edge: a found tour in `row`; or of the two nodes of a split
-// the lower one in `row`, with the edge excluded, and the upper one in `top`, with the edge required; and in `last` the multipliers of both, which
-// are those of the last pass. Zero where there is nothing to tell. Refused, with the number of what does not fit, all are left as they were.
+// The words of a node's marks: three for its required edges, then three for its excluded ones. Edge k is bit (k − 1) % 64 of word
+// (k − 1) / 64 of its row.
+pub const NODE_WORDS: usize = 6;
+
+// What the opening of a node comes to. With it go, of the two nodes of a split, the lower one in `rows`, with the edge excluded, and the upper
+// one in `top`, with the edge required; a found tour in `tour`, a byte for each edge; and in `last` the multipliers of both nodes, which are those
+// of the last pass. Zero where there is nothing to tell. Refused, with the number of what does not fit, all are left as they were.
 pub enum Fate {
     Refused(u32),
     Closes,
@@ -40,8 +49,8 @@ pub enum Fate {
     Splits,
 }
 
-// The node with the marks in row is opened, on the graph of its edges that are not excluded: the loops of a pass go over those alone,
-// and what they come to is made bytes for all edges again.
+// The node with the marks in `rows` is opened, on the graph of its edges that are not excluded: they are listed from the words, the loops of a
+// pass go over them alone, and what they come to is packed into words again. Bits that make no marks are read as marks all the same.
 // Ruled out: an edge that the node excludes, and that a node below it does not; multipliers that gain after the last pass; a byte written
 // where the node is refused.
 pub fn open<'a>(
@@ -49,13 +58,15 @@ pub fn open<'a>(
     a: &'a [u8; MAX_EDGES],
     b: &'a [u8; MAX_EDGES],
     cost: &'a [i32; MAX_EDGES],
-    row: &mut [u8; MAX_EDGES],
-    top: &mut [u8; MAX_EDGES],
+    rows: &mut [u64; NODE_WORDS],
+    top: &mut [u64; NODE_WORDS],
+    tour: &mut [u8; MAX_EDGES],
     last: &mut [i32; MAX_VERTICES],
 ) -> Fate
-    ensures { λ r. ⌜ opened r (now (row .exit)) (now (top .exit)) (now (last .exit))
-        ≡ opens (taken p (graphOf (p .n) (p .m) (now (a .entry)) (now (b .entry)) (now (cost .entry)) (now (row .entry))))
-        (now (top .entry)) (now (last .entry)) ⌝ }
+    ensures { λ r. ⌜ opened r (now (rows .exit)) (now (top .exit)) (now (tour .exit)) (now (last .exit))
+        ≡ opens (taken p (graphOf (p .n) (p .m) (now (a .entry)) (now (b .entry)) (now (cost .entry))
+        (bytesOf (marksInRows (p .m) (now (rows .entry))))))
+        (now (rows .entry)) (now (top .entry)) (now (tour .entry)) (now (last .entry)) ⌝ }
 {
     let m = p.m;
     if p.n > MAX_VERTICES {
@@ -65,41 +76,40 @@ pub fn open<'a>(
         return Fate::Refused(15);
     }
     let mut place = [0u8; MAX_EDGES];
-    let f = list_left(m, row, &mut place);
+    let mut marks = [0u8; MAX_EDGES];
+    let f = list_left(m, rows, &mut place, &mut marks);
     let mut left_a = [0u8; MAX_EDGES];
-    gather(&place, f, a, &mut left_a);
     let mut left_b = [0u8; MAX_EDGES];
-    gather(&place, f, b, &mut left_b);
     let mut left_cost = [0i32; MAX_EDGES];
-    gather_costs(&place, f, cost, &mut left_cost);
-    let mut lower = [0u8; MAX_EDGES];
-    gather(&place, f, row, &mut lower);
-    let mut higher = [0u8; MAX_EDGES];
+    gather(
+        &place,
+        f,
+        a,
+        b,
+        cost,
+        &mut left_a,
+        &mut left_b,
+        &mut left_cost,
+    );
     let mut q = p;
     q.m = f;
-    let fate = open_left(
-        q,
-        &left_a,
-        &left_b,
-        &left_cost,
-        &mut lower,
-        &mut higher,
-        last,
-    );
-    match fate {
-        Fate::Refused(_) => {}
-        Fate::Closes => {
-            *row = [0; MAX_EDGES];
-            *top = [0; MAX_EDGES];
+    let ending = open_left(q, &left_a, &left_b, &left_cost, &mut marks, last);
+    match ending {
+        Ending::Refused(number) => {
+            return Fate::Refused(number);
         }
-        Fate::Finds => {
-            expand(&place, f, &lower, m, 0, row);
-            *top = [0; MAX_EDGES];
+        Ending::Shut => {
+            return close(rows, top, tour, last);
         }
-        Fate::Splits => {
-            expand(&place, f, &lower, m, EXCLUDED, row);
-            expand(&place, f, &higher, m, EXCLUDED, top);
+        Ending::Found => {
+            expand(&place, f, &marks, tour);
+            *rows = [0; NODE_WORDS];
+            *top = [0; NODE_WORDS];
+            *last = [0; MAX_VERTICES];
+            return Fate::Finds;
         }
+        Ending::Unclosed => {}
     }
-    fate
+    pack(m, &marks, rows);
+    split(m, rows, top, tour, last)
 }

@@ -8,26 +8,20 @@ ghost use Rattle.lists.specs.Filling.{Filling};
 ghost use Rattle.integers.specs.Range.{InRange, clamp};
 ghost use Rattle.graph.specs.Limits.{maxVertices, maxEdges, maxMultiplier, maxStep};
 ghost use Rattle.graph.specs.Valid.{graphOf};
-ghost use Rattle.machine.specs.Outcomes.{closes};
-ghost use Rattle.machine.specs.Machine.{branch};
-ghost use Rattle.machine.specs.Calls.{fault};
 ghost use Rattle.node.specs.Marks.{marksIn, bytesOf, Padded};
-ghost use Rattle.node.specs.Opened.{opened, places, openedAs, taken, opensBy};
+ghost use Rattle.node.specs.Opened.{places, taken};
 ghost use Rattle.node.specs.Faults.{settingsFault, lastly};
 ghost use Rattle.node.specs.Counting.{Ends, edged, DegreesTo, allTwo};
 ghost use Rattle.node.specs.Gains.{gainOf, maxGain, GainsTo};
-ghost use Rattle.node.specs.Marking.{markByte, FirstFree};
+ghost use Rattle.node.specs.Marking.{markByte};
 ghost use Rattle.node.specs.OnePass.{VerdictIs};
 ghost use Rattle.node.specs.Passing.{refusal, isBound};
-use crate::Fate;
+ghost use Rattle.node.specs.Refusing.{EndsAs};
 use crate::MAX_STEP;
 use crate::MAX_SWEEPS;
 use crate::Subproblem;
-use graph::EXCLUDED;
-use graph::FREE;
 use graph::MAX_EDGES;
 use graph::MAX_VERTICES;
-use graph::REQUIRED;
 use graph::wide;
 use onetree::BAR;
 use onetree::MAX_MULTIPLIER;
@@ -137,35 +131,6 @@ fn apply(rulings: &[u8; MAX_EDGES], m: usize, marks: &mut [u8; MAX_EDGES])
     }
 }
 
-// The place of the lowest-numbered free edge, or m.
-fn first_free(x: &[u8; MAX_EDGES], m: usize) -> usize
-    requires { ⌜ m ≤ maxEdges ⌝ }
-    ensures { λ r. ⌜ FirstFree (now (x .entry)) m r ⌝ }
-{
-    let mut k = 0;
-    while k < m {
-        if x[k] == FREE {
-            return k;
-        }
-        k = k + 1;
-    }
-    k
-}
-
-// A node that closes.
-fn close(
-    row: &mut [u8; MAX_EDGES],
-    top: &mut [u8; MAX_EDGES],
-    last: &mut [i32; MAX_VERTICES],
-) -> Fate
-    ensures { λ r. ⌜ opened r (now (row .exit)) (now (top .exit)) (now (last .exit)) ≡ openedAs closes ⌝ }
-{
-    *row = [0; MAX_EDGES];
-    *top = [0; MAX_EDGES];
-    *last = [0; MAX_VERTICES];
-    Fate::Closes
-}
-
 // The multipliers of n vertices, then zeros. They are written where they are wanted, which the compiler makes better code of than of a copy.
 fn hand_on(d: [i32; MAX_VERTICES], n: usize, last: &mut [i32; MAX_VERTICES])
     requires { ⌜ n ≤ maxVertices ⌝ }
@@ -177,30 +142,6 @@ fn hand_on(d: [i32; MAX_VERTICES], n: usize, last: &mut [i32; MAX_VERTICES])
         last[v] = d[v];
         v = v + 1;
     }
-}
-
-// After the last pass, of which the multipliers are d: the node whose marks are in row splits at its lowest free edge, or closes.
-fn split(
-    n: usize,
-    m: usize,
-    d: [i32; MAX_VERTICES],
-    row: &mut [u8; MAX_EDGES],
-    top: &mut [u8; MAX_EDGES],
-    last: &mut [i32; MAX_VERTICES],
-) -> Fate
-    requires { ⌜ (n ≤ maxVertices) × (m ≤ maxEdges) × (now row ≡ bytesOf (marksIn m (now row))) ⌝ }
-    ensures { λ r. ⌜ opened r (now (row .exit)) (now (top .exit)) (now (last .exit))
-        ≡ openedAs (branch (fit n (pos 0) d) (marksIn m (now (row .entry)))) ⌝ }
-{
-    let k = first_free(row, m);
-    if k == m {
-        return close(row, top, last);
-    }
-    *top = *row;
-    row[k] = EXCLUDED;
-    top[k] = REQUIRED;
-    hand_on(d, n, last);
-    Fate::Splits
 }
 
 // What a pass makes of a node: it is refused, with a number; it is shut; a tour is found; or the rulings are applied, and a hint for the
@@ -320,54 +261,60 @@ fn judge<'a>(
     Verdict::Ruled(passed.live)
 }
 
-// The node with the marks in row is opened, on all edges given: passes 0 to `sweeps`, from the node's multipliers on.
+// What the passes of a node come to: it is refused, with a number; it is shut; a tour is found; or it is unclosed after the last of them.
+pub(crate) enum Ending {
+    Refused(u32),
+    Shut,
+    Found,
+    Unclosed,
+}
+
+// The passes of the node with the marks in row, on all edges given: 0 to `sweeps`, from the node's multipliers on. Then row has the tour that is
+// found, or the marks after the last pass, of which `last` gets the multipliers.
 pub(crate) fn open_left<'a>(
     p: Subproblem,
     a: &'a [u8; MAX_EDGES],
     b: &'a [u8; MAX_EDGES],
     cost: &'a [i32; MAX_EDGES],
     row: &mut [u8; MAX_EDGES],
-    top: &mut [u8; MAX_EDGES],
     last: &mut [i32; MAX_VERTICES],
-) -> Fate
+) -> Ending
     requires { ⌜ (p .n ≤ maxVertices) × (p .m ≤ maxEdges) × Padded (p .m) (now row) ⌝ }
-    ensures { λ r. ⌜ opened r (now (row .exit)) (now (top .exit)) (now (last .exit))
-        ≡ opensBy (fault (taken p (graphOf (p .n) (p .m) (now (a .entry)) (now (b .entry)) (now (cost .entry)) (now (row .entry)))))
-        (taken p (graphOf (p .n) (p .m) (now (a .entry)) (now (b .entry)) (now (cost .entry)) (now (row .entry)))) (now (top .entry))
-        (now (last .entry)) ⌝ }
+    ensures { λ r. ⌜ EndsAs (taken p (graphOf (p .n) (p .m) (now (a .entry)) (now (b .entry)) (now (cost .entry)) (now (row .entry))))
+        r (now (row .exit)) (now (last .entry)) (now (last .exit)) ⌝ }
 {
     let settings = p.settings;
     let mut d = p.multipliers;
+    let mut hint = [0u8; MAX_EDGES];
     let mut order = [0u8; MAX_EDGES];
     let mut live: usize = 0;
     let mut left = settings.sweeps;
     loop {
-        let hint = order;
         let mut degrees = [0u8; PLACES];
         let mut q = p;
         q.multipliers = d;
         let verdict = judge(q, a, b, cost, &hint[..live], row, &mut order, &mut degrees);
         match verdict {
             Verdict::Refused(number) => {
-                return Fate::Refused(number);
+                return Ending::Refused(number);
             }
             Verdict::Shut => {
-                return close(row, top, last);
+                return Ending::Shut;
             }
             Verdict::Found => {
-                *top = [0; MAX_EDGES];
-                *last = [0; MAX_VERTICES];
-                return Fate::Finds;
+                return Ending::Found;
             }
             Verdict::Ruled(next) => {
                 live = next;
             }
         }
         if left == 0 {
-            return split(p.n, p.m, d, row, top, last);
+            hand_on(d, p.n, last);
+            return Ending::Unclosed;
         }
         let next = gains(&degrees, d, p.n, settings.step);
         d = next;
+        hint = order;
         left = left - 1;
     }
 }

@@ -8,12 +8,13 @@ use Prim.Native.Nat.{ℕ, _+_, _*_, _≤_, _<_}
 use lib.Dec.{ltb}
 use lib.ListN.{getD}
 use lib.IntN.{ℤ, pos}
-use Rattle.graph.specs.Limits.{maxVertices, maxEdges, maxMark, maxCount}
+use Rattle.graph.specs.Limits.{maxVertices, maxEdges, maxCount}
 use Rattle.graph.specs.declared.Graph.{Graph}
 use Rattle.tree_theory.specs.Inputs.{multipliersFit, ceilingFits}
 use Rattle.machine.specs.Requireds.{requireds}
 use Rattle.machine.specs.Calls.{fault}
-use Rattle.search.specs.Record.{maxNodes, noSettings, marksAt, multipliersAt, isOpen, hasTour, openingIn}
+use Rattle.mark_rows.specs.MarkRows.{nodeWords, RowsFit}
+use Rattle.search.specs.Record.{maxNodes, stackSize, noSettings, rowsAt, marksAt, multipliersAt, isOpen, hasTour, openingIn}
 use Rattle.search.specs.declared.Search.{Search}
 
 -- ---- places that are not used are zero
@@ -29,25 +30,21 @@ pub record GraphTidy (g : Graph) : Type 0 where
   pub cost : Zeros (pos 0) maxEdges (g .m) (g .cost)
   pub mark : Zeros 0 maxEdges (g .m) (g .mark)
 
--- from place `from` on, in node p of the stack
-abbrev pub NodeZeros : List ℕ → ℕ → ℕ → Type 0
-NodeZeros l p from = (j : ℕ) → j < maxEdges → from ≤ j → getD l (maxEdges * p + j) 0 ≡ 0
-
--- past m in the nodes below the depth, and everywhere in the others
-abbrev pub usedIn : ℕ → ℕ → ℕ → ℕ
-usedIn m depth p = cond (ltb p depth) m 0
-
-abbrev pub StackTidy : ℕ → ℕ → List ℕ → Type 0
-StackTidy m depth l = (p : ℕ) → p < maxNodes → NodeZeros l p (usedIn m depth p)
+-- the words of the nodes from the depth on
+abbrev pub StackTidy : ℕ → List ℕ → Type 0
+StackTidy depth l = Zeros 0 stackSize (nodeWords * depth) l
 
 -- past n in what the nodes below the depth carry, and everywhere in what is carried by none
+abbrev pub usedIn : ℕ → ℕ → ℕ → ℕ
+usedIn n depth p = cond (ltb p depth) n 0
+
 abbrev pub CarriedTidy : ℕ → ℕ → List ℤ → Type 0
 CarriedTidy n depth e = (p : ℕ) → p < maxNodes → Zeros (pos 0) maxVertices (usedIn n depth p) (multipliersAt maxVertices e p)
 
 pub record Tidy (s : Search) : Type 0 where
   pub graph : GraphTidy (s .graph)
   pub multipliers : Zeros (pos 0) maxVertices (s .graph .n) (s .multipliers)
-  pub stack : StackTidy (s .graph .m) (s .depth) (s .stack)
+  pub stack : StackTidy (s .depth) (s .stack)
   pub carried : CarriedTidy (s .graph .n) (s .depth) (s .carried)
   -- past m where there is an incumbent, and everywhere where there is none
   pub best : Zeros 0 maxEdges (cond (hasTour s) (s .graph .m) 0) (s .best)
@@ -64,9 +61,9 @@ pub record Idle (s : Search) : Type 0 where
 
 -- ---- a search is open
 
--- node p has marks only, and at least p required edges
+-- document 02, C-19: "with no leg in both and every bit past leg m clear; 24 tests both"; and node p has at least p required edges
 abbrev pub NodeFits : ℕ → List ℕ → ℕ → Type 0
-NodeFits m l p = ((j : ℕ) → j < m → getD l (maxEdges * p + j) 0 ≤ maxMark) × (p ≤ requireds (marksAt m l p))
+NodeFits m l p = RowsFit m (rowsAt l p) × (p ≤ requireds (marksAt m l p))
 
 abbrev pub StackFits : ℕ → ℕ → List ℕ → Type 0
 StackFits m depth l = (p : ℕ) → p < depth → NodeFits m l p

@@ -1,4 +1,4 @@
--- Laws of the stack's cells, the bytes of its nodes' marks and the multipliers that they carry: a stack is read back from its cells, and cells
+-- Laws of the stack's cells, the words of its nodes' rows and the multipliers that they carry: a stack is read back from its cells, and cells
 -- from their stack. The machine's `Nodes` says which stacks have room there. Assumes nothing.
 use mathlib.Core.Path.{_≡_, refl, sym, ap, _∙_, subst}
 use mathlib.Core.Logic.{_≢_, _⊎_, inl, inr}
@@ -11,15 +11,16 @@ use native.Mathlib.Decide.{decLe}
 use lib.ListN.{length, getD, replicate, length-replicate, List·getD-eq-default}
 use lib.IntN.{ℤ, pos}
 use borrow.Author.Tests.{eq-eqb, ne-eqb}
-use Rattle.lists.specs.Fill.{fill, fit, fill-size, fill-at, fill-past, fill-is, replicate-at}
+use Rattle.lists.specs.Fill.{fit, fill-size, fill-at, fill-is, replicate-at}
 use Rattle.graph.specs.Limits.{maxVertices, maxEdges}
-use Rattle.graph.specs.Network.{free, markOf}
 use Rattle.tree_theory.specs.Inputs.{multipliersFit}
-use Rattle.machine.specs.Machine.{Marks, Node, nodeOf}
+use Rattle.machine.specs.Machine.{Node, nodeOf}
 use Rattle.machine.specs.Requireds.{requireds}
 use Rattle.machine.specs.Kept.{Waits, Nodes}
-use Rattle.node.specs.Marks.{byteOf, mark-byte, byte-small}
-use Rattle.search.specs.Record.{maxNodes, stackSize, carriedSize, marksAt, multipliersAt, nodes, noNode, nodeAt, cell, cells, byteAt, multiplierAt}
+use Rattle.mark_rows.specs.MarkRows.{nodeWords, rowsOf, marksInRows}
+use Rattle.mark_rows.specs.SixWords.{rows-size, rows-back, marks-length}
+use Rattle.mark_rows.specs.Building.{no-bits}
+use Rattle.search.specs.Record.{maxNodes, stackSize, carriedSize, rowsAt, marksAt, multipliersAt, nodes, noNode, nodeAt, cell, cells, wordAt, multiplierAt}
 
 -- ---- node p of a stack
 
@@ -51,15 +52,11 @@ module _ {A : Type 0} (v : Node → ℕ → A) where
   unfolding cell
   cell-none st p j h = ap (λ (y : Node). v y j) (no-node st p h)
 
-pub cell-small : (st : List Node) (p j : ℕ) → cell byteAt st p j ≤ 2
-unfolding cell
-cell-small st p j = byte-small (getD (nodeAt st p .marks) j free)
+-- no node has no bits
+pub no-word : (st : List Node) (p j : ℕ) → length st ≤ p → cell wordAt st p j ≡ 0
+no-word st p j h = cell-none wordAt st p j h ∙ no-bits j
 
--- past a node's marks, and past its multipliers
-pub cell-past : (st : List Node) (p j : ℕ) → length (nodeAt st p .marks) ≤ j → cell byteAt st p j ≡ 0
-unfolding cell
-cell-past st p j h = ap byteOf (List·getD-eq-default (nodeAt st p .marks) free h)
-
+-- past a node's multipliers
 pub carried-past : (st : List Node) (p j : ℕ) → length (nodeAt st p .multipliers) ≤ j → cell multiplierAt st p j ≡ pos 0
 unfolding cell
 carried-past st p j h = List·getD-eq-default (nodeAt st p .multipliers) (pos 0) h
@@ -74,22 +71,22 @@ pub record Layout (w size : ℕ) : Type 0 where
   -- the places of two nodes are apart
   pub apart : (p q j : ℕ) → q ≢ p → j < w → (w * q + j < w * p) ⊎ (w * p + w ≤ w * q + j)
 
-pub bytes-places : Layout maxEdges stackSize
-bytes-places = record {
+pub rows-places : Layout nodeWords stackSize
+rows-places = record {
   low = λ p j b c. omega arith;
   parts = λ p j h.
-      let e : maxEdges * ((maxEdges * p + j) / maxEdges) + (maxEdges * p + j) % maxEdges ≡ maxEdges * p + j
-      = div-add-mod (maxEdges * p + j) maxEdges in
-      let l : (maxEdges * p + j) % maxEdges < maxEdges = mod-lt (maxEdges * p + j) {m = maxEdges} (omega arith) in
+      let e : nodeWords * ((nodeWords * p + j) / nodeWords) + (nodeWords * p + j) % nodeWords ≡ nodeWords * p + j
+      = div-add-mod (nodeWords * p + j) nodeWords in
+      let l : (nodeWords * p + j) % nodeWords < nodeWords = mod-lt (nodeWords * p + j) {m = nodeWords} (omega arith) in
       (omega arith, omega arith);
   split = λ i b.
-      let e : maxEdges * (i / maxEdges) + i % maxEdges ≡ i = div-add-mod i maxEdges in
-      let l : i % maxEdges < maxEdges = mod-lt i {m = maxEdges} (omega arith) in
-      (i / maxEdges, i % maxEdges, omega arith, l, e);
+      let e : nodeWords * (i / nodeWords) + i % nodeWords ≡ i = div-add-mod i nodeWords in
+      let l : i % nodeWords < nodeWords = mod-lt i {m = nodeWords} (omega arith) in
+      (i / nodeWords, i % nodeWords, omega arith, l, e);
   apart = λ p q j d h. go p q j d h (decLe (suc q) p);
 }
   where
-    go : (p q j : ℕ) → q ≢ p → j < maxEdges → Dec (q < p) → (maxEdges * q + j < maxEdges * p) ⊎ (maxEdges * p + maxEdges ≤ maxEdges * q + j)
+    go : (p q j : ℕ) → q ≢ p → j < nodeWords → Dec (q < p) → (nodeWords * q + j < nodeWords * p) ⊎ (nodeWords * p + nodeWords ≤ nodeWords * q + j)
     go p q j d h (yes i) = inl (omega arith)
     go p q j d h (no i) = inr (omega arith)
 
@@ -146,17 +143,17 @@ module _ (w size : ℕ) (lay : Layout w size) where
 
 -- ---- the nodes of two lists of cells
 
+pub rows-at-size : (l : List ℕ) (p : ℕ) → length (rowsAt l p) ≡ nodeWords
+unfolding rowsAt
+rows-at-size l p = fill-size nodeWords (λ j. getD l (nodeWords * p + j) 0)
+
+pub rows-at : (l : List ℕ) (p j : ℕ) → j < nodeWords → getD (rowsAt l p) j 0 ≡ getD l (nodeWords * p + j) 0
+unfolding rowsAt
+rows-at l p j h = fill-at nodeWords (λ i. getD l (nodeWords * p + i) 0) j 0 h
+
 pub marks-size : (m : ℕ) (l : List ℕ) (p : ℕ) → length (marksAt m l p) ≡ m
 unfolding marksAt
-marks-size m l p = fill-size m (λ j. markOf (getD l (maxEdges * p + j) 0))
-
-pub marks-at : (m : ℕ) (l : List ℕ) (p j : ℕ) → j < m → getD (marksAt m l p) j free ≡ markOf (getD l (maxEdges * p + j) 0)
-unfolding marksAt
-marks-at m l p j h = fill-at m (λ i. markOf (getD l (maxEdges * p + i) 0)) j free h
-
-pub marks-past : (m : ℕ) (l : List ℕ) (p j : ℕ) → m ≤ j → getD (marksAt m l p) j free ≡ free
-unfolding marksAt
-marks-past m l p j h = fill-past m (λ i. markOf (getD l (maxEdges * p + i) 0)) j free h
+marks-size m l p = marks-length m (rowsAt l p)
 
 pub multipliers-size : (n : ℕ) (e : List ℤ) (p : ℕ) → length (multipliersAt n e p) ≡ n
 unfolding multipliersAt
@@ -231,12 +228,16 @@ node-narrow n m st w p = go (decLe (suc p) (length st))
         (omega (arith, ap (λ (x : Node). length (x .marks)) e), omega (arith, ap (λ (x : Node). length (x .multipliers)) e))
 
 -- cells that hold a stack's node p give that node
-pub marks-back : (m : ℕ) (l : List ℕ) (st : List Node) (p : ℕ) → length (nodeAt st p .marks) ≡ m
-    → ((j : ℕ) → j < m → getD l (maxEdges * p + j) 0 ≡ cell byteAt st p j) → marksAt m l p ≡ nodeAt st p .marks
-unfolding marksAt cell
-marks-back m l st p e h =
-    fill-is m (λ j. markOf (getD l (maxEdges * p + j) 0)) (nodeAt st p .marks) free e
-    (λ j b. ap markOf (h j b) ∙ mark-byte (getD (nodeAt st p .marks) j free))
+pub rows-there : (l : List ℕ) (st : List Node) (p : ℕ) → ((j : ℕ) → j < nodeWords → getD l (nodeWords * p + j) 0 ≡ cell wordAt st p j)
+    → rowsAt l p ≡ rowsOf (nodeAt st p .marks)
+unfolding rowsAt cell
+rows-there l st p h =
+    fill-is nodeWords (λ j. getD l (nodeWords * p + j) 0) (rowsOf (nodeAt st p .marks)) 0 (rows-size (nodeAt st p .marks)) h
+
+pub marks-back : (m : ℕ) (l : List ℕ) (st : List Node) (p : ℕ) → m ≤ maxEdges → length (nodeAt st p .marks) ≡ m
+    → ((j : ℕ) → j < nodeWords → getD l (nodeWords * p + j) 0 ≡ cell wordAt st p j) → marksAt m l p ≡ nodeAt st p .marks
+unfolding marksAt
+marks-back m l st p few e h = ap (marksInRows m) (rows-there l st p h) ∙ rows-back m (nodeAt st p .marks) few e
 
 pub multipliers-back : (n : ℕ) (e : List ℤ) (st : List Node) (p : ℕ) → length (nodeAt st p .multipliers) ≡ n
     → ((j : ℕ) → j < n → getD e (maxVertices * p + j) (pos 0) ≡ cell multiplierAt st p j) → multipliersAt n e p ≡ nodeAt st p .multipliers
@@ -245,16 +246,16 @@ multipliers-back n e st p q h =
     fill-is n (λ j. getD e (maxVertices * p + j) (pos 0)) (nodeAt st p .multipliers) (pos 0) q (λ j b. h j b)
 
 -- and those of the whole stack give the stack
-pub nodes-back : (n m : ℕ) (l : List ℕ) (e : List ℤ) (st : List Node) → Nodes n m st
-    → ((p : ℕ) → p < length st → (j : ℕ) → j < m → getD l (maxEdges * p + j) 0 ≡ cell byteAt st p j)
+pub nodes-back : (n m : ℕ) (l : List ℕ) (e : List ℤ) (st : List Node) → m ≤ maxEdges → Nodes n m st
+    → ((p : ℕ) → p < length st → (j : ℕ) → j < nodeWords → getD l (nodeWords * p + j) 0 ≡ cell wordAt st p j)
     → ((p : ℕ) → p < length st → (j : ℕ) → j < n → getD e (maxVertices * p + j) (pos 0) ≡ cell multiplierAt st p j)
     → nodes n m l e (length st) ≡ st
 unfolding nodes
-nodes-back n m l e [] w h k = refl
-nodes-back n m l e (x ∷ rest) w h k = λ i. top i ∷ nodes-back n m l e rest (w .1) below carried i
+nodes-back n m l e [] few w h k = refl
+nodes-back n m l e (x ∷ rest) few w h k = λ i. top i ∷ nodes-back n m l e rest few (w .1) below carried i
   where
-    below : (p : ℕ) → p < length rest → (j : ℕ) → j < m → getD l (maxEdges * p + j) 0 ≡ cell byteAt rest p j
-    below p b j c = h p (omega arith) j c ∙ cell-lower byteAt x rest p j (omega arith)
+    below : (p : ℕ) → p < length rest → (j : ℕ) → j < nodeWords → getD l (nodeWords * p + j) 0 ≡ cell wordAt rest p j
+    below p b j c = h p (omega arith) j c ∙ cell-lower wordAt x rest p j (omega arith)
 
     carried : (p : ℕ) → p < length rest → (j : ℕ) → j < n → getD e (maxVertices * p + j) (pos 0) ≡ cell multiplierAt rest p j
     carried p b j c = k p (omega arith) j c ∙ cell-lower multiplierAt x rest p j (omega arith)
@@ -264,6 +265,6 @@ nodes-back n m l e (x ∷ rest) w h k = λ i. top i ∷ nodes-back n m l e rest 
         (λ i. nodeOf
         (multipliers-back n e (x ∷ rest) (length rest) (ap (λ (y : Node). length (y .multipliers)) (top-node x rest) ∙ w .0 .multipliers .long)
         (k (length rest) (omega arith)) i)
-        (marks-back m l (x ∷ rest) (length rest) (ap (λ (y : Node). length (y .marks)) (top-node x rest) ∙ w .0 .long)
+        (marks-back m l (x ∷ rest) (length rest) few (ap (λ (y : Node). length (y .marks)) (top-node x rest) ∙ w .0 .long)
         (h (length rest) (omega arith)) i))
         ∙ top-node x rest

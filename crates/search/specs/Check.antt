@@ -1,21 +1,26 @@
 -- The record's check as a test: `check s` is true exactly where `Canonical s` holds (check-yes, check-no, check-is). Nothing else is known
 -- or needed of it. Assumes nothing.
 use mathlib.Core.Path.{_≡_, refl, sym, ap, subst}
-use mathlib.Core.Bool.{Bool, true, false, cond, true≢false, false≢true}
+use mathlib.Core.Bool.{Bool, true, false, cond, _&&_, true≢false, false≢true}
 use mathlib.Core.List.{List}
 use Prim.Native.Nat.{ℕ, zero, suc, _+_, _*_, _≤_, _<_}
 use native.Mathlib.Omega.{arith}
 use native.Mathlib.Decide.{decLe, ℕ-discrete, map-dec}
-use lib.ListN.{getD}
+use lib.ListN.{length, getD}
 use lib.IntN.{ℤ, pos, ℤ-discrete}
-use Rattle.graph.specs.Limits.{maxVertices, maxEdges, maxMark, maxCount}
+use Rattle.graph.specs.Limits.{maxVertices, maxEdges, maxCount}
 use Rattle.graph.specs.declared.Graph.{Graph}
 use Rattle.tree_theory.specs.Inputs.{multipliersFit, ceilingFits}
 use Rattle.machine.specs.declared.Settings.{Settings}
 use Rattle.machine.specs.Requireds.{requireds}
 use Rattle.machine.specs.Calls.{fault}
-use Rattle.search.specs.Record.{maxNodes, noSettings, marksAt, multipliersAt, isOpen, hasTour, openingIn}
-use Rattle.search.specs.Canonical.{Zeros, GraphTidy, NodeZeros, usedIn, StackTidy, CarriedTidy, Tidy, Idle, NodeFits, StackFits, CarriedFits, Bits, Fits, Flags, Stands, Canonical}
+use Rattle.lists.specs.Bools.{and-no-left}
+use Rattle.lists.specs.Fill.{fill-size, fit-size}
+use Rattle.bits.specs.Rows.{digit, digit-past}
+use Rattle.bits.specs.Pairs.{Clear, Apart}
+use Rattle.mark_rows.specs.MarkRows.{rowWords, nodeWords, requiredIn, excludedIn, RowsFit}
+use Rattle.search.specs.Record.{maxNodes, stackSize, noSettings, rowsAt, marksAt, multipliersAt, isOpen, hasTour, openingIn}
+use Rattle.search.specs.Canonical.{Zeros, GraphTidy, usedIn, StackTidy, CarriedTidy, Tidy, Idle, NodeFits, StackFits, CarriedFits, Bits, Fits, Flags, Stands, Canonical}
 use Rattle.search.specs.declared.Search.{Search}
 
 -- ---- what decides
@@ -68,11 +73,42 @@ graph-tidy g =
     (both (zeros maxEdges (g .m) (g .a)) (both (zeros maxEdges (g .m) (g .b))
     (both (zerosZ maxEdges (g .m) (g .cost)) (zeros maxEdges (g .m) (g .mark)))))
 
-stack-tidy : (m depth : ℕ) (l : List ℕ) → Dec (StackTidy m depth l)
-stack-tidy m depth l =
-    below maxNodes (λ p. NodeZeros l p (usedIn m depth p))
-    (λ p. below maxEdges (λ j. usedIn m depth p ≤ j → getD l (maxEdges * p + j) 0 ≡ 0)
-    (λ j. implies (decLe (usedIn m depth p) j) (ℕ-discrete (getD l (maxEdges * p + j) 0) 0)))
+-- rows of three words: past edge 192 every bit is clear
+edges : ℕ
+edges = 64 * rowWords
+
+clear : (m : ℕ) (r : List ℕ) → length r ≡ rowWords → Dec (Clear m r)
+unfolding edges
+clear m r e =
+    map-dec {A = (k : ℕ) → k < suc edges → m < k → digit r k ≡ false} (λ f k. go f k (decLe (suc k) (suc edges))) (λ f k h. f k)
+    (below (suc edges) (λ k. m < k → digit r k ≡ false) (λ k. implies (decLe (suc m) k) (bool (digit r k) false)))
+  where
+    go : ((k : ℕ) → k < suc edges → m < k → digit r k ≡ false) → (k : ℕ) → Dec (k < suc edges) → m < k → digit r k ≡ false
+    go f k (yes h) = f k h
+    go f k (no h) = λ b. digit-past r k (omega (arith, e))
+
+apart : (r s : List ℕ) → length r ≡ rowWords → Dec (Apart r s)
+unfolding edges
+apart r s e =
+    map-dec {A = (k : ℕ) → k < suc edges → digit r k && digit s k ≡ false} (λ f k. go f k (decLe (suc k) (suc edges))) (λ f k h. f k)
+    (below (suc edges) (λ k. digit r k && digit s k ≡ false) (λ k. bool (digit r k && digit s k) false))
+  where
+    go : ((k : ℕ) → k < suc edges → digit r k && digit s k ≡ false) → (k : ℕ) → Dec (k < suc edges) → digit r k && digit s k ≡ false
+    go f k (yes h) = f k h
+    go f k (no h) = and-no-left (digit r k) (digit s k) (digit-past r k (omega (arith, e)))
+
+rows-fit : (m : ℕ) (l : List ℕ) → Dec (RowsFit m l)
+rows-fit m l =
+    map-dec {A = Apart (requiredIn l) (excludedIn l) × (Clear m (requiredIn l) × Clear m (excludedIn l))}
+    (λ t. record { apart = t .0; clearRequired = t .1 .0; clearExcluded = t .1 .1 })
+    (λ t. (t .apart, (t .clearRequired, t .clearExcluded)))
+    (both (apart (requiredIn l) (excludedIn l) three) (both (clear m (requiredIn l) three) (clear m (excludedIn l) three₂)))
+  where
+    three : length (requiredIn l) ≡ rowWords
+    three = unfold requiredIn in fit-size rowWords 0 l
+
+    three₂ : length (excludedIn l) ≡ rowWords
+    three₂ = unfold excludedIn in fill-size rowWords (λ i. getD l (rowWords + i) 0)
 
 carried-tidy : (n depth : ℕ) (e : List ℤ) → Dec (CarriedTidy n depth e)
 carried-tidy n depth e =
@@ -95,12 +131,12 @@ module _ (s : Search) where
   tidy =
       map-dec
       {A = GraphTidy (s .graph) × (Zeros (pos 0) maxVertices (s .graph .n) (s .multipliers)
-      × (StackTidy (s .graph .m) (s .depth) (s .stack) × (CarriedTidy (s .graph .n) (s .depth) (s .carried)
+      × (StackTidy (s .depth) (s .stack) × (CarriedTidy (s .graph .n) (s .depth) (s .carried)
       × Zeros 0 maxEdges (cond (hasTour s) (s .graph .m) 0) (s .best))))}
       (λ t. record { graph = t .0; multipliers = t .1 .0; stack = t .1 .1 .0; carried = t .1 .1 .1 .0; best = t .1 .1 .1 .1 })
       (λ t. (t .graph, (t .multipliers, (t .stack, (t .carried, t .best)))))
       (both (graph-tidy (s .graph)) (both (zerosZ maxVertices (s .graph .n) (s .multipliers))
-      (both (stack-tidy (s .graph .m) (s .depth) (s .stack)) (both (carried-tidy (s .graph .n) (s .depth) (s .carried))
+      (both (zeros stackSize (nodeWords * s .depth) (s .stack)) (both (carried-tidy (s .graph .n) (s .depth) (s .carried))
       (zeros maxEdges (cond (hasTour s) (s .graph .m) 0) (s .best))))))
 
   idle : Dec (Idle s)
@@ -123,10 +159,7 @@ module _ (s : Search) where
 
   node-fits : (p : ℕ) → Dec (NodeFits (s .graph .m) (s .stack) p)
   node-fits p =
-      both
-      (below (s .graph .m) (λ j. getD (s .stack) (maxEdges * p + j) 0 ≤ maxMark)
-      (λ j. decLe (getD (s .stack) (maxEdges * p + j) 0) maxMark))
-      (decLe p (requireds (marksAt (s .graph .m) (s .stack) p)))
+      both (rows-fit (s .graph .m) (rowsAt (s .stack) p)) (decLe p (requireds (marksAt (s .graph .m) (s .stack) p)))
 
   fits : Dec (Fits s)
   fits =

@@ -1,26 +1,16 @@
 -- The record's check, as its loops go: what one place more tells, and what a word that is zero says of its number. Assumes nothing.
 use mathlib.Core.Path.{_≡_, refl, sym, ap, _∙_, subst}
 use mathlib.Core.Bool.{Bool, true, false, true≢false}
-use mathlib.Core.List.{List}
-use Prim.Native.Nat.{ℕ, zero, suc, _+_, _*_, _≤_, _<_}
-use native.Mathlib.Omega.{arith}
-use native.Mathlib.Numerals.{add-one}
+use Prim.Native.Nat.{ℕ, _≤_, _<_}
 use lib.Dec.{leb, eqb}
-use lib.ListN.{getD}
 use lib.IntN.{ℤ, pos}
 use lib.Signed.{mag}
 use mir.Val.{toZ, ofZ}
 use mir.Syntax.{w32, w64}
 use borrow.Author.Tests.{leb-true, le-leb, eqb-true, eq-eqb}
-use Rattle.lists.specs.Bools.{Says, bit}
-use Rattle.lists.specs.Rows.{row}
-use Rattle.lists.specs.Fill.{fill}
+use Rattle.lists.specs.Bools.{Says}
 use Rattle.integers.specs.Words.{back32, back64}
-use Rattle.graph.specs.Limits.{maxEdges}
-use Rattle.graph.specs.Network.{markOf}
-use Rattle.tree_theory.specs.Valid.{isRequired}
-use Rattle.machine.specs.Requireds.{requireds, requireds-last}
-use Rattle.search.specs.Record.{marksAt, isOpen}
+use Rattle.search.specs.Record.{isOpen}
 use Rattle.search.specs.Canonical.{Flags, Tidy, Stands, Canonical}
 use Rattle.search.specs.Check.{check, check-yes, check-no}
 use Rattle.search.specs.declared.Search.{Search}
@@ -66,25 +56,3 @@ says-stands s b o e f t h =
     says-check s b
     (says-both b {P = Stands o s} {Q = Canonical s}
     (λ w. record { flags = f; tidy = t; stands = subst (λ (x : Bool). Stands x s) (sym e) w }) (λ c. subst (λ (x : Bool). Stands x s) e (c .stands)) h)
-
--- ---- the required edges of a node, an edge more
-
-module _ (l : List ℕ) (p : ℕ) where
-  pub requireds-none : requireds (marksAt 0 l p) ≡ 0
-  unfolding marksAt fill row requireds
-  requireds-none = refl
-
-  node-more : (j : ℕ) → requireds (marksAt (j + 1) l p) ≡ requireds (marksAt j l p) + bit (isRequired (markOf (getD l (maxEdges * p + j) 0)))
-  unfolding marksAt fill
-  node-more j = rw add-one (requireds-last j _)
-
-  pub requireds-one : (j : ℕ) → getD l (maxEdges * p + j) 0 ≡ 1 → requireds (marksAt (j + 1) l p) ≡ requireds (marksAt j l p) + 1
-  requireds-one j e = node-more j ∙ ap (λ (k : ℕ). requireds (marksAt j l p) + bit (isRequired (markOf k))) e ∙ unfold markOf in refl
-
-  pub requireds-other : (j : ℕ) → (getD l (maxEdges * p + j) 0 ≡ 1 → ⊥) → requireds (marksAt (j + 1) l p) ≡ requireds (marksAt j l p)
-  requireds-other j e = omega (arith, node-more j, other (getD l (maxEdges * p + j) 0) e)
-    where
-      other : (k : ℕ) → (k ≡ 1 → ⊥) → bit (isRequired (markOf k)) ≡ 0
-      other zero d = unfold markOf in refl
-      other (suc zero) d = absurd (d refl)
-      other (suc (suc k)) d = unfold markOf in refl

@@ -1,9 +1,9 @@
--- The record's check in the parts that the code makes of it: the greatest byte of a stretch; the stack past the depth, and what is carried there, as
--- one stretch; the fields apart from the stack. Assumes nothing.
+-- The record's check in the parts that the code makes of it: the greatest number of a stretch; what is carried past the depth, as one stretch;
+-- the fields apart from the stack. Assumes nothing.
 use mathlib.Core.Path.{_≡_, refl, sym, _∙_, subst}
 use mathlib.Core.Bool.{Bool, true, false, cond}
 use mathlib.Core.Logic.{_⊎_, inl, inr}
-use mathlib.Core.List.{List, []}
+use mathlib.Core.List.{List}
 use Prim.Native.Nat.{ℕ, _+_, _*_, _≤_, _<_}
 use native.Mathlib.Omega.{arith}
 use native.Mathlib.Decide.{decLe}
@@ -20,13 +20,13 @@ use Rattle.tree_theory.specs.Inputs.{ceilingFits}
 use Rattle.machine.specs.declared.Settings.{Settings}
 use Rattle.machine.specs.Machine.{Opening}
 use Rattle.machine.specs.Calls.{fault}
-use Rattle.search.specs.Record.{maxNodes, stackSize, carriedSize, noSettings, multipliersAt, openingOf, hasTour, openingIn}
-use Rattle.search.specs.Cells.{bytes-places, carried-places, each-place, multipliers-at}
-use Rattle.search.specs.Canonical.{Zeros, GraphTidy, NodeZeros, usedIn, StackTidy, CarriedTidy, Tidy, Idle, StackFits, CarriedFits, Bits, Fits}
+use Rattle.search.specs.Record.{maxNodes, carriedSize, noSettings, multipliersAt, openingOf, hasTour, openingIn}
+use Rattle.search.specs.Cells.{carried-places, each-place, multipliers-at}
+use Rattle.search.specs.Canonical.{Zeros, GraphTidy, usedIn, StackTidy, CarriedTidy, Tidy, Idle, StackFits, CarriedFits, Bits, Fits}
 use Rattle.search.specs.CheckLoops.{says-both, says-le, says-eq}
 use Rattle.search.specs.declared.Search.{Search}
 
--- ---- the greatest of the bytes f from place `from` up to i, in a stretch that ends at n
+-- ---- the greatest of the numbers f from place `from` up to i, in a stretch that ends at n
 
 pub record Greatest (f : ℕ → ℕ) (from n i most : ℕ) : Type 0 where
   pub above : (k : ℕ) → k < i → from ≤ k → f k ≤ most
@@ -60,7 +60,7 @@ module _ (f : ℕ → ℕ) (from n : ℕ) where
       says-eq most 0 ((k : ℕ) → k < n → from ≤ k → f k ≡ 0) (λ e k l w. omega (arith, g .above k (omega arith) w))
       (λ e. omega (arith, g .least 0 (λ k l w. omega (arith, e k l w))))
 
--- ---- the stack: the nodes in use past m, and all that is past them
+-- ---- what the nodes carry: the nodes in use past n, and all that is past them
 
 -- how many nodes are in use
 pub record InUse (depth used : ℕ) : Type 0 where
@@ -68,32 +68,14 @@ pub record InUse (depth used : ℕ) : Type 0 where
   pub deep : used ≤ depth
   pub all : (used ≡ depth) ⊎ (used ≡ maxNodes)
 
-module _ (m depth used : ℕ) (l : List ℕ) (u : InUse depth used) where
-  pub tidy-nodes : StackTidy m depth l → (p : ℕ) → p < used → NodeZeros l p m
-  tidy-nodes t p h =
-      subst (λ (k : ℕ). NodeZeros l p k) (rw (lt-ltb p depth (omega (arith, u .deep))) refl) (t p (omega (arith, u .few)))
-
-  past : (p : ℕ) → p < maxNodes → used ≤ p → usedIn m depth p ≡ 0
+module _ (n depth used : ℕ) (e : List ℤ) (u : InUse depth used) where
+  past : (p : ℕ) → p < maxNodes → used ≤ p → usedIn n depth p ≡ 0
   past p h b = rw (le-ltb p depth (deep (u .all))) refl
     where
       deep : (used ≡ depth) ⊎ (used ≡ maxNodes) → depth ≤ p
       deep (inl e) = omega arith
       deep (inr e) = absurd (omega arith)
 
-  pub tidy-past : StackTidy m depth l → Zeros 0 stackSize (maxEdges * used) l
-  tidy-past t =
-      each-place maxEdges stackSize bytes-places (λ i. maxEdges * used ≤ i → getD l i 0 ≡ 0)
-      (λ p h j b w. let here : used ≤ p = omega arith in t p h j b (omega (arith, past p h here)))
-
-  pub tidy-stack : Zeros 0 stackSize (maxEdges * used) l → ((p : ℕ) → p < used → NodeZeros l p m) → StackTidy m depth l
-  tidy-stack z f p h = go (decLe used p)
-    where
-      go : Dec (used ≤ p) → NodeZeros l p (usedIn m depth p)
-      go (yes b) = λ j i w. z (maxEdges * p + j) (omega arith) (omega arith)
-      go (no b) = subst (λ (k : ℕ). NodeZeros l p k) (sym (rw (lt-ltb p depth (omega (arith, u .deep))) refl)) (f p (omega arith))
-
--- what the nodes carry likewise: the nodes in use past n, and all that is past them
-module _ (n depth used : ℕ) (e : List ℤ) (u : InUse depth used) where
   pub carried-nodes : CarriedTidy n depth e → (p : ℕ) → p < used → Zeros (pos 0) maxVertices n (multipliersAt maxVertices e p)
   carried-nodes t p h =
       subst (λ (k : ℕ). Zeros (pos 0) maxVertices k (multipliersAt maxVertices e p)) (rw (lt-ltb p depth (omega (arith, u .deep))) refl)
@@ -104,7 +86,7 @@ module _ (n depth used : ℕ) (e : List ℤ) (u : InUse depth used) where
       each-place maxVertices carriedSize carried-places (λ i. maxVertices * used ≤ i → getD e i (pos 0) ≡ pos 0)
       (λ p h j b w.
       let here : used ≤ p = omega arith in
-      sym (multipliers-at maxVertices e p j b) ∙ t p h j b (omega (arith, past n depth used [] u p h here)))
+      sym (multipliers-at maxVertices e p j b) ∙ t p h j b (omega (arith, past p h here)))
 
   pub carried-whole : Zeros (pos 0) carriedSize (maxVertices * used) e
       → ((p : ℕ) → p < used → Zeros (pos 0) maxVertices n (multipliersAt maxVertices e p)) → CarriedTidy n depth e
@@ -163,7 +145,7 @@ module _ (s : Search) where
   tidy-fields t = record { graph = t .graph; multipliers = t .multipliers; best = t .best }
 
   pub tidy-whole : FieldsTidy (s .graph) (s .multipliers) (hasTour s) (s .best)
-      → StackTidy (s .graph .m) (s .depth) (s .stack) → CarriedTidy (s .graph .n) (s .depth) (s .carried) → Tidy s
+      → StackTidy (s .depth) (s .stack) → CarriedTidy (s .graph .n) (s .depth) (s .carried) → Tidy s
   tidy-whole t l e = record { graph = t .graph; multipliers = t .multipliers; stack = l; carried = e; best = t .best }
 
   pub fits-fields : Fits s → Fitting s

@@ -8,21 +8,23 @@ use native.Mathlib.Omega.{arith}
 use native.Mathlib.Decide.{decLe}
 use lib.ListN.{length, getD, replicate, List·getD-eq-default}
 use lib.IntN.{ℤ, pos}
+use mir.Syntax.{w64}
+use mir.Val as words
 use borrow.Author.Tests.{lt-ltb, le-ltb, eqb-true}
 use Rattle.lists.specs.Bools.{bit}
 use Rattle.lists.specs.Fill.{fit, fit-at, fit-fill, fit-cut, replicate-at, replicate-is}
 use Rattle.graph.specs.Limits.{maxVertices, maxEdges}
-use Rattle.graph.specs.Network.{free}
 use Rattle.graph.specs.Edgeless.{edgeless}
-use Rattle.machine.specs.Machine.{Marks, Node, nodeOf, Progress, State, noSearch, searching}
+use Rattle.machine.specs.Machine.{Marks, Node, Progress, State, noSearch, searching}
 use Rattle.tree_theory.specs.Inputs.{multipliersFit}
 use Rattle.machine.specs.Requireds.{requireds}
 use Rattle.machine.specs.Calls.{fault}
 use Rattle.machine.specs.Trimmed.{Trim}
 use Rattle.machine.specs.Kept.{Kept, KeptState, depth-most}
-use Rattle.node.specs.Marks.{byteOf, byte-mark}
-use Rattle.search.specs.Record.{maxNodes, stackSize, carriedSize, fresh, nodeAt, cell, cells, marksAt, multipliersAt, nodes, byteAt, multiplierAt, stackBytes, carriedOf, bestOf, hasBest, bestBytes, isOpen, hasTour, openingIn, progressOf, decode, recordOf, encode}
-use Rattle.search.specs.Cells.{bytes-places, carried-places, cells-at, cells-is, each-place, marks-at, marks-past, multipliers-at, multipliers-size, nodes-size, nodes-at, nodes-back, nodes-of, node-waits, node-narrow, marks-back, multipliers-back, cell-past, carried-past, cell-small, cell-none}
+use Rattle.mark_rows.specs.MarkRows.{nodeWords, rowsOf, SixWords, RowsFit}
+use Rattle.mark_rows.specs.SixWords.{rows-fit, rows-again}
+use Rattle.search.specs.Record.{maxNodes, stackSize, carriedSize, fresh, nodeAt, cell, rowsAt, marksAt, multipliersAt, nodes, wordAt, multiplierAt, stackWords, carriedOf, bestOf, hasBest, bestBytes, isOpen, hasTour, openingIn, progressOf, decode, recordOf, encode}
+use Rattle.search.specs.Cells.{rows-places, carried-places, cells-at, cells-is, each-place, rows-at-size, rows-at, multipliers-at, multipliers-size, nodes-size, nodes-at, nodes-back, nodes-of, node-waits, node-narrow, rows-there, marks-back, multipliers-back, no-word, carried-past, cell-none}
 use Rattle.search.specs.Canonical.{Zeros, StackTidy, CarriedTidy, usedIn, Tidy, Idle, Fits, Flags, Stands, Canonical}
 use Rattle.search.specs.Accepted.{fits-range, range-fits, accepted-fault, fault-accepted}
 use Rattle.search.specs.Incumbents.{bit-back, byte-back, bit-small, flag-off, best-back, best-bits, best-zeros, best-sized, has-back, bytes-back}
@@ -42,9 +44,9 @@ module _ (s : Progress) (h : Kept s) where
   unfolding openingIn recordOf
   opening-back = λ i. record { graph = s .opening .graph; multipliers = opening-multipliers i; settings = s .opening .settings }
 
-  byte : (p : ℕ) → p < length (s .stack) → (j : ℕ) → j < s .opening .graph .m
-      → getD (stackBytes (s .stack)) (maxEdges * p + j) 0 ≡ cell byteAt (s .stack) p j
-  byte p b j c = cells-at maxEdges stackSize bytes-places byteAt 0 (s .stack) p j (omega (arith, depth-most s h)) (omega (arith, few))
+  word : (p : ℕ) → p < length (s .stack) → (j : ℕ) → j < nodeWords
+      → getD (stackWords (s .stack)) (nodeWords * p + j) 0 ≡ cell wordAt (s .stack) p j
+  word p b j c = cells-at nodeWords stackSize rows-places wordAt 0 (s .stack) p j (omega (arith, depth-most s h)) c
 
   number : (p : ℕ) → p < length (s .stack) → (j : ℕ) → j < s .opening .graph .n
       → getD (carriedOf (s .stack)) (maxVertices * p + j) (pos 0) ≡ cell multiplierAt (s .stack) p j
@@ -58,21 +60,17 @@ module _ (s : Progress) (h : Kept s) where
     opening = opening-back i;
     upper = s .upper;
     stack =
-        nodes-back (s .opening .graph .n) (s .opening .graph .m) (stackBytes (s .stack)) (carriedOf (s .stack)) (s .stack) (h .nodes) byte number i;
+        nodes-back (s .opening .graph .n) (s .opening .graph .m) (stackWords (s .stack)) (carriedOf (s .stack)) (s .stack) few (h .nodes) word number i;
     incumbent =
         (ap (λ (b : Bool). bestOf (s .opening .graph .m) b (bestBytes (s .incumbent))) (bit-back (hasBest (s .incumbent)))
         ∙ best-back (s .opening .graph .m) (s .incumbent) few (h .sized)) i;
     count = s .count;
   }
 
-  stack-tidy : StackTidy (s .opening .graph .m) (length (s .stack)) (stackBytes (s .stack))
-  stack-tidy p b j d c = cells-at maxEdges stackSize bytes-places byteAt 0 (s .stack) p j b d ∙ go (decLe (suc p) (length (s .stack))) c
-    where
-      go : Dec (p < length (s .stack)) → usedIn (s .opening .graph .m) (length (s .stack)) p ≤ j → cell byteAt (s .stack) p j ≡ 0
-      go (yes l) u =
-          let v : s .opening .graph .m ≤ j = (rw (lt-ltb p (length (s .stack)) l) at u) in
-          cell-past (s .stack) p j (omega (arith, node-narrow (s .opening .graph .n) (s .opening .graph .m) (s .stack) (h .nodes) p .0))
-      go (no l) u = cell-none byteAt (s .stack) p j (omega arith)
+  stack-tidy : StackTidy (length (s .stack)) (stackWords (s .stack))
+  stack-tidy =
+      each-place nodeWords stackSize rows-places (λ i. nodeWords * length (s .stack) ≤ i → getD (stackWords (s .stack)) i 0 ≡ 0)
+      (λ p b j c u. cells-at nodeWords stackSize rows-places wordAt 0 (s .stack) p j b c ∙ no-word (s .stack) p j (omega arith))
 
   carried-tidy : CarriedTidy (s .opening .graph .n) (length (s .stack)) (carriedOf (s .stack))
   carried-tidy p b j d c =
@@ -112,9 +110,10 @@ module _ (s : Progress) (h : Kept s) where
     upper = range-fits (s .upper) (h .upper);
     depth = h .depth;
     stack = λ p b. let f = node-waits (s .opening .graph .n) (s .opening .graph .m) (s .stack) (h .nodes) p b in (
-      (λ j c. subst (λ (k : ℕ). k ≤ 2) (sym (byte p b j c)) (cell-small (s .stack) p j)),
+      subst (RowsFit (s .opening .graph .m)) (sym (rows-there (stackWords (s .stack)) (s .stack) p (word p b)))
+          (rows-fit (s .opening .graph .m) (nodeAt (s .stack) p .marks) few (f .long)),
       subst (λ (x : Marks). p ≤ requireds x)
-          (sym (marks-back (s .opening .graph .m) (stackBytes (s .stack)) (s .stack) p (f .long) (byte p b))) (f .required),
+          (sym (marks-back (s .opening .graph .m) (stackWords (s .stack)) (s .stack) p few (f .long) (word p b))) (f .required),
     );
     carried = λ p b. let f = node-waits (s .opening .graph .n) (s .opening .graph .m) (s .stack) (h .nodes) p b in
         ap multipliersFit
@@ -136,7 +135,7 @@ fresh-canonical = record {
       mark = λ i b c. replicate-at {A = ℕ} maxEdges 0 i;
     };
     multipliers = λ i b c. replicate-at {A = ℤ} maxVertices (pos 0) i;
-    stack = λ p b j d c. replicate-at {A = ℕ} stackSize 0 (maxEdges * p + j);
+    stack = λ i b c. replicate-at {A = ℕ} stackSize 0 i;
     carried = λ p b j d c.
         multipliers-at maxVertices (replicate carriedSize (pos 0)) p j d ∙ replicate-at {A = ℤ} carriedSize (pos 0) (maxVertices * p + j);
     best = λ i b c. replicate-at {A = ℕ} maxEdges 0 i;
@@ -170,7 +169,7 @@ decode-encode (searching s) h = ap searching (progress-back s h)
 
 -- ---- from a record
 
--- the lengths of a record's arrays, which its type gives
+-- the lengths of a record's arrays, and that the stack's words have 64 bits, which its type gives
 pub record Typed (r : Search) : Type 0 where
   pub a : length (r .graph .a) ≡ maxEdges
   pub b : length (r .graph .b) ≡ maxEdges
@@ -179,6 +178,7 @@ pub record Typed (r : Search) : Type 0 where
   pub multipliers : length (r .multipliers) ≡ maxVertices
   pub carried : length (r .carried) ≡ carriedSize
   pub stack : length (r .stack) ≡ stackSize
+  pub words : (i : ℕ) → words.Fits w64 (getD (r .stack) i 0)
   pub best : length (r .best) ≡ maxEdges
 
 -- zero up to the end is zero for good
@@ -209,42 +209,60 @@ module _ (r : Search) (t : Typed r) (f : Flags r) (u : Tidy r) where
     depth = sym (d .depth) i;
     carried = replicate-is carriedSize (pos 0) (r .carried) (t .carried)
         (each-place maxVertices carriedSize carried-places (λ k. getD (r .carried) k (pos 0) ≡ pos 0) nothing) i;
-    stack = replicate-is stackSize 0 (r .stack) (t .stack) (each-place maxEdges stackSize bytes-places (λ k. getD (r .stack) k 0 ≡ 0) none) i;
+    stack = replicate-is stackSize 0 (r .stack) (t .stack) (λ k b. u .stack k b (omega (arith, d .depth))) i;
     «has_best» = sym (flag-off (r .«has_best») (f .best) (d .best)) i;
     best = replicate-is maxEdges 0 (r .best) (t .best) (λ k b. u .best k b (rw (d .best) (omega arith))) i;
     count = sym (d .count) i;
   }
     where
-      none : (p : ℕ) → p < maxNodes → (j : ℕ) → j < maxEdges → getD (r .stack) (maxEdges * p + j) 0 ≡ 0
-      none p b j c = u .stack p b j c (rw (le-ltb p (r .depth) (omega (arith, d .depth))) (omega arith))
-
       nothing : (p : ℕ) → p < maxNodes → (j : ℕ) → j < maxVertices → getD (r .carried) (maxVertices * p + j) (pos 0) ≡ pos 0
       nothing p b j c =
           sym (multipliers-at maxVertices (r .carried) p j c)
           ∙ u .carried p b j c (rw (le-ltb p (r .depth) (omega (arith, d .depth))) (omega arith))
 
   module _ (w : Fits r) where
-    cell-back : (p : ℕ) → p < maxNodes → (j : ℕ) → j < maxEdges
-        → cell byteAt (nodes (r .graph .n) (r .graph .m) (r .stack) (r .carried) (r .depth)) p j ≡ getD (r .stack) (maxEdges * p + j) 0
-    unfolding cell
-    cell-back p b j c = go (decLe (suc p) (r .depth)) (decLe (suc j) (r .graph .m))
-      where
-        here : p < r .depth → byteAt (nodeAt (nodes (r .graph .n) (r .graph .m) (r .stack) (r .carried) (r .depth)) p) j
-            ≡ byteOf (getD (marksAt (r .graph .m) (r .stack) p) j free)
-        here d = ap (λ (x : Node). byteAt x j) (nodes-at (r .graph .n) (r .graph .m) (r .stack) (r .carried) (r .depth) p d)
+    trim : Trim (r .graph)
+    trim = record {
+      a = t .a;
+      b = t .b;
+      cost = t .cost;
+      mark = t .mark;
+      clear = record {
+        a = zeros-past 0 maxEdges (r .graph .m) (r .graph .a) (t .a) (u .graph .a);
+        b = zeros-past 0 maxEdges (r .graph .m) (r .graph .b) (t .b) (u .graph .b);
+        cost = zeros-past (pos 0) maxEdges (r .graph .m) (r .graph .cost) (t .cost) (u .graph .cost);
+        mark = zeros-past 0 maxEdges (r .graph .m) (r .graph .mark) (t .mark) (u .graph .mark);
+      };
+    }
 
-        go : Dec (p < r .depth) → Dec (j < r .graph .m)
-            → byteAt (nodeAt (nodes (r .graph .n) (r .graph .m) (r .stack) (r .carried) (r .depth)) p) j ≡ getD (r .stack) (maxEdges * p + j) 0
-        go (yes d) (yes e) =
-            here d ∙ ap byteOf (marks-at (r .graph .m) (r .stack) p j e)
-            ∙ byte-mark (getD (r .stack) (maxEdges * p + j) 0) (w .stack p d .0 j e)
-        go (yes d) (no e) =
-            here d ∙ ap byteOf (marks-past (r .graph .m) (r .stack) p j (omega arith))
-            ∙ sym (u .stack p b j c (rw (lt-ltb p (r .depth) d) (omega arith)))
-        go (no d) e =
-            cell-none byteAt (nodes (r .graph .n) (r .graph .m) (r .stack) (r .carried) (r .depth)) p j
+    -- node p's words, whose marks have them back
+    six : (p : ℕ) → SixWords (rowsAt (r .stack) p)
+    six p = record {
+      size = rows-at-size (r .stack) p;
+      small = λ j h. rw (rows-at (r .stack) p j h) (t .words (nodeWords * p + j) .fits);
+    }
+
+    valid-few : r .graph .m ≤ maxEdges
+    unfolding openingIn
+    valid-few = fault-accepted (openingIn r) (unfold openingIn in trim) (w .opening) .valid .few
+
+    cell-back : (p : ℕ) → p < maxNodes → (j : ℕ) → j < nodeWords
+        → cell wordAt (nodes (r .graph .n) (r .graph .m) (r .stack) (r .carried) (r .depth)) p j ≡ getD (r .stack) (nodeWords * p + j) 0
+    unfolding cell marksAt
+    cell-back p b j c = go (decLe (suc p) (r .depth))
+      where
+        here : p < r .depth → rowsOf (nodeAt (nodes (r .graph .n) (r .graph .m) (r .stack) (r .carried) (r .depth)) p .marks) ≡ rowsAt (r .stack) p
+        here d =
+            ap (λ (x : Node). rowsOf (x .marks)) (nodes-at (r .graph .n) (r .graph .m) (r .stack) (r .carried) (r .depth) p d)
+            ∙ rows-again (r .graph .m) (rowsAt (r .stack) p) valid-few (six p) (w .stack p d .0)
+
+        go : Dec (p < r .depth)
+            → wordAt (nodeAt (nodes (r .graph .n) (r .graph .m) (r .stack) (r .carried) (r .depth)) p) j ≡ getD (r .stack) (nodeWords * p + j) 0
+        go (yes d) = ap (λ (l : List ℕ). getD l j 0) (here d) ∙ rows-at (r .stack) p j c
+        go (no d) =
+            no-word (nodes (r .graph .n) (r .graph .m) (r .stack) (r .carried) (r .depth)) p j
             (omega (arith, nodes-size (r .graph .n) (r .graph .m) (r .stack) (r .carried) (r .depth)))
-            ∙ sym (u .stack p b j c (rw (le-ltb p (r .depth) (omega arith)) (omega arith)))
+            ∙ sym (u .stack (nodeWords * p + j) (omega arith) (omega arith))
 
     carried-back : (p : ℕ) → p < maxNodes → (j : ℕ) → j < maxVertices
         → cell multiplierAt (nodes (r .graph .n) (r .graph .m) (r .stack) (r .carried) (r .depth)) p j ≡ getD (r .carried) (maxVertices * p + j) (pos 0)
@@ -286,25 +304,11 @@ module _ (r : Search) (t : Typed r) (f : Flags r) (u : Tidy r) where
           cells-is maxVertices carriedSize carried-places multiplierAt (pos 0)
           (nodes (r .graph .n) (r .graph .m) (r .stack) (r .carried) (r .depth)) (r .carried) (t .carried) carried-back i;
       stack =
-          cells-is maxEdges stackSize bytes-places byteAt 0 (nodes (r .graph .n) (r .graph .m) (r .stack) (r .carried) (r .depth)) (r .stack)
+          cells-is nodeWords stackSize rows-places wordAt 0 (nodes (r .graph .n) (r .graph .m) (r .stack) (r .carried) (r .depth)) (r .stack)
           (t .stack) cell-back i;
       «has_best» = (ap bit (has-back (r .graph .m) (hasTour r) (r .best)) ∙ byte-back (r .«has_best») (f .best)) i;
       best = bytes-back (r .graph .m) (hasTour r) (r .best) (t .best) (w .best) (u .best) i;
       count = r .count;
-    }
-
-    trim : Trim (r .graph)
-    trim = record {
-      a = t .a;
-      b = t .b;
-      cost = t .cost;
-      mark = t .mark;
-      clear = record {
-        a = zeros-past 0 maxEdges (r .graph .m) (r .graph .a) (t .a) (u .graph .a);
-        b = zeros-past 0 maxEdges (r .graph .m) (r .graph .b) (t .b) (u .graph .b);
-        cost = zeros-past (pos 0) maxEdges (r .graph .m) (r .graph .cost) (t .cost) (u .graph .cost);
-        mark = zeros-past 0 maxEdges (r .graph .m) (r .graph .mark) (t .mark) (u .graph .mark);
-      };
     }
 
     open-kept : Kept (progressOf r)

@@ -9,7 +9,7 @@ pub mod Theorem
 pub mod Stored
 pub mod Refusals
 -- What follows is proved, or says what code knows.
--- bytes and what they stand for, both ways
+-- words and bytes, and what they stand for, both ways
 pub mod Cells
 pub mod Incumbents
 pub mod Pushing
@@ -18,6 +18,7 @@ pub mod Inverse
 pub mod Accepted
 pub mod CheckLoops
 pub mod CheckParts
+pub mod CheckRows
 -- an opening
 pub mod Trimming
 pub mod Begun

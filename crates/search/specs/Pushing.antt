@@ -1,29 +1,24 @@
--- Nodes go on the stack and come off it: what storing the places of node p makes of a stack's cells, of its bytes and of what its nodes
+-- Nodes go on the stack and come off it: what storing the places of node p makes of a stack's cells, of its words and of what its nodes
 -- carry. Assumes nothing.
 use mathlib.Core.Path.{_≡_, refl, sym, ap, _∙_, subst}
 use mathlib.Core.Logic.{_≢_, _⊎_, inl, inr}
 use mathlib.Core.List.{List, _∷_}
-use Prim.Native.Nat.{ℕ, suc, _+_, _*_, _≤_, _<_}
+use Prim.Native.Nat.{ℕ, _+_, _*_, _≤_, _<_}
 use native.Mathlib.Omega.{arith}
-use native.Mathlib.Decide.{decLe, ℕ-discrete}
+use native.Mathlib.Decide.{ℕ-discrete}
 use lib.ListN.{length, getD, set, length-set, replicate}
 use lib.Seq.{getD-set-same, getD-set-other}
 use lib.IntN.{ℤ, pos}
-use Rattle.lists.specs.Fill.{fill, fill-same, fit, fit-at, replicate-at}
-use Rattle.graph.specs.Limits.{maxVertices, maxEdges}
-use Rattle.graph.specs.Network.{free}
-use Rattle.machine.specs.Machine.{Marks, Node}
-use Rattle.node.specs.Marks.{byteOf, bytesOf, bytes-at}
+use Rattle.lists.specs.Fill.{fill-same, fit, fit-at, replicate-at}
+use Rattle.graph.specs.Limits.{maxVertices}
+use Rattle.machine.specs.Machine.{Node}
+use Rattle.mark_rows.specs.MarkRows.{nodeWords, rowsOf}
+use Rattle.mark_rows.specs.Building.{no-bits}
 use Rattle.node.specs.Opened.{places}
-use Rattle.search.specs.Record.{maxNodes, stackSize, carriedSize, multipliersAt, noNode, cell, cells, byteAt, multiplierAt, stackBytes, carriedOf}
-use Rattle.search.specs.Cells.{Layout, bytes-places, carried-places, cell-top, cell-lower, cell-none, cells-at, cells-size, cells-is}
+use Rattle.search.specs.Record.{maxNodes, stackSize, carriedSize, rowsAt, multipliersAt, noNode, nodeAt, cell, cells, wordAt, multiplierAt, stackWords, carriedOf}
+use Rattle.search.specs.Cells.{Layout, rows-places, carried-places, cell-top, cell-lower, cell-none, cells-at, cells-size, cells-is, rows-there, top-node}
 
 -- ---- the places of one node
-
--- the bytes of node p
-unfoldable pub rowAt : List ℕ → ℕ → List ℕ
-unfolding fill
-rowAt l p = fill maxEdges (λ j. getD l (maxEdges * p + j) 0)
 
 -- the first k of x stand from place `at` on, and at the other places what l has
 pub record Put {A : Type 0} (z : A) (at k : ℕ) (x l l′ : List A) : Type 0 where
@@ -57,9 +52,9 @@ module _ {A : Type 0} (z : A) (at : ℕ) (x l : List A) where
   pub put-to : (k m : ℕ) (l′ : List A) → k ≡ m → Put z at k x l l′ → Put z at m x l l′
   put-to k m l′ e h = subst (λ (i : ℕ). Put z at i x l l′) e h
 
--- the bytes of node p, and what it carries
-abbrev pub PutBytes : ℕ → List ℕ → List ℕ → List ℕ → Type 0
-PutBytes p x l l′ = Put 0 (maxEdges * p) maxEdges x l l′
+-- the words of node p, and what it carries
+abbrev pub PutRows : ℕ → List ℕ → List ℕ → List ℕ → Type 0
+PutRows p x l l′ = Put 0 (nodeWords * p) nodeWords x l l′
 
 abbrev pub PutCarried : ℕ → List ℤ → List ℤ → List ℤ → Type 0
 PutCarried p d e e′ = Put (pos 0) (maxVertices * p) maxVertices d e e′
@@ -111,28 +106,27 @@ module _ {A : Type 0} (w size : ℕ) (lay : Layout w size) (v : Node → ℕ →
     pop : (x : Node) → ((j : ℕ) → j < w → getD y j z ≡ v noNode j) → l ≡ cells w size v (x ∷ rest) → l′ ≡ cells w size v rest
     pop x at e = stored-off p y l l′ (ap length e ∙ cells-size w size lay v (x ∷ rest)) h rest n (below-top x rest l p e n) at
 
--- ---- the bytes of the marks
+-- ---- the words of the marks
 
 -- the top node is read
-pub row-top : (x : Node) (rest : List Node) (l : List ℕ) (p : ℕ) → l ≡ stackBytes (x ∷ rest) → length rest ≡ p → p < maxNodes
-    → rowAt l p ≡ bytesOf (x .marks)
-unfolding rowAt bytesOf
-row-top x rest l p e n b =
-    fill-same maxEdges (λ j. getD l (maxEdges * p + j) 0) (λ j. byteAt x j)
+pub rows-top : (x : Node) (rest : List Node) (l : List ℕ) (p : ℕ) → l ≡ stackWords (x ∷ rest) → length rest ≡ p → p < maxNodes
+    → rowsAt l p ≡ rowsOf (x .marks)
+rows-top x rest l p e n b =
+    rows-there l (x ∷ rest) p
     (λ j h.
-    ap (λ (y : List ℕ). getD y (maxEdges * p + j) 0) e
-    ∙ cells-at maxEdges stackSize bytes-places byteAt 0 (x ∷ rest) p j b h
-    ∙ cell-top byteAt x rest p j n)
+    ap (λ (y : List ℕ). getD y (nodeWords * p + j) 0) e ∙ cells-at nodeWords stackSize rows-places wordAt 0 (x ∷ rest) p j b h)
+    ∙ ap (λ (y : Node). rowsOf (y .marks)) (subst (λ (q : ℕ). nodeAt (x ∷ rest) q ≡ x) n (top-node x rest))
 
 module _ (p : ℕ) (l l′ : List ℕ) (rest : List Node) (n : length rest ≡ p) where
-  pub pushed : (x : Node) → l ≡ stackBytes rest → PutBytes p (bytesOf (x .marks)) l l′ → l′ ≡ stackBytes (x ∷ rest)
-  pushed x e h = push maxEdges stackSize bytes-places byteAt 0 p _ l l′ rest n h x (λ j b. bytes-at (x .marks) j b) e
+  pub pushed : (x : Node) → l ≡ stackWords rest → PutRows p (rowsOf (x .marks)) l l′ → l′ ≡ stackWords (x ∷ rest)
+  pushed x e h = push nodeWords stackSize rows-places wordAt 0 p _ l l′ rest n h x (λ j b. refl) e
 
-  pub replaced : (x y : Node) → l ≡ stackBytes (x ∷ rest) → PutBytes p (bytesOf (y .marks)) l l′ → l′ ≡ stackBytes (y ∷ rest)
-  replaced x y e h = replace maxEdges stackSize bytes-places byteAt 0 p _ l l′ rest n h x y (λ j b. bytes-at (y .marks) j b) e
+  pub replaced : (x y : Node) → l ≡ stackWords (x ∷ rest) → PutRows p (rowsOf (y .marks)) l l′ → l′ ≡ stackWords (y ∷ rest)
+  replaced x y e h = replace nodeWords stackSize rows-places wordAt 0 p _ l l′ rest n h x y (λ j b. refl) e
 
-  pub popped : (x : Node) → l ≡ stackBytes (x ∷ rest) → PutBytes p (replicate maxEdges 0) l l′ → l′ ≡ stackBytes rest
-  popped x e h = pop maxEdges stackSize bytes-places byteAt 0 p _ l l′ rest n h x (λ j b. replicate-at {A = ℕ} maxEdges 0 j) e
+  pub popped : (x : Node) → l ≡ stackWords (x ∷ rest) → PutRows p (replicate nodeWords 0) l l′ → l′ ≡ stackWords rest
+  popped x e h =
+      pop nodeWords stackSize rows-places wordAt 0 p _ l l′ rest n h x (λ j b. replicate-at {A = ℕ} nodeWords 0 j ∙ sym (no-bits j)) e
 
 -- ---- what the nodes carry
 

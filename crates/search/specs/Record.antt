@@ -10,20 +10,20 @@ use Rattle.lists.specs.Bools.{bit}
 use Rattle.lists.specs.Fill.{fill, fit}
 use Rattle.graph.specs.declared.Graph.{Graph}
 use Rattle.graph.specs.Limits.{maxVertices, maxEdges}
-use Rattle.graph.specs.Network.{free, markOf}
 use Rattle.graph.specs.Edgeless.{edgeless}
 use Rattle.machine.specs.declared.Settings.{Settings}
 use Rattle.machine.specs.Outcomes.{Incumbent, noTour, aTour}
 use Rattle.machine.specs.Machine.{Marks, Node, nodeOf, Opening, Progress, State, noSearch, searching}
-use Rattle.node.specs.Marks.{byteOf, bytesOfTour}
+use Rattle.mark_rows.specs.MarkRows.{nodeWords, rowsOf, marksInRows}
+use Rattle.node.specs.Marks.{bytesOfTour}
 use Rattle.search.specs.declared.Search.{Search}
 
--- a stack has room for 22 nodes, 190 bytes and 20 multipliers each: a search never has more than n + 2 waiting
+-- a stack has room for 22 nodes, six words and 20 multipliers each: a search never has more than n + 2 waiting
 abbrev pub maxNodes : ℕ
 maxNodes = 22
 
 abbrev pub stackSize : ℕ
-stackSize = 4180
+stackSize = 132
 
 abbrev pub carriedSize : ℕ
 carriedSize = 440
@@ -39,22 +39,29 @@ fresh =
       settings = noSettings;
       upper = pos 0;
       count = 0;
+      stack = replicate stackSize 0;
       depth = 0;
       graph = edgeless 0;
       multipliers = replicate maxVertices (pos 0);
       carried = replicate carriedSize (pos 0);
-      stack = replicate stackSize 0;
       best = replicate maxEdges 0;
       «open» = 0;
       «has_best» = 0;
     }
 
--- ---- the stack: node p, counted from 0 at the bottom, has the mark of edge j + 1 at place 190 · p + j of the stack's bytes, and its
--- multiplier of vertex j + 1 at place 20 · p + j of what the nodes carry
+-- ---- the stack: node p, counted from 0 at the bottom, has six words from place 6 · p of the stack's words on, and its multiplier of
+-- vertex j + 1 at place 20 · p + j of what the nodes carry. Document 02, C-19: "store a node's required legs in one row of 64-bit words and
+-- its struck legs in another": three words of the one row, then three of the other (crate mark_rows)
 
--- the marks of node p in a stack's bytes
+-- the words of node p
+unfoldable pub rowsAt : List ℕ → ℕ → List ℕ
+unfolding fill
+rowsAt l p = fill nodeWords (λ j. getD l (nodeWords * p + j) 0)
+
+-- its marks
 unfoldable pub marksAt : ℕ → List ℕ → ℕ → Marks
-marksAt m l p = fill m (λ j. markOf (getD l (maxEdges * p + j) 0))
+unfolding marksInRows rowsAt
+marksAt m l p = marksInRows m (rowsAt l p)
 
 -- and its multipliers
 unfoldable pub multipliersAt : ℕ → List ℤ → ℕ → List ℤ
@@ -82,16 +89,16 @@ cell v st p j = v (nodeAt st p) j
 unfoldable pub cells : {A : Type 0} → ℕ → ℕ → (Node → ℕ → A) → List Node → List A
 cells w size v st = fill size (λ i. cell v st (i / w) (i % w))
 
--- the byte for edge j + 1, and the multiplier of vertex j + 1; 0 where there is none
-abbrev pub byteAt : Node → ℕ → ℕ
-byteAt x j = byteOf (getD (x .marks) j free)
+-- word j of its rows, and the multiplier of vertex j + 1; 0 where there is none
+abbrev pub wordAt : Node → ℕ → ℕ
+wordAt x j = getD (rowsOf (x .marks)) j 0
 
 abbrev pub multiplierAt : Node → ℕ → ℤ
 multiplierAt x j = getD (x .multipliers) j (pos 0)
 
--- a stack's bytes, and what its nodes carry
-abbrev pub stackBytes : List Node → List ℕ
-stackBytes st = cells maxEdges stackSize byteAt st
+-- a stack's words, and what its nodes carry
+abbrev pub stackWords : List Node → List ℕ
+stackWords st = cells nodeWords stackSize wordAt st
 
 abbrev pub carriedOf : List Node → List ℤ
 carriedOf st = cells maxVertices carriedSize multiplierAt st
@@ -153,11 +160,11 @@ recordOf s =
       settings = s .opening .settings;
       upper = s .upper;
       count = s .count;
+      stack = stackWords (s .stack);
       depth = length (s .stack);
       graph = s .opening .graph;
       multipliers = fit maxVertices (pos 0) (s .opening .multipliers);
       carried = carriedOf (s .stack);
-      stack = stackBytes (s .stack);
       best = bestBytes (s .incumbent);
       «open» = 1;
       «has_best» = bit (hasBest (s .incumbent));

@@ -19,6 +19,7 @@ use graph::MAX_EDGES;
 use graph::MAX_VERTICES;
 use graph::wide;
 use machine::Settings;
+use node::NODE_WORDS;
 use record::sound;
 use running::Frame;
 use running::run_frame;
@@ -27,28 +28,29 @@ use shown::show_tour;
 // As specs/Limits.antt of crate graph has it.
 pub const MAX_COUNT: u64 = 9_223_372_036_854_775_807;
 
-// Room for the nodes that wait, a byte for each edge: a search never has more than n + 2 of them.
+// Room for the nodes that wait, six words each: a search never has more than n + 2 of them.
 pub const MAX_NODES: usize = MAX_VERTICES + 2;
 
-pub const STACK_SIZE: usize = MAX_EDGES * MAX_NODES;
+pub const STACK_SIZE: usize = NODE_WORDS * MAX_NODES;
 
 // And for the multipliers that they carry, one for each vertex.
 pub const CARRIED_SIZE: usize = MAX_VERTICES * MAX_NODES;
 
-// The search record. Where a search is open: the arguments of its opening, the upper bound, the stack (node p from the bottom has
-// a mark for each edge from place MAX_EDGES * p on, and carries a multiplier for each vertex from place MAX_VERTICES * p on), the incumbent (1 in, 0 out) and the count of nodes opened. The flags `open` and `has_best`
-// are bytes, 1 yes and 0 no. The fields stand by width, so that no byte lies between them. docs/RECORD.md states the check that every
-// call makes of it.
+// The search record. Where a search is open: the arguments of its opening, the upper bound, the count of nodes opened, the stack (node p
+// from the bottom has six words from place NODE_WORDS * p on, three with a bit for each required edge and three with one for each excluded
+// edge, and carries a multiplier for each vertex from place MAX_VERTICES * p on), and the incumbent (1 in, 0 out). The flags `open` and
+// `has_best` are bytes, 1 yes and 0 no. The fields stand by width, so that no byte lies between them. docs/RECORD.md states the check that
+// every call makes of it.
 #[repr(C)]
 pub struct Search {
     pub settings: Settings,
     pub upper: i64,
     pub count: u64,
-    pub depth: usize,
+    pub stack: [u64; STACK_SIZE],
+    pub depth: u32,
     pub graph: Graph,
     pub multipliers: [i32; MAX_VERTICES],
     pub carried: [i32; CARRIED_SIZE],
-    pub stack: [u8; STACK_SIZE],
     pub best: [u8; MAX_EDGES],
     pub open: u8,
     pub has_best: u8,
@@ -91,11 +93,11 @@ impl Search {
             settings: settings,
             upper: 0,
             count: 0,
+            stack: [0; STACK_SIZE],
             depth: 0,
             graph: g,
             multipliers: [0; MAX_VERTICES],
             carried: [0; CARRIED_SIZE],
-            stack: [0; STACK_SIZE],
             best: [0; MAX_EDGES],
             open: 0,
             has_best: 0,
@@ -151,7 +153,7 @@ pub fn run_core(s: Search, budget: u64) -> Outcome
     let g = s.graph;
     let f = Frame {
         upper: s.upper,
-        depth: s.depth,
+        depth: s.depth as usize,
         has_best: s.has_best,
         count: s.count,
     };
@@ -172,7 +174,7 @@ pub fn run_core(s: Search, budget: u64) -> Outcome
     r.carried = carried;
     r.upper = t.upper;
     r.count = k;
-    r.depth = t.depth;
+    r.depth = t.depth as u32;
     r.has_best = t.has_best;
     if t.depth == 0 {
         return Outcome {

@@ -1,13 +1,17 @@
 // The record's own check, refusal 24: specs/Canonical.antt says what it asks, docs/RECORD.md says it in words.
 ghost use mathlib.Core.Path.{_≡_};
-ghost use Prim.Native.Nat.{_<_, _≤_};
+ghost use Prim.Native.Nat.{_-_, _*_, _^_, _<_, _≤_};
+ghost use lib.Count.{ones};
 ghost use lib.Dec.{eqb};
 ghost use lib.IntN.{pos};
 ghost use Rattle.lists.specs.Bools.{Says};
 ghost use Rattle.graph.specs.Limits.{maxVertices, maxEdges};
 ghost use Rattle.machine.specs.Calls.{fault};
+ghost use Rattle.bits.specs.Rows.{rowOnes};
+ghost use Rattle.mark_rows.specs.MarkRows.{rowWords, requiredIn};
+ghost use Rattle.mark_rows.specs.SixWords.{WordsFit};
 ghost use Rattle.search.specs.Record.{maxNodes, stackSize, carriedSize, noSettings};
-ghost use Rattle.search.specs.Canonical.{Zeros, GraphTidy, NodeZeros, StackTidy, CarriedTidy, NodeFits, StackFits, CarriedFits, Bits};
+ghost use Rattle.search.specs.Canonical.{Zeros, GraphTidy, CarriedTidy, NodeFits, StackFits, CarriedFits, Bits};
 ghost use Rattle.search.specs.CheckParts.{InUse, FieldsTidy, FieldsFit, FieldsIdle, openingWith};
 ghost use Rattle.search.specs.Check.{check};
 use crate::CARRIED_SIZE;
@@ -16,14 +20,19 @@ use crate::MAX_NODES;
 use crate::STACK_SIZE;
 use crate::Search;
 use crate::opening;
+use crate::stack::get;
 use crate::stack::get_carried;
-use graph::EXCLUDED;
 use graph::Graph;
 use graph::MAX_EDGES;
 use graph::MAX_VERTICES;
-use graph::REQUIRED;
 use graph::wide;
 use machine::Settings;
+use node::NODE_WORDS;
+
+// The words of one of a node's two rows, and the edges of a word.
+pub(crate) const ROW_WORDS: usize = NODE_WORDS / 2;
+
+pub(crate) const WORD_BITS: usize = 64;
 
 // Each loop over bytes keeps the greatest byte met and looks at it once, at the end: a loop with no way out in the middle takes many bytes
 // at a time.
@@ -90,25 +99,8 @@ fn graph_tidy(g: Graph) -> bool
     zeros(mark, m)
 }
 
-// Is every place of node p from `from` on zero?
-fn node_zeros(stack: &[u8; STACK_SIZE], p: usize, from: usize) -> bool
-    requires { ⌜ p < maxNodes ⌝ }
-    ensures { λ r. ⌜ Says r (NodeZeros (now (stack .entry)) p from) ⌝ }
-{
-    let mut most = 0;
-    let mut j = from;
-    while j < MAX_EDGES {
-        let x = stack[MAX_EDGES * p + j];
-        if x > most {
-            most = x;
-        }
-        j = j + 1;
-    }
-    most == 0
-}
-
-// Is every byte of the stack from `from` on zero?
-fn stack_zeros(stack: &[u8; STACK_SIZE], from: usize) -> bool
+// Is every word of the stack from `from` on zero?
+fn stack_zeros(stack: &[u64; STACK_SIZE], from: usize) -> bool
     ensures { λ r. ⌜ Says r (Zeros 0 stackSize from (now (stack .entry))) ⌝ }
 {
     let mut most = 0;
@@ -131,23 +123,6 @@ fn nodes_in_use(depth: usize) -> usize
         return depth;
     }
     MAX_NODES
-}
-
-fn stack_tidy(stack: &[u8; STACK_SIZE], m: usize, depth: usize) -> bool
-    ensures { λ r. ⌜ Says r (StackTidy m depth (now (stack .entry))) ⌝ }
-{
-    let used = nodes_in_use(depth);
-    if !stack_zeros(stack, MAX_EDGES * used) {
-        return false;
-    }
-    let mut p = 0;
-    while p < used {
-        if !node_zeros(stack, p, m) {
-            return false;
-        }
-        p = p + 1;
-    }
-    true
 }
 
 // Is what is carried zero from `from` on?
@@ -198,31 +173,83 @@ fn bits(a: [u8; MAX_EDGES]) -> bool
     most <= 1
 }
 
-// Has node p marks only, and at least p required edges?
-fn node_fits(stack: &[u8; STACK_SIZE], m: usize, p: usize) -> bool
+// Is every bit of x from bit `from` on clear?
+fn clear_from(x: u64, from: usize) -> bool
+    ensures { λ r. ⌜ Says r (x < 2 ^ from) ⌝ }
+{
+    if from >= WORD_BITS {
+        return true;
+    }
+    x >> from == 0
+}
+
+// How many of the m edges are those of word i of a row, and of the words after it?
+fn edges_from(m: usize, i: usize) -> usize
+    requires { ⌜ i < rowWords ⌝ }
+    ensures { λ r. ⌜ r ≡ m - 64 * i ⌝ }
+{
+    if m < WORD_BITS * i {
+        return 0;
+    }
+    m - WORD_BITS * i
+}
+
+// Is no edge in both rows, and every bit past edge m clear? Word by word.
+fn rows_fit(rows: &[u64; NODE_WORDS], m: usize) -> bool
+    ensures { λ r. ⌜ Says r (WordsFit m (now (rows .entry))) ⌝ }
+{
+    let mut i = 0;
+    while i < ROW_WORDS {
+        let x = rows[i];
+        let y = rows[ROW_WORDS + i];
+        if x & y != 0 {
+            return false;
+        }
+        let from = edges_from(m, i);
+        if !clear_from(x, from) {
+            return false;
+        }
+        if !clear_from(y, from) {
+            return false;
+        }
+        i = i + 1;
+    }
+    true
+}
+
+// The set bits of a word.
+fn set_bits(x: u64) -> u32
+    ensures { λ r. ⌜ (r ≡ ones x) × (r ≤ 64) ⌝ }
+{
+    u64::count_ones(x)
+}
+
+// How many edges are required? The set bits of their row.
+fn required_edges(rows: &[u64; NODE_WORDS]) -> u32
+    ensures { λ r. ⌜ r ≡ rowOnes (requiredIn (now (rows .entry))) ⌝ }
+{
+    let mut n: u32 = 0;
+    let mut i = 0;
+    while i < ROW_WORDS {
+        n = n + set_bits(rows[i]);
+        i = i + 1;
+    }
+    n
+}
+
+// Has node p two rows as they should be, and at least p required edges?
+fn node_fits(stack: &[u64; STACK_SIZE], m: usize, p: usize) -> bool
     requires { ⌜ (m ≤ maxEdges) × (p < maxNodes) ⌝ }
     ensures { λ r. ⌜ Says r (NodeFits m (now (stack .entry)) p) ⌝ }
 {
-    let mut most = 0;
-    let mut requireds: u8 = 0;
-    let mut j = 0;
-    while j < m {
-        let x = stack[MAX_EDGES * p + j];
-        if x > most {
-            most = x;
-        }
-        if x == REQUIRED {
-            requireds = requireds + 1;
-        }
-        j = j + 1;
-    }
-    if most > EXCLUDED {
+    let rows = get(stack, p);
+    if !rows_fit(&rows, m) {
         return false;
     }
-    p <= requireds as usize
+    p <= required_edges(&rows) as usize
 }
 
-fn stack_fits(stack: &[u8; STACK_SIZE], m: usize, depth: usize) -> bool
+fn stack_fits(stack: &[u64; STACK_SIZE], m: usize, depth: usize) -> bool
     requires { ⌜ (m ≤ maxEdges) × (depth ≤ maxNodes) ⌝ }
     ensures { λ r. ⌜ Says r (StackFits m depth (now (stack .entry))) ⌝ }
 {
@@ -375,30 +402,25 @@ pub(crate) fn sound(s: Search) -> bool
     if !fields_tidy(g, d, s.has_best == 1, best) {
         return false;
     }
-    if !stack_tidy(&s.stack, m, s.depth) {
+    let depth = s.depth as usize;
+    let stack = s.stack;
+    if !stack_zeros(&stack, NODE_WORDS * depth) {
         return false;
     }
     let n = wide(g.n);
-    if !carried_tidy(&s.carried, n, s.depth) {
+    let carried = s.carried;
+    if !carried_tidy(&carried, n, depth) {
         return false;
     }
     let settings = s.settings;
     if s.open != 1 {
-        return idle(
-            g.n,
-            g.m,
-            settings,
-            s.upper,
-            s.depth,
-            s.has_best == 1,
-            s.count,
-        );
+        return idle(g.n, g.m, settings, s.upper, depth, s.has_best == 1, s.count);
     }
-    if !fields_fit(g, d, settings, s.upper, s.depth, best, s.count) {
+    if !fields_fit(g, d, settings, s.upper, depth, best, s.count) {
         return false;
     }
-    if !carried_fits(&s.carried, n, s.depth) {
+    if !carried_fits(&carried, n, depth) {
         return false;
     }
-    stack_fits(&s.stack, m, s.depth)
+    stack_fits(&stack, m, depth)
 }

@@ -1,15 +1,15 @@
 // Running: the top node is opened while one waits, budget is left and the count is below its limit. What changes is a small frame by
-// value beside the bytes of the stack and of the best tour and what the nodes carry, which are lent: nothing copies the record for a node.
+// value beside the stack's words, the best tour's bytes and what the nodes carry, which are lent: nothing copies the record for a node.
 ghost use mathlib.Core.Path.{_≡_};
 ghost use mathlib.Core.List.{List};
-ghost use Prim.Native.Nat.{_+_, _<_};
+ghost use Prim.Native.Nat.{ℕ, _+_, _-_, _<_};
 ghost use lib.IntN.{ℤ};
 ghost use lib.ListN.{length};
 ghost use Rattle.machine.specs.Machine.{Progress, openTop, ran};
 ghost use Rattle.node.specs.declared.Fate.the-variants as fates;
 ghost use Rattle.node.specs.Opened.{opened};
-ghost use Rattle.search.specs.Record.{maxNodes, carriedSize};
-ghost use Rattle.search.specs.Runs.Frames.{FrameHolds, Opens, CarriedBy};
+ghost use Rattle.search.specs.Record.{maxNodes, stackSize, carriedSize};
+ghost use Rattle.search.specs.Runs.Frames.{FrameHolds, Opens, PiledBy, CarriedBy};
 ghost use Rattle.search.specs.Runs.Running.{Runs};
 use crate::CARRIED_SIZE;
 use crate::STACK_SIZE;
@@ -24,6 +24,7 @@ use graph::MAX_VERTICES;
 use graph::wide;
 use machine::Settings;
 use node::Fate;
+use node::NODE_WORDS;
 use node::Subproblem;
 
 // What changes of a search while it runs, but for the stack and the best tour.
@@ -34,39 +35,35 @@ pub(crate) struct Frame {
     pub count: u64,
 }
 
-// What the opening of the top node makes of a search.
+// What the opening of the top node makes of a search, but for the stack.
 fn settle<'a>(
     m: usize,
     cost: &'a [i32; MAX_EDGES],
     f: Frame,
     fate: Fate,
-    row: &'a [u8; MAX_EDGES],
-    top: &'a [u8; MAX_EDGES],
-    stack: &mut [u8; STACK_SIZE],
+    tour: &'a [u8; MAX_EDGES],
     best: &mut [u8; MAX_EDGES],
 ) -> Frame
-    requires { ⌜ ((d : List ℤ) × Opens m (now cost) f (now stack) (now best) (opened fate (now row) (now top) d)) ⌝ }
-    ensures { λ r. ⌜ ((d : List ℤ) (t : Opens m (now (cost .entry)) f (now (stack .entry)) (now (best .entry))
-        (opened fate (now (row .entry)) (now (top .entry)) d))
-        → FrameHolds (t .graph) r (now (stack .exit)) (now (best .exit)) (openTop (t .search) (t .search .stack))) ⌝ }
+    requires { ⌜ ((l : List ℕ) × (y : List ℕ) × (u : List ℕ) × (d : List ℤ)
+        × Opens m (now cost) f l (now best) (opened fate y u (now tour) d)) ⌝ }
+    ensures { λ r. ⌜ ((l l′ y u : List ℕ) (d : List ℤ)
+        (t : Opens m (now (cost .entry)) f l (now (best .entry)) (opened fate y u (now (tour .entry)) d))
+        → PiledBy fate (f .depth - 1) y u l l′
+        → FrameHolds (t .graph) r l′ (now (best .exit)) (openTop (t .search) (t .search .stack))) ⌝ }
 {
     let p = f.depth - 1;
     let k = f.count + 1;
     match fate {
         // never: what a search opens has no fault
         Fate::Refused(_) => f,
-        Fate::Closes => {
-            put(stack, p, top);
-            Frame {
-                upper: f.upper,
-                depth: p,
-                has_best: f.has_best,
-                count: k,
-            }
-        }
+        Fate::Closes => Frame {
+            upper: f.upper,
+            depth: p,
+            has_best: f.has_best,
+            count: k,
+        },
         Fate::Finds => {
-            put(stack, p, top);
-            let u = keep(m, cost, f.has_best, row, best);
+            let u = keep(m, cost, f.has_best, tour, best);
             Frame {
                 upper: u,
                 depth: p,
@@ -74,15 +71,33 @@ fn settle<'a>(
                 count: k,
             }
         }
+        Fate::Splits => Frame {
+            upper: f.upper,
+            depth: p + 2,
+            has_best: f.has_best,
+            count: k,
+        },
+    }
+}
+
+// The words of the nodes once node p was opened: `rows` at its place, and where it splits `top` at its upper half's.
+fn pile<'a>(
+    fate: Fate,
+    p: usize,
+    rows: &'a [u64; NODE_WORDS],
+    top: &'a [u64; NODE_WORDS],
+    stack: &mut [u64; STACK_SIZE],
+)
+    requires { ⌜ (p < maxNodes) × (length (now stack) ≡ stackSize) × (fate ≡ fates.Splits → p + 1 < maxNodes) ⌝ }
+    ensures { λ _. ⌜ PiledBy fate p (now (rows .entry)) (now (top .entry)) (now (stack .entry)) (now (stack .exit)) ⌝ }
+{
+    put(stack, p, rows);
+    match fate {
+        Fate::Refused(_) => {}
+        Fate::Closes => {}
+        Fate::Finds => {}
         Fate::Splits => {
-            put(stack, p, row);
             put(stack, p + 1, top);
-            Frame {
-                upper: f.upper,
-                depth: p + 2,
-                has_best: f.has_best,
-                count: k,
-            }
         }
     }
 }
@@ -108,7 +123,7 @@ pub(crate) fn run_frame(
     g: Graph,
     settings: Settings,
     f: Frame,
-    stack: &mut [u8; STACK_SIZE],
+    stack: &mut [u64; STACK_SIZE],
     best: &mut [u8; MAX_EDGES],
     carried: &mut [i32; CARRIED_SIZE],
     budget: u64,
@@ -121,7 +136,8 @@ pub(crate) fn run_frame(
     let m = wide(g.m);
     let mut t = f;
     let mut left = budget;
-    let mut top = [0u8; MAX_EDGES];
+    let mut top = [0u64; NODE_WORDS];
+    let mut tour = [0u8; MAX_EDGES];
     let mut last = [0i32; MAX_VERTICES];
     while left > 0 {
         if t.depth == 0 {
@@ -131,7 +147,7 @@ pub(crate) fn run_frame(
             return t;
         }
         let at = t.depth - 1;
-        let mut row = get(stack, at);
+        let mut rows = get(stack, at);
         let d = get_carried(carried, at);
         let mut present = settings;
         present.ceiling = t.upper;
@@ -141,9 +157,19 @@ pub(crate) fn run_frame(
             multipliers: d,
             settings: present,
         };
-        let fate = node::open(p, &g.a, &g.b, &g.cost, &mut row, &mut top, &mut last);
+        let fate = node::open(
+            p,
+            &g.a,
+            &g.b,
+            &g.cost,
+            &mut rows,
+            &mut top,
+            &mut tour,
+            &mut last,
+        );
+        pile(fate, at, &rows, &top, stack);
         carry(fate, at, &last, carried);
-        t = settle(m, &g.cost, t, fate, &row, &top, stack, best);
+        t = settle(m, &g.cost, t, fate, &tour, best);
         left = left - 1;
     }
     t

@@ -1,38 +1,38 @@
-// The stack's bytes and what its nodes carry, lent to what works on them: node p from the bottom stands at MAX_EDGES * p, and at
+// The stack's words and what its nodes carry, lent to what works on them: node p from the bottom stands at NODE_WORDS * p, and at
 // MAX_VERTICES * p.
 ghost use mathlib.Core.Path.{_≡_};
 ghost use Prim.Native.Nat.{_<_};
 ghost use lib.ListN.{length};
 ghost use Rattle.graph.specs.Limits.{maxVertices};
-ghost use Rattle.search.specs.Record.{maxNodes, stackSize, carriedSize, multipliersAt};
-ghost use Rattle.search.specs.Pushing.{rowAt, PutBytes, PutCarried};
+ghost use Rattle.search.specs.Record.{maxNodes, stackSize, carriedSize, rowsAt, multipliersAt};
+ghost use Rattle.search.specs.Pushing.{PutRows, PutCarried};
 use crate::CARRIED_SIZE;
 use crate::STACK_SIZE;
-use graph::MAX_EDGES;
 use graph::MAX_VERTICES;
+use node::NODE_WORDS;
 
-// The bytes of node p.
-pub(crate) fn get(stack: &[u8; STACK_SIZE], p: usize) -> [u8; MAX_EDGES]
+// The words of node p.
+pub(crate) fn get(stack: &[u64; STACK_SIZE], p: usize) -> [u64; NODE_WORDS]
     requires { ⌜ p < maxNodes ⌝ }
-    ensures { λ r. ⌜ r ≡ rowAt (now (stack .entry)) p ⌝ }
+    ensures { λ r. ⌜ r ≡ rowsAt (now (stack .entry)) p ⌝ }
 {
-    let mut r = [0u8; MAX_EDGES];
+    let mut r = [0u64; NODE_WORDS];
     let mut j = 0;
-    while j < MAX_EDGES {
-        r[j] = stack[MAX_EDGES * p + j];
+    while j < NODE_WORDS {
+        r[j] = stack[NODE_WORDS * p + j];
         j = j + 1;
     }
     r
 }
 
-// The bytes x are stored as node p.
-pub(crate) fn put(stack: &mut [u8; STACK_SIZE], p: usize, x: &[u8; MAX_EDGES])
+// The words x are stored as node p.
+pub(crate) fn put(stack: &mut [u64; STACK_SIZE], p: usize, x: &[u64; NODE_WORDS])
     requires { ⌜ (p < maxNodes) × (length (now stack) ≡ stackSize) ⌝ }
-    ensures { λ _. ⌜ PutBytes p (now (x .entry)) (now (stack .entry)) (now (stack .exit)) ⌝ }
+    ensures { λ _. ⌜ PutRows p (now (x .entry)) (now (stack .entry)) (now (stack .exit)) ⌝ }
 {
     let mut j = 0;
-    while j < MAX_EDGES {
-        stack[MAX_EDGES * p + j] = x[j];
+    while j < NODE_WORDS {
+        stack[NODE_WORDS * p + j] = x[j];
         j = j + 1;
     }
 }

@@ -5,7 +5,6 @@ use borrow.Author.Needs.{needs}
 use lib.ListN.{length}
 use borrow.Author.Tests.{not-true, not-false, eq-eqb, ne-eqb}
 use Rattle.machine.specs.Machine.{Opening}
-use Rattle.machine.specs.Calls.{step}
 use Rattle.search.specs.Record.{openingOf}
 use Rattle.search.specs.Check.{check}
 use Rattle.search.specs.Inverse.{Typed}
@@ -21,13 +20,13 @@ asked c = openingOf (c .args .g) (c .args .multipliers .now) (c .args .settings)
 
 -- the arrays of the record have the lengths of their types
 own : (c : tie.Start)
-    → (length (c .args .s .multipliers) ≡ 20) × (length (c .args .s .carried) ≡ 440) × (length (c .args .s .stack) ≡ 4180)
+    → (length (c .args .s .multipliers) ≡ 20) × (length (c .args .s .carried) ≡ 440) × (length (c .args .s .stack) ≡ 132)
     × (length (c .args .s .best) ≡ 190)
-own c = let after-graph = c .good .0 .1 .1 .1 .1 .1 .1 .1 .1 in (search needs, search needs, search needs, search (needs, after-graph))
+own c = let after-graph = c .good .0 .1 .1 .1 .1 .1 .1 .1 .1 .1 in (search (needs, after-graph), search (needs, after-graph), search needs, search (needs, after-graph))
 
 typed : (c : tie.Start) → Typed (c .args .s)
 typed c =
-    let graph = c .good .0 .1 .1 .1 .1 .1 .1 .0 in
+    let graph = c .good .0 .1 .1 .1 .1 .1 .1 .1 .0 in
     let l = own c in
     record {
       a = search (needs, graph);
@@ -37,6 +36,7 @@ typed c =
       multipliers = l .0;
       carried = l .1;
       stack = l .2;
+      words = λ i. search needs;
       best = l .3;
     }
 

@@ -2,7 +2,8 @@
 -- again.
 use mathlib.Core.Path.{_≡_, sym, _∙_}
 use mathlib.Core.Bool.{true}
-use borrow.Author.Needs.{needs}
+use native.Mathlib.Omega.{arith}
+use borrow.Author.Needs.{needs, fits-under}
 use borrow.Author.Tests.{not-true, not-false, eq-eqb, ne-eqb}
 use mir.Val.{toZ, ofZ}
 use mir.Syntax.{w64}
@@ -15,7 +16,7 @@ use Rattle.search.specs.Record.{progressOf}
 use Rattle.search.specs.Check.{check}
 use Rattle.search.specs.Inverse.{Typed}
 use Rattle.search.specs.ReplyCases.{reply-24, run-20}
-use Rattle.search.specs.Runs.Frames.{holds-mag}
+use Rattle.search.specs.Runs.Frames.{holds-mag, holds-deep}
 use Rattle.search.specs.Runs.Running.{Runs}
 use Rattle.search.specs.Runs.RunCall.{run-starts, run-finished, run-going}
 use Rattle.search.proofs.run_core.Statement.{statement}
@@ -61,7 +62,7 @@ abbrev at-open : tie.After-carried2 → tie.Else2
 at-open c =
     let at-carried = c .before .before .before in
     let at-best = at-carried .before in
-    let at-g = at-best .before .before in
+    let at-g = at-best .before .before .before in
     at-g .before .before
 
 abbrev at-check : tie.After-carried2 → tie.Else1
@@ -91,6 +92,9 @@ started : (c : tie.After-carried2)
 started c =
     rw (upper c) (run-starts (given c) (typed (begin c)) (passed (at-check c)) (eq-eqb _ 1 (at-open c .if2 .left)))
 
+cast-t13 : tie.Need-cast-t13
+cast-t13 c = search needs
+
 run-frame-requires : tie.Need-run-frame-requires
 run-frame-requires c κs = (progressOf (given c), started c)
 
@@ -101,9 +105,13 @@ ran : (c : tie.After-run-frame)
     (c .run-frame .last .1 .1 .1 .1 .1 .0) (machine.ran (begin (c .before) .args .budget) (progressOf q))
 ran c = c .run-frame .ensures (progressOf (given (c .before))) (started (c .before))
 
+-- a stack has 22 nodes at most
+cast-r : tie.Need-cast-r
+cast-r c = fits-under _ _ 23 (omega (arith, holds-deep _ _ _ _ _ (ran (c .before .before) .holds))) tt
+
 returns-3 : tie.Need-returns-3
 returns-3 c =
-    let k = c .before .before .before in
+    let k = c .before .before .before .before in
     let b = k .before in
     rw (back64 (k .run-frame .result .upper) (holds-mag _ _ _ _ _ (ran k .holds)))
     (run-finished (given b) (typed (begin b)) (passed (at-check b)) (eq-eqb _ 1 (at-open b .if2 .left)) (begin b .args .budget)
@@ -111,7 +119,7 @@ returns-3 c =
 
 returns-4 : tie.Need-returns-4
 returns-4 c =
-    let k = c .before .before .before in
+    let k = c .before .before .before .before in
     let b = k .before in
     rw (back64 (k .run-frame .result .upper) (holds-mag _ _ _ _ _ (ran k .holds)))
     (run-going (given b) (typed (begin b)) (passed (at-check b)) (eq-eqb _ 1 (at-open b .if2 .left)) (begin b .args .budget)
@@ -126,6 +134,8 @@ run-core-spec =
     returns
     refuse-requires-2
     returns-2
+    cast-t13
     run-frame-requires
+    cast-r
     returns-3
     returns-4)

@@ -1,5 +1,5 @@
--- A search while it runs: the part of its progress that changes is a small frame by value (`Frame`) beside the lent bytes of the stack
--- and of the best tour, and what the nodes carry. `FrameHolds` says which search they hold, and the laws say what each outcome of the top node's
+-- A search while it runs: the part of its progress that changes is a small frame by value (`Frame`) beside the lent words of the stack,
+-- the bytes of the best tour, and what the nodes carry. `FrameHolds` says which search they hold, and the laws say what each outcome of the top node's
 -- opening makes of them; `next-carried` has it of what the nodes carry. Running.antt has the loop over them.
 use mathlib.Core.Path.{_≡_, refl, sym, ap, _∙_, subst}
 use mathlib.Core.Bool.{Bool}
@@ -7,13 +7,13 @@ use mathlib.Core.List.{List, [], _∷_}
 use Prim.Native.Nat.{ℕ, suc, _+_, _-_, _≤_, _<_}
 use native.Mathlib.Omega.{arith}
 use native.Mathlib.Numerals.{add-one}
-use lib.ListN.{length, replicate}
+use lib.ListN.{length}
 use lib.IntN.{ℤ}
 use lib.Signed.{mag}
 use Rattle.lists.specs.Bools.{bit}
 use Rattle.integers.specs.Parts.{mag-of-parts}
 use Rattle.graph.specs.declared.Graph.{Graph}
-use Rattle.graph.specs.Limits.{maxVertices, maxEdges, maxCount}
+use Rattle.graph.specs.Limits.{maxVertices, maxCount}
 use Rattle.graph.specs.Network.{network}
 use Rattle.graph.specs.Fits.{ceiling-fits}
 use Rattle.graph.specs.Valid.{Valid}
@@ -26,29 +26,29 @@ use Rattle.machine.specs.Machine.{Node, Progress, edgesOf, costOf, lowered, bet
 use Rattle.machine.specs.Kept.{Kept, depth-most}
 use Rattle.machine.specs.Preserved.{top-kept, found-long}
 use Rattle.machine.specs.Inherited.{siblings}
+use Rattle.mark_rows.specs.MarkRows.{nodeWords, rowsOf}
 use Rattle.node.specs.declared.Fate.{Fate}
 use Rattle.node.specs.declared.Fate.the-variants as fate
-use Rattle.node.specs.Marks.{bytesOf}
-use Rattle.node.specs.Opened.{Opened, places, noMultipliers, openedAs}
+use Rattle.node.specs.Opened.{Opened, places, noMultipliers, noRows, openedAs}
 use Rattle.node.specs.Refusing.{never-refused}
 use Rattle.search.specs.declared.running.Frame.{Frame}
-use Rattle.search.specs.Record.{maxNodes, stackSize, byteAt, stackBytes, carriedOf, bits, hasBest, bestBytes}
-use Rattle.search.specs.Cells.{bytes-places, cells-size}
-use Rattle.search.specs.Pushing.{PutBytes, PutCarried, pushed, replaced, popped, carried-pushed, carried-replaced, carried-popped}
+use Rattle.search.specs.Record.{maxNodes, stackSize, wordAt, stackWords, carriedOf, bits, hasBest, bestBytes}
+use Rattle.search.specs.Cells.{rows-places, cells-size}
+use Rattle.search.specs.Pushing.{PutRows, PutCarried, pushed, replaced, popped, carried-pushed, carried-replaced, carried-popped}
 use Rattle.search.specs.Runs.Costs.{cost-bits}
 use Rattle.search.specs.Runs.Keeping.{keptOf, bits-back, kept-is}
 
--- what changes of a search, but for the bytes of the stack and of the best tour
+-- what changes of a search, but for the stack's words and the best tour's bytes
 unfoldable pub frameOf : Progress → Frame
 unfolding hasBest
 frameOf s = record { upper = s .upper; depth = length (s .stack); «has_best» = bit (hasBest (s .incumbent)); count = s .count }
 
--- the frame f, the stack's bytes l and the best tour's bytes w hold the search s on the graph g
+-- the frame f, the stack's words l and the best tour's bytes w hold the search s on the graph g
 pub record FrameHolds (g : Graph) (f : Frame) (l w : List ℕ) (s : Progress) : Type 0 where
   pub kept : Kept s
   pub graph : s .opening .graph ≡ g
   pub frame : f ≡ frameOf s
-  pub bytes : l ≡ stackBytes (s .stack)
+  pub words : l ≡ stackWords (s .stack)
   pub best : w ≡ bestBytes (s .incumbent)
 
 -- a node waits, and may be opened
@@ -90,7 +90,7 @@ module _ (g : Graph) (f : Frame) (l w : List ℕ) (s : Progress) (h : FrameHolds
   holds-count = ap (λ (x : Frame). x .count) (h .frame)
 
   pub holds-size : length l ≡ stackSize
-  holds-size = ap length (h .bytes) ∙ cells-size maxEdges stackSize bytes-places byteAt (s .stack)
+  holds-size = ap length (h .words) ∙ cells-size nodeWords stackSize rows-places wordAt (s .stack)
 
   pub holds-valid : Valid g
   holds-valid = rw (← h .graph) (h .kept .opening .valid)
@@ -105,7 +105,7 @@ module _ (g : Graph) (f : Frame) (l w : List ℕ) (s : Progress) (h : FrameHolds
       go [] e = absurd (omega (arith, holds-depth, ap {A = List Node} length e))
       go (x ∷ rest) e = record { node = x; rest = rest; stack = e; room = omega (arith, holds-count) }
 
--- ---- the outcome, from its bytes
+-- ---- the outcome, from its words and bytes
 
 abbrev fateNumber : Fate → ℕ
 fateNumber fate.Closes = 0
@@ -113,26 +113,26 @@ fateNumber fate.Finds = 1
 fateNumber fate.Splits = 2
 fateNumber (fate.Refused k) = 3
 
--- the number of the fate, of the bytes and of the outcome
+-- the number of the fate, of the words and of the outcome
 fate-is : (out : M.Opened) (o : Opened) → o ≡ openedAs out → (a : Fate) → o .fate ≡ a → fateNumber (openedAs out .fate) ≡ fateNumber a
 fate-is out o e a h = ap (λ (x : Opened). fateNumber (x .fate)) (sym e) ∙ ap fateNumber h
 
 pub record Closes (out : M.Opened) (o : Opened) : Type 0 where
   pub is : out ≡ closes
-  pub top : o .top ≡ replicate maxEdges 0
+  pub rows : o .rows ≡ noRows
   pub last : o .last ≡ noMultipliers
 
 pub opened-closes : (out : M.Opened) (o : Opened) → o ≡ openedAs out → o .fate ≡ fate.Closes → Closes out o
 unfolding openedAs
-opened-closes closes o e h = record { is = refl; top = ap (λ (x : Opened). x .top) e; last = ap (λ (x : Opened). x .last) e }
+opened-closes closes o e h = record { is = refl; rows = ap (λ (x : Opened). x .rows) e; last = ap (λ (x : Opened). x .last) e }
 opened-closes (finds t) o e h = absurd (omega (arith, fate-is (finds t) o e fate.Closes h))
 opened-closes (splits y z) o e h = absurd (omega (arith, fate-is (splits y z) o e fate.Closes h))
 
 pub record Finds (out : M.Opened) (o : Opened) : Type 0 where
   pub tour : List Bool
   pub is : out ≡ finds tour
-  pub row : o .row ≡ bestBytes (aTour tour)
-  pub top : o .top ≡ replicate maxEdges 0
+  pub rows : o .rows ≡ noRows
+  pub found : o .tour ≡ bestBytes (aTour tour)
   pub last : o .last ≡ noMultipliers
 
 pub opened-finds : (out : M.Opened) (o : Opened) → o ≡ openedAs out → o .fate ≡ fate.Finds → Finds out o
@@ -141,8 +141,8 @@ opened-finds closes o e h = absurd (omega (arith, fate-is closes o e fate.Finds 
 opened-finds (finds t) o e h = record {
   tour = t;
   is = refl;
-  row = ap (λ (x : Opened). x .row) e;
-  top = ap (λ (x : Opened). x .top) e;
+  rows = ap (λ (x : Opened). x .rows) e;
+  found = ap (λ (x : Opened). x .tour) e;
   last = ap (λ (x : Opened). x .last) e;
 }
 opened-finds (splits y z) o e h = absurd (omega (arith, fate-is (splits y z) o e fate.Finds h))
@@ -151,8 +151,8 @@ pub record Splits (out : M.Opened) (o : Opened) : Type 0 where
   pub under : Node
   pub over : Node
   pub is : out ≡ splits under over
-  pub row : o .row ≡ bytesOf (under .marks)
-  pub top : o .top ≡ bytesOf (over .marks)
+  pub rows : o .rows ≡ rowsOf (under .marks)
+  pub top : o .top ≡ rowsOf (over .marks)
   pub last : o .last ≡ places (over .multipliers)
 
 pub opened-splits : (out : M.Opened) (o : Opened) → o ≡ openedAs out → o .fate ≡ fate.Splits → Splits out o
@@ -164,13 +164,20 @@ opened-splits (splits y z) o e h =
       under = y;
       over = z;
       is = refl;
-      row = ap (λ (x : Opened). x .row) e;
+      rows = ap (λ (x : Opened). x .rows) e;
       top = ap (λ (x : Opened). x .top) e;
       last = ap (λ (x : Opened). x .last) e;
     }
 
--- ---- what the nodes carry once node p was opened: where it splits its halves carry d, and else nothing stands at its places
+-- ---- the words of the nodes once node p was opened: where it splits its halves have y and u, and else y, nothing, stands at its places
 
+abbrev pub PiledBy : Fate → ℕ → List ℕ → List ℕ → List ℕ → List ℕ → Type 0
+PiledBy fate.Splits p y u l l′ = (l₁ : List ℕ) × PutRows p y l l₁ × PutRows (p + 1) u l₁ l′
+PiledBy fate.Closes p y u l l′ = PutRows p y l l′
+PiledBy fate.Finds p y u l l′ = PutRows p y l l′
+PiledBy (fate.Refused k) p y u l l′ = PutRows p y l l′
+
+-- and what they carry: where it splits its halves carry d, and else nothing stands at its places
 abbrev pub CarriedBy : Fate → ℕ → List ℤ → List ℤ → List ℤ → Type 0
 CarriedBy fate.Splits p d e e′ = (e₁ : List ℤ) × PutCarried p d e e₁ × PutCarried (p + 1) d e₁ e′
 CarriedBy fate.Closes p d e e′ = PutCarried p d e e′
@@ -222,28 +229,34 @@ module _ (m : ℕ) (costs : List ℤ) (f : Frame) (l w : List ℕ) (o : Opened) 
   settles : (r : M.Opened) → out ≡ r → next ≡ settled s (t .top .rest) r
   settles r e = is-settled ∙ ap (settled s (t .top .rest)) e
 
-  -- how the frame and the bytes hold what they should
+  -- how the frame, the words and the bytes hold what they should
   holds-next : (r : M.Opened) → out ≡ r → (f′ : Frame) (l′ w′ : List ℕ) → f′ ≡ frameOf (settled s (t .top .rest) r)
-      → l′ ≡ stackBytes (settled s (t .top .rest) r .stack) → w′ ≡ bestBytes (settled s (t .top .rest) r .incumbent) → FrameHolds g f′ l′ w′ next
+      → l′ ≡ stackWords (settled s (t .top .rest) r .stack) → w′ ≡ bestBytes (settled s (t .top .rest) r .incumbent) → FrameHolds g f′ l′ w′ next
   unfolding s settled
   holds-next r e f′ l′ w′ a b d = record {
     kept = next-kept;
     graph = ap (λ (x : Progress). x .opening .graph) (settles r e) ∙ t .holds .graph;
     frame = a ∙ ap frameOf (sym (settles r e));
-    bytes = b ∙ ap (λ (x : Progress). stackBytes (x .stack)) (sym (settles r e));
+    words = b ∙ ap (λ (x : Progress). stackWords (x .stack)) (sym (settles r e));
     best = d ∙ ap (λ (x : Progress). bestBytes (x .incumbent)) (sym (settles r e));
   }
 
-  old-bytes : l ≡ stackBytes (t .top .node ∷ t .top .rest)
+  old-words : l ≡ stackWords (t .top .node ∷ t .top .rest)
   unfolding s
-  old-bytes = t .holds .bytes ∙ ap (λ (st : List Node). stackBytes st) (t .top .stack)
+  old-words = t .holds .words ∙ ap (λ (st : List Node). stackWords st) (t .top .stack)
+
+  -- the words of the node are wiped off
+  wiped-words : (l′ : List ℕ) → o .rows ≡ noRows → PutRows (f .depth - 1) (o .rows) l l′ → l′ ≡ stackWords (t .top .rest)
+  wiped-words l′ q put =
+      popped (f .depth - 1) l l′ (t .top .rest) top-place (t .top .node) old-words
+      (subst (λ (x : List ℕ). PutRows (f .depth - 1) x l l′) q put)
 
   count-next : f .count + 1 ≡ suc (s .count)
   unfolding s
   count-next = add-one (f .count) ∙ ap suc (holds-count g f l w s (t .holds))
 
   -- the node closes
-  pub next-closes : (l′ : List ℕ) → o .fate ≡ fate.Closes → PutBytes (f .depth - 1) (o .top) l l′
+  pub next-closes : (l′ : List ℕ) → o .fate ≡ fate.Closes → PutRows (f .depth - 1) (o .rows) l l′
       → FrameHolds g (record { upper = f .upper; depth = f .depth - 1; «has_best» = f .«has_best»; count = f .count + 1 }) l′ w next
   unfolding s out settled frameOf
   next-closes l′ h put =
@@ -254,16 +267,14 @@ module _ (m : ℕ) (costs : List ℤ) (f : Frame) (l w : List ℕ) (o : Opened) 
         «has_best» = ap (λ (x : Frame). x .«has_best») (t .holds .frame) i;
         count = count-next i;
       })
-      (popped (f .depth - 1) l l′ (t .top .rest) top-place (t .top .node) old-bytes
-      (subst (λ (x : List ℕ). PutBytes (f .depth - 1) x l l′) (r .top) put))
-      (t .holds .best)
+      (wiped-words l′ (r .rows) put) (t .holds .best)
     where
       r : Closes (openNode (s .opening) (s .upper) (t .top .node)) o
       r = opened-closes (openNode (s .opening) (s .upper) (t .top .node)) o (t .is) h
 
   -- of the tour and the incumbent the better is kept
-  pub next-finds : (l′ w′ : List ℕ) (upper : ℤ) → o .fate ≡ fate.Finds → upper ≡ cost (network g) (bytes (o .row))
-      → w′ ≡ keptOf g (f .«has_best») (o .row) w → PutBytes (f .depth - 1) (o .top) l l′
+  pub next-finds : (l′ w′ : List ℕ) (upper : ℤ) → o .fate ≡ fate.Finds → upper ≡ cost (network g) (bytes (o .tour))
+      → w′ ≡ keptOf g (f .«has_best») (o .tour) w → PutRows (f .depth - 1) (o .rows) l l′
       → FrameHolds g (record { upper = upper; depth = f .depth - 1; «has_best» = 1; count = f .count + 1 }) l′ w′ next
   unfolding s out settled frameOf lowered costOf hasBest
   next-finds l′ w′ upper h u k put =
@@ -274,9 +285,7 @@ module _ (m : ℕ) (costs : List ℤ) (f : Frame) (l w : List ℕ) (o : Opened) 
         «has_best» = sym (one (s .incumbent)) i;
         count = count-next i;
       })
-      (popped (f .depth - 1) l l′ (t .top .rest) top-place (t .top .node) old-bytes
-      (subst (λ (x : List ℕ). PutBytes (f .depth - 1) x l l′) (r .top) put))
-      (k ∙ same-best)
+      (wiped-words l′ (r .rows) put) (k ∙ same-best)
     where
       r : Finds (openNode (s .opening) (s .upper) (t .top .node)) o
       r = opened-finds (openNode (s .opening) (s .upper) (t .top .node)) o (t .is) h
@@ -288,18 +297,18 @@ module _ (m : ℕ) (costs : List ℤ) (f : Frame) (l w : List ℕ) (o : Opened) 
       one noTour = refl
       one (aTour b) = refl
 
-      same-cost : cost (network g) (bytes (o .row)) ≡ cost (network (s .opening .graph)) (edgesOf (r .tour))
+      same-cost : cost (network g) (bytes (o .tour)) ≡ cost (network (s .opening .graph)) (edgesOf (r .tour))
       same-cost =
-          sym (cost-bits g (o .row))
-          ∙ ap (λ (x : List ℕ). cost (network g) (edgesOf (bits (g .m) x))) (r .row)
+          sym (cost-bits g (o .tour))
+          ∙ ap (λ (x : List ℕ). cost (network g) (edgesOf (bits (g .m) x))) (r .found)
           ∙ ap (λ (h : Graph). cost (network h) (edgesOf (bits (h .m) (bestBytes (aTour (r .tour)))))) (sym (t .holds .graph))
           ∙ ap (λ (b : List Bool). cost (network (s .opening .graph)) (edgesOf b))
           (bits-back (s .opening .graph .m) (r .tour) (t .holds .kept .opening .valid .few) long)
 
-      same-best : keptOf g (f .«has_best») (o .row) w ≡ bestBytes (outcomes.bestOf (better (network (s .opening .graph))) (s .incumbent) (r .tour))
+      same-best : keptOf g (f .«has_best») (o .tour) w ≡ bestBytes (outcomes.bestOf (better (network (s .opening .graph))) (s .incumbent) (r .tour))
       same-best =
           (λ i.
-          keptOf (sym (t .holds .graph) i) (ap (λ (x : Frame). x .«has_best») (t .holds .frame) i) (r .row i) (t .holds .best i))
+          keptOf (sym (t .holds .graph) i) (ap (λ (x : Frame). x .«has_best») (t .holds .frame) i) (r .found i) (t .holds .best i))
           ∙ kept-is (s .opening .graph) (s .incumbent) (r .tour) (t .holds .kept .opening .valid .few) (t .holds .kept .sized) long
 
   -- the node splits in two
@@ -317,8 +326,8 @@ module _ (m : ℕ) (costs : List ℤ) (f : Frame) (l w : List ℕ) (o : Opened) 
           (settles (splits (split h .under) (split h .over)) (split h .is))
           (depth-most next next-kept)
 
-  pub next-splits : (l₁ l₂ : List ℕ) → o .fate ≡ fate.Splits → PutBytes (f .depth - 1) (o .row) l l₁
-      → PutBytes (f .depth - 1 + 1) (o .top) l₁ l₂
+  pub next-splits : (l₁ l₂ : List ℕ) → o .fate ≡ fate.Splits → PutRows (f .depth - 1) (o .rows) l l₁
+      → PutRows (f .depth - 1 + 1) (o .top) l₁ l₂
       → FrameHolds g (record { upper = f .upper; depth = f .depth - 1 + 2; «has_best» = f .«has_best»; count = f .count + 1 }) l₂ w next
   unfolding s out settled frameOf
   next-splits l₁ l₂ h put₁ put₂ =
@@ -330,9 +339,9 @@ module _ (m : ℕ) (costs : List ℤ) (f : Frame) (l w : List ℕ) (o : Opened) 
         count = count-next i;
       })
       (pushed (f .depth - 1 + 1) l₁ l₂ (split h .under ∷ t .top .rest) (omega (arith, top-place)) (split h .over)
-      (replaced (f .depth - 1) l l₁ (t .top .rest) top-place (t .top .node) (split h .under) old-bytes
-      (subst (λ (x : List ℕ). PutBytes (f .depth - 1) x l l₁) (split h .row) put₁))
-      (subst (λ (x : List ℕ). PutBytes (f .depth - 1 + 1) x l₁ l₂) (split h .top) put₂))
+      (replaced (f .depth - 1) l l₁ (t .top .rest) top-place (t .top .node) (split h .under) old-words
+      (subst (λ (x : List ℕ). PutRows (f .depth - 1) x l l₁) (split h .rows) put₁))
+      (subst (λ (x : List ℕ). PutRows (f .depth - 1 + 1) x l₁ l₂) (split h .top) put₂))
       (t .holds .best)
     where
       deeper : f .depth - 1 + 2 ≡ suc (suc (length (t .top .rest)))

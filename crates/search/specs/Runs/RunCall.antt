@@ -33,18 +33,18 @@ outcome c q = record { search = encode (step q c .state); answer = said (step q 
 abbrev pub frameIn : Search → Frame
 frameIn s = record { upper = s .upper; depth = s .depth; «has_best» = s .«has_best»; count = s .count }
 
--- the record with that part, the stack's bytes, the best tour's bytes and what the nodes carry anew
+-- the record with that part, the stack's words, the best tour's bytes and what the nodes carry anew
 abbrev pub withFrame : Search → Frame → List ℕ → List ℕ → List ℤ → Search
 withFrame s f l w d =
     record {
       settings = s .settings;
       upper = f .upper;
       count = f .count;
+      stack = l;
       depth = f .depth;
       graph = s .graph;
       multipliers = s .multipliers;
       carried = d;
-      stack = l;
       best = w;
       «open» = s .«open»;
       «has_best» = f .«has_best»;
@@ -62,7 +62,7 @@ module _ (s : Search) (t : Typed s) (h : check s ≡ true) (e : isOpen s ≡ tru
       kept = kept s t h e;
       graph = refl;
       frame = ap frameIn (sym back);
-      bytes = ap (λ (r : Search). r .stack) (sym back);
+      words = ap (λ (r : Search). r .stack) (sym back);
       best = ap (λ (r : Search). r .best) (sym back);
     };
     carried = ap (λ (r : Search). r .carried) (sym back);
@@ -91,7 +91,7 @@ module _ (s : Search) (t : Typed s) (h : check s ≡ true) (e : isOpen s ≡ tru
       upper = ap (λ (x : Frame). x .upper) (r .holds .frame) i;
       depth = ap (λ (x : Frame). x .depth) (r .holds .frame) i;
       carried = r .carried i;
-      stack = r .holds .bytes i;
+      stack = r .holds .words i;
       «has_best» = ap (λ (x : Frame). x .«has_best») (r .holds .frame) i;
       best = r .holds .best i;
       count = ap (λ (x : Frame). x .count) (r .holds .frame) i;

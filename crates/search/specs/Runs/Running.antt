@@ -1,4 +1,4 @@
--- The run loop over the frame, the bytes of the stack and of the best tour, and what the nodes carry: the settings stay as they are (`Runs`),
+-- The run loop over the frame, the stack's words, the best tour's bytes, and what the nodes carry: the settings stay as they are (`Runs`),
 -- the node that is read is the machine's top node, and the search that is held runs to what the first one runs to (`RunsTo`).
 use mathlib.Core.Path.{_≡_, refl, sym, ap, _∙_, subst}
 use mathlib.Core.Logic.{_⊎_, inl, inr}
@@ -13,19 +13,19 @@ use Rattle.integers.specs.Multiples.{_times_}
 use Rattle.graph.specs.declared.Graph.{Graph}
 use Rattle.graph.specs.Limits.{maxVertices, maxEdges, maxSweeps, maxStep, maxCount}
 use Rattle.graph.specs.Network.{network}
-use Rattle.tree_theory.specs.Arrays.{bytes}
 use Rattle.tree_theory.specs.Inputs.{multipliersFit, ceilingFits, denominatorFault}
 use Rattle.tree_theory.specs.Scaled.{scaledBy}
 use Rattle.machine.specs.declared.Settings.{Settings}
 use Rattle.machine.specs.Machine.{Node, passes, Progress, openNode, settled, openTop, ran}
 use Rattle.machine.specs.Kept.{Waits, Nodes}
 use Rattle.machine.specs.Runs.{ran-opens, ran-empty, ran-full}
-use Rattle.node.specs.Marks.{marksIn, bytesOf, bytes-back}
-use Rattle.node.specs.Opened.{Opened, places, openedAs}
+use Rattle.mark_rows.specs.MarkRows.{rowsOf, marksInRows}
+use Rattle.mark_rows.specs.SixWords.{rows-back}
+use Rattle.node.specs.Opened.{Opened, openedAs}
 use Rattle.search.specs.declared.running.Frame.{Frame}
-use Rattle.search.specs.Record.{maxNodes, multipliersAt, stackBytes, carriedOf}
+use Rattle.search.specs.Record.{maxNodes, rowsAt, multipliersAt, stackWords, carriedOf}
 use Rattle.search.specs.Accepted.{range-fits, range-denominator}
-use Rattle.search.specs.Pushing.{rowAt, row-top, carried-top}
+use Rattle.search.specs.Pushing.{rows-top, carried-top}
 use Rattle.search.specs.Runs.Frames.{FrameHolds, Top, holds-upper, holds-depth, holds-count, holds-deep, holds-valid, top-of}
 
 -- e is what the nodes carry
@@ -67,11 +67,11 @@ module _ (g : Graph) (o : Settings) (f : Frame) (l w : List ℕ) (e : List ℤ) 
     high : f .depth - 1 < maxNodes
     high = omega (arith, holds-deep g f l w s (h .holds), place, top-there)
 
-    pub top-row : rowAt l (f .depth - 1) ≡ bytesOf (t .node .marks)
-    top-row = row-top (t .node) (t .rest) l (f .depth - 1) (h .holds .bytes ∙ ap (λ (st : List Node). stackBytes st) (t .stack)) place high
+    top-rows : rowsAt l (f .depth - 1) ≡ rowsOf (t .node .marks)
+    top-rows = rows-top (t .node) (t .rest) l (f .depth - 1) (h .holds .words ∙ ap (λ (st : List Node). stackWords st) (t .stack)) place high
 
-    row-marks : marksIn (g .m) (rowAt l (f .depth - 1)) ≡ t .node .marks
-    row-marks = ap (marksIn (g .m)) top-row ∙ bytes-back (g .m) (t .node .marks) few (waits .long)
+    row-marks : marksInRows (g .m) (rowsAt l (f .depth - 1)) ≡ t .node .marks
+    row-marks = ap (marksInRows (g .m)) top-rows ∙ rows-back (g .m) (t .node .marks) few (waits .long)
 
     -- the multipliers that are read are the node's
     top-carried : fit (g .n) (pos 0) (multipliersAt maxVertices e (f .depth - 1)) ≡ t .node .multipliers
@@ -84,25 +84,23 @@ module _ (g : Graph) (o : Settings) (f : Frame) (l w : List ℕ) (e : List ℤ) 
     pub top-fits : multipliersFit (fit (g .n) (pos 0) (multipliersAt maxVertices e (f .depth - 1))) ≡ true
     top-fits = ap multipliersFit top-carried ∙ waits .multipliers .fits
 
-    pub row-bytes : rowAt l (f .depth - 1) ≡ bytesOf (marksIn (g .m) (rowAt l (f .depth - 1)))
-    row-bytes = top-row ∙ ap bytesOf (sym row-marks)
-
     -- the passes that the code makes are the machine's opening of the node
-    pub top-is : (q : Opened) (u : ℤ) (x : List ℕ) (d : List ℤ) → u ≡ f .upper → x ≡ rowAt l (f .depth - 1)
+    pub top-is : (q : Opened) (u : ℤ) (x : List ℕ) (d : List ℤ) → u ≡ f .upper → x ≡ rowsAt l (f .depth - 1)
         → d ≡ multipliersAt maxVertices e (f .depth - 1)
         → q ≡ openedAs (passes (scaledBy (o .denominator) (network g)) (o .step) (o .denominator times u) (o .sweeps) (fit (g .n) (pos 0) d)
-        (marksIn (g .m) x))
+        (marksInRows (g .m) x))
         → q ≡ openedAs (openNode (s .opening) (s .upper) (t .node))
     unfolding openNode
     top-is q u x d a b c i = i ∙ ap openedAs same
       where
-        same : passes (scaledBy (o .denominator) (network g)) (o .step) (o .denominator times u) (o .sweeps) (fit (g .n) (pos 0) d) (marksIn (g .m) x)
+        same : passes (scaledBy (o .denominator) (network g)) (o .step) (o .denominator times u) (o .sweeps) (fit (g .n) (pos 0) d)
+            (marksInRows (g .m) x)
             ≡ passes (scaledBy (s .opening .settings .denominator) (network (s .opening .graph))) (s .opening .settings .step)
             (s .opening .settings .denominator times s .upper) (s .opening .settings .sweeps) (t .node .multipliers) (t .node .marks)
         same =
             λ i.
             passes (scaledBy (sym (h .settings) i .denominator) (network (sym (h .holds .graph) i))) (sym (h .settings) i .step)
-            (sym (h .settings) i .denominator times (a ∙ holds-upper g f l w s (h .holds)) i) (sym (h .settings) i .sweeps) ((ap (fit (g .n) (pos 0)) c ∙ top-carried) i) ((ap (marksIn (g .m)) b ∙ row-marks) i)
+            (sym (h .settings) i .denominator times (a ∙ holds-upper g f l w s (h .holds)) i) (sym (h .settings) i .sweeps) ((ap (fit (g .n) (pos 0)) c ∙ top-carried) i) ((ap (marksInRows (g .m)) b ∙ row-marks) i)
 
     -- and the settings are those that they were
     pub runs-next : (f′ : Frame) (l′ w′ : List ℕ) (e′ : List ℤ) → FrameHolds g f′ l′ w′ (openTop s (s .stack))

@@ -1,6 +1,6 @@
 -- The loop keeps: the passes that are left come to what all of them come to, or none is made yet.
 use Prim.Native.Nat.{ℕ, _≤_, _<_, _-_}
-use mathlib.Core.Path.{_≡_, refl, _∙_}
+use mathlib.Core.Path.{_≡_, refl}
 use mathlib.Core.Logic.{inl, inr}
 use native.Mathlib.Omega.{arith}
 use borrow.Author.Needs.{needs}
@@ -19,12 +19,11 @@ use Rattle.machine.specs.Calls.{fault}
 use Rattle.node.specs.declared.passes.Verdict.{Verdict}
 use Rattle.node.specs.declared.passes.Verdict.the-variants as verdict
 use Rattle.node.specs.Marks.{Padded}
-use Rattle.node.specs.declared.Fate.the-variants as fate
-use Rattle.node.specs.Opened.{Opened, opened, openedAs, taken, opensBy}
+use Rattle.node.specs.Opened.{taken}
 use Rattle.node.specs.Faults.{fault-fit}
 use Rattle.node.specs.OnePass.{VerdictIs, verdict-as}
-use Rattle.node.specs.Passes.{turn-shut, turn-found, turn-marks, turn-last, turn-next}
-use Rattle.node.specs.Refusing.{outcome, opens-accepted, AtPassOf, AtTurn, takenAt, turn-padded, turn-refused, turn-accepted}
+use Rattle.node.specs.Passes.{turn-shut, turn-found, turn-last, turn-next}
+use Rattle.node.specs.Refusing.{AtPassOf, AtTurn, takenAt, turn-padded, turn-refused, turn-accepted}
 use Rattle.node.proofs.passes.open_left.Statement.{statement}
 use Rattle.node.proofs.passes.open_left.Tie as tie
 
@@ -33,12 +32,12 @@ ranged : (n : ℕ) (d : List ℤ) → multipliersFit (fit n (pos 0) d) ≡ true 
 ranged n d h i b = rw (← fit-at n (pos 0) d i b) (fit-ranged (fit n (pos 0) d) h i (omega (arith, fit-size n (pos 0) d)))
 
 abbrev Inv-loop : tie.InvT-loop
-Inv-loop p a b cost row₀ top₀ last₀ settings d₀ order₀ live₀ left₀ row top last d order live left =
+Inv-loop p a b cost row₀ last₀ settings d₀ hint₀ order₀ live₀ left₀ row last d hint order live left =
     (p .n ≤ 20) × (p .m ≤ 190) × Padded (p .m) row₀ × AtTurn p (graphOf (p .n) (p .m) a b cost row₀) left row d
-    × (live ≤ 190) × (length order ≡ 190) × (top ≡ top₀) × (last ≡ last₀)
+    × (live ≤ 190) × (length order ≡ 190) × (last ≡ last₀) × (length hint ≡ 190)
 
 abbrev μ-loop : tie.MeasureT-loop
-μ-loop p a b cost row₀ top₀ last₀ settings d₀ order₀ live₀ left₀ row top last d order live left = left
+μ-loop p a b cost row₀ last₀ settings d₀ hint₀ order₀ live₀ left₀ row last d hint order live left = left
 
 -- the graph with the node's marks at first
 abbrev given : tie.Start Inv-loop μ-loop → Graph
@@ -57,7 +56,7 @@ array-share-prefix-hint c = search needs
 slice-aggregate-judge : tie.Need-slice-aggregate-judge Inv-loop μ-loop
 slice-aggregate-judge c =
     let l = c .before .loop in
-    omega (arith, length-take (l .live) (l .order), l .inv .4, l .inv .5)
+    omega (arith, length-take (l .live) (l .hint), l .inv .4, l .inv .7)
 
 judge-requires : tie.Need-judge-requires Inv-loop μ-loop
 judge-requires c κs =
@@ -92,13 +91,6 @@ accepted j e =
     let l = turn j .loop in
     turn-accepted (start j .args .p) (given (start j)) (l .inv .2) (l .left) (l .row) (l .d) (l .inv .3) e
 
--- so what it comes to is what is promised
-comes : (j : tie.After-judge Inv-loop μ-loop) → fault (taken (start j .args .p) (given (start j))) ≡ 0
-    → (o : Opened) → o ≡ openedAs (outcome (taken (start j .args .p) (given (start j))))
-    → o ≡ opensBy (fault (taken (start j .args .p) (given (start j)))) (taken (start j .args .p) (given (start j))) (start j .args .top .now)
-    (start j .args .last .now)
-comes j z o e = e ∙ opens-accepted _ (taken (start j .args .p) (given (start j))) (start j .args .top .now) (start j .args .last .now) z
-
 enum-known-verdict : tie.Need-enum-known-verdict Inv-loop μ-loop
 enum-known-verdict c = search needs
 
@@ -106,35 +98,31 @@ returns : tie.Need-returns Inv-loop μ-loop
 returns c =
     let j = c .before .before .before in
     let l = turn j .loop in
-    let v = judged j _ (c .before .verdict .given .1) in
-    (λ i. opened (fate.Refused (c .before .verdict .given .0 .0)) (j .judge .last .1 .1 .1 .1 .1 .0) (l .inv .6 i) (l .inv .7 i))
-    ∙ turn-refused (start j .args .p) (given (start j)) (l .inv .2) (l .left) (l .row) (l .d) (l .inv .3) _ _ _ _ (v .0) (v .1) (v .2)
+    let v = judged j _ (c .before .verdict .given .1) in (
+      turn-refused (start j .args .p) (given (start j)) (l .inv .2) (l .left) (l .row) (l .d) (l .inv .3) _ (v .0) (v .1),
+      v .1,
+      l .inv .6,
+    )
 
 enum-told : tie.Need-enum-told Inv-loop μ-loop
 enum-told c = search needs
 
-close-requires : tie.Need-close-requires Inv-loop μ-loop
-close-requires c κs = search needs
-
 returns-2 : tie.Need-returns-2 Inv-loop μ-loop
 returns-2 c =
-    let lent = c .before .before .before in
-    let told = lent .before in
-    let j = told .before .before in
-    let v = judged j verdict.Shut (told .enum-told .given .1) in
+    let j = c .before .before in
+    let v = judged j verdict.Shut (c .enum-told .given .1) in
     let t = accepted j (v .0) in
-    comes j (t .0) _ (c .close .ensures ∙ turn-shut _ _ (fault-fit _ (t .0) .valid) _ _ _ _ _ _ (t .1) (v .1))
+    (t .0, turn-shut _ _ (fault-fit _ (t .0) .valid) _ _ _ _ _ _ (t .1) (v .1))
 
 enum-told-2 : tie.Need-enum-told-2 Inv-loop μ-loop
 enum-told-2 c = search needs
 
 returns-3 : tie.Need-returns-3 Inv-loop μ-loop
 returns-3 c =
-    let told = c .before .before in
-    let j = told .before .before in
-    let v = judged j verdict.Found (told .enum-told2 .given .1) in
+    let j = c .before .before in
+    let v = judged j verdict.Found (c .enum-told2 .given .1) in
     let t = accepted j (v .0) in
-    comes j (t .0) _ (turn-found _ _ (fault-fit _ (t .0) .valid) _ _ _ _ _ _ (t .1) _ (v .1))
+    (t .0, turn-found _ _ (fault-fit _ (t .0) .valid) _ _ _ _ _ _ (t .1) _ (v .1))
 
 enum-known-verdict-2 : tie.Need-enum-known-verdict-2 Inv-loop μ-loop
 enum-known-verdict-2 c = search needs
@@ -143,23 +131,18 @@ enum-known-verdict-2 c = search needs
 abbrev ruled : tie.After-known-told2 Inv-loop μ-loop → tie.After-judge Inv-loop μ-loop
 ruled c = c .before .before .before
 
-split-requires : tie.Need-split-requires Inv-loop μ-loop
-split-requires c κs =
-    let lent = c .before .before .before in
-    let k = lent .before in
-    let v = judged (ruled k) _ (k .before .verdict2 .given .1) in
-    let t = accepted (ruled k) (v .0) in
-    (turn (ruled k) .loop .inv .0, turn (ruled k) .loop .inv .1, turn-marks _ _ (fault-fit _ (t .0) .valid) _ _ _ _ _ _ (t .1) _ _ (v .1))
+hand-on-requires : tie.Need-hand-on-requires Inv-loop μ-loop
+hand-on-requires c κs =
+    let k = c .before .before in
+    turn (ruled k) .loop .inv .0
 
 returns-4 : tie.Need-returns-4 Inv-loop μ-loop
 returns-4 c =
-    let lent = c .before .before .before in
-    let last = lent .before in
+    let last = c .before .before in
     let k = last .before in
     let v = judged (ruled k) _ (k .before .verdict2 .given .1) in
     let t = accepted (ruled k) (v .0) in
-    comes (ruled k) (t .0) _
-    (c .split .ensures ∙ turn-last _ _ (fault-fit _ (t .0) .valid) _ _ _ _ _ _ (t .1) _ _ (v .1) (last .if1 .taken))
+    (t .0, turn-last _ _ (fault-fit _ (t .0) .valid) _ _ _ _ _ _ (t .1) _ _ (v .1) (last .if1 .taken) _ (c .hand-on .ensures))
 
 gains-requires : tie.Need-gains-requires Inv-loop μ-loop
 gains-requires c κs =
@@ -186,7 +169,7 @@ loop-again c =
     turn-next _ _ (fault-fit _ (t .0) .valid) _ _ _ _ _ _ (t .1) _ _ (v .1) (c .gains .result) (c .gains .ensures) (l .left - 1)
     (omega (arith, c .before .before .if1 .left))
     in
-    (l .inv .0, l .inv .1, l .inv .2, inr (t .0, next), v .2, j .judge .ensures .1, l .inv .6, l .inv .7)
+    (l .inv .0, l .inv .1, l .inv .2, inr (t .0, next), v .2, j .judge .ensures .1, l .inv .6, j .judge .ensures .1)
 
 pub open-left-spec : {M : Type 1} → statement M
 open-left-spec =
@@ -201,12 +184,11 @@ open-left-spec =
     enum-known-verdict
     returns
     enum-told
-    close-requires
     returns-2
     enum-told-2
     returns-3
     enum-known-verdict-2
-    split-requires
+    hand-on-requires
     returns-4
     gains-requires
     sub-left

@@ -1,4 +1,4 @@
--- The flags, then the fields that must be zero, then the stack's bytes and what its nodes carry; then, where a search is open, its fields and
+-- The flags, then the fields that must be zero, then the stack's words and what its nodes carry; then, where a search is open, its fields and
 -- its nodes, and else that the record is fresh.
 use Prim.Native.Nat.{ℕ, _≤_}
 use mathlib.Core.Path.{_≡_, sym, subst}
@@ -8,7 +8,7 @@ use borrow.Author.Needs.{needs}
 use borrow.Author.Tests.{not-true, not-false, eq-eqb, ne-eqb}
 use Rattle.lists.specs.Bools.{Says, says-yes, says-no}
 use Rattle.integers.specs.Words.{back64}
-use Rattle.search.specs.Canonical.{Flags, StackTidy, CarriedTidy, Tidy, StackFits, CarriedFits, Fits, Stands, Canonical}
+use Rattle.search.specs.Canonical.{Flags, CarriedTidy, Tidy, StackFits, CarriedFits, Fits, Stands, Canonical}
 use Rattle.search.specs.Check.{check-no}
 use Rattle.search.specs.CheckLoops.{says-stands}
 use Rattle.search.specs.CheckParts.{Fitting, FieldsIdle, tidy-fields, tidy-whole, fits-fields, says-fits, says-idle}
@@ -19,10 +19,10 @@ use Rattle.search.proofs.record.sound.Statement.{statement}
 use Rattle.search.proofs.record.sound.Tie as tie
 
 returns : tie.Need-returns
-returns c = sym (check-no (c .before .args .t1) (λ h. omega (arith, h .flags .«open», c .if1 .taken)))
+returns c = sym (check-no (c .before .before .args .s) (λ h. omega (arith, h .flags .«open», c .if1 .taken)))
 
 returns-2 : tie.Need-returns-2
-returns-2 c = sym (check-no (c .before .before .args .t1) (λ h. omega (arith, h .flags .best, c .if2 .taken)))
+returns-2 c = sym (check-no (c .before .before .before .before .args .s) (λ h. omega (arith, h .flags .best, c .if2 .taken)))
 
 -- where m is taken out of the graph, where the flags are known, and the record
 abbrev at-flags : tie.After-wide → tie.Else2
@@ -31,10 +31,12 @@ at-flags c =
     at-g .before
 
 abbrev given : tie.After-wide → Search
-given c = at-flags c .before .before .args .t1
+given c =
+    let known = at-flags c .before .before in
+    known .before .before .args .s
 
 flags : (c : tie.After-wide) → Flags (given c)
-flags c = record { «open» = at-flags c .before .if1 .left; best = at-flags c .if2 .left }
+flags c = record { «open» = at-flags c .before .before .if1 .left; best = at-flags c .if2 .left }
 
 edges : (c : tie.After-wide) → c .wide .result ≡ given c .graph .m
 edges c = c .wide .ensures .0
@@ -47,34 +49,32 @@ fields-tidy-requires c κs = search needs
 
 returns-3 : tie.Need-returns-3
 returns-3 c =
-    sym (check-no (given (c .before .before))
+    sym (check-no (given (c .before .before .before))
     (λ h. says-no (c .before .fields-tidy .result) (c .before .fields-tidy .ensures) (not-true _ (c .if3 .taken))
     (tidy-fields _ (h .tidy))))
 
-stack-tidy-requires : tie.Need-stack-tidy-requires
-stack-tidy-requires c κs = search needs
+cast-depth : tie.Need-cast-depth
+cast-depth c = search needs
+
+mul-stack-zeros : tie.Need-mul-stack-zeros
+mul-stack-zeros c = search needs
+
+stack-zeros-requires : tie.Need-stack-zeros-requires
+stack-zeros-requires c κs = search needs
 
 -- where the fields are known to be tidy
-abbrev at-fields : tie.After-stack-tidy → tie.Else3
-at-fields c = c .before .before .before
+abbrev at-fields : tie.After-stack-zeros → tie.Else3
+at-fields c = c .before .before .before .before
 
 abbrev at-wide : tie.Else3 → tie.After-wide
-at-wide c = c .before .before
-
--- what the test of the stack says, of the graph's own m
-stack-told : (c : tie.After-stack-tidy)
-    → let s = given (at-wide (at-fields c)) in Says (c .stack-tidy .result) (StackTidy (s .graph .m) (s .depth) (s .stack))
-stack-told c =
-    let s = given (at-wide (at-fields c)) in
-    subst (λ (k : ℕ). Says (c .stack-tidy .result) (StackTidy k (s .depth) (s .stack))) (edges (at-wide (at-fields c)))
-    (c .stack-tidy .ensures)
+at-wide c = c .before .before .before
 
 returns-4 : tie.Need-returns-4
 returns-4 c =
     sym (check-no (given (at-wide (at-fields (c .before))))
-    (λ h. says-no (c .before .stack-tidy .result) (stack-told (c .before)) (not-true _ (c .if4 .taken)) (h .tidy .stack)))
+    (λ h. says-no (c .before .stack-zeros .result) (c .before .stack-zeros .ensures) (not-true _ (c .if4 .taken)) (h .tidy .stack)))
 
--- the record, where its stack's bytes are known to be tidy
+-- the record, where its stack is known to be tidy
 abbrev at-stack : tie.Else4 → tie.After-wide
 at-stack c = at-wide (at-fields (c .before))
 
@@ -116,7 +116,7 @@ tidy c =
     let c3 = at-fields (c4 .before) in
     tidy-whole (given (whole c))
     (says-yes (c3 .before .fields-tidy .result) (c3 .before .fields-tidy .ensures) (not-false _ (c3 .if3 .left)))
-    (says-yes (c4 .before .stack-tidy .result) (stack-told (c4 .before)) (not-false _ (c4 .if4 .left)))
+    (says-yes (c4 .before .stack-zeros .result) (c4 .before .stack-zeros .ensures) (not-false _ (c4 .if4 .left)))
     (says-yes (c .before .carried-tidy .result) (carried-told (c .before)) (not-false _ (c .if5 .left)))
 
 idle-requires : tie.Need-idle-requires
@@ -124,8 +124,8 @@ idle-requires c κs = search needs
 
 returns-6 : tie.Need-returns-6
 returns-6 c =
-    let c6 = c .before .before in
-    let c5 = c6 .before .before in
+    let c6 = c .before .before .before in
+    let c5 = c6 .before .before .before in
     let s = given (whole c5) in
     let word = back64 (s .upper) (c .before .struct-told .given .1 .0 .1) in
     let found : Says (c .idle .result) (FieldsIdle (s .graph .n) (s .graph .m) (s .settings) (s .upper) (s .depth) (hasTour s) (s .count)) =
@@ -140,7 +140,7 @@ abbrev at-open : tie.After-fields-fit → tie.Else6
 at-open c = c .before .before
 
 abbrev at-zeros : tie.After-fields-fit → tie.Else5
-at-zeros c = at-open c .before .before
+at-zeros c = at-open c .before .before .before
 
 -- what the test of the fields says, its signed word read back
 told : (c : tie.After-fields-fit) → Says (c .fields-fit .result) (Fitting (given (whole (at-zeros c))))
@@ -168,11 +168,11 @@ few s t = let v = begun-valid _ (t .opening) in (v .high, v .few, omega (arith, 
 
 -- where the fields are known to fit
 abbrev fitted : tie.After-carried-fits → tie.Else7
-fitted c = c .before .before .before
+fitted c = c .before .before
 
 carried-fits-requires : tie.Need-carried-fits-requires
 carried-fits-requires c κs =
-    let c7 = c .before .before in
+    let c7 = c .before in
     let c5 = at-zeros (c7 .before) in
     let e = few (given (whole c5)) (fit c7) in
     (omega (arith, vertices (c5 .before), e .0), e .2)
@@ -194,14 +194,14 @@ returns-8 c =
 
 stack-fits-requires : tie.Need-stack-fits-requires
 stack-fits-requires c κs =
-    let c7 = fitted (c .before .before .before) in
+    let c7 = fitted (c .before .before) in
     let at = whole (at-zeros (c7 .before)) in
     let e = few (given at) (fit c7) in
     (omega (arith, edges at, e .1), e .2)
 
 returns-9 : tie.Need-returns-9
 returns-9 c =
-    let c8 = c .before .before .before in
+    let c8 = c .before .before in
     let c7 = fitted (c8 .before) in
     let c5 = at-zeros (c7 .before) in
     let at = whole c5 in
@@ -220,7 +220,9 @@ sound-spec =
     wide-requires
     fields-tidy-requires
     returns-3
-    stack-tidy-requires
+    cast-depth
+    mul-stack-zeros
+    stack-zeros-requires
     returns-4
     wide-requires-2
     carried-tidy-requires

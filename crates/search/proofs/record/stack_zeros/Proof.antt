@@ -1,4 +1,4 @@
--- The loop keeps the greatest of the bytes from `from` up to i.
+-- The loop keeps the greatest of the words from `from` up to i.
 use Prim.Native.Nat.{_≤_, _-_}
 use mathlib.Core.Logic.{⊎-elim}
 use native.Mathlib.Omega.{arith}
@@ -9,13 +9,16 @@ use Rattle.search.proofs.record.stack_zeros.Statement.{statement}
 use Rattle.search.proofs.record.stack_zeros.Tie as tie
 
 abbrev Inv-loop : tie.InvT-loop
-Inv-loop stack from most₀ i₀ most i = (from ≤ i) × Greatest (λ k. getD stack k 0) from 4180 i most
+Inv-loop stack from most₀ i₀ most i = (from ≤ i) × Greatest (λ k. getD stack k 0) from 132 i most
 
 abbrev μ-loop : tie.MeasureT-loop
-μ-loop stack from most₀ i₀ most i = 4180 - i
+μ-loop stack from most₀ i₀ most i = 132 - i
 
 loop-holds : tie.Need-loop-holds Inv-loop μ-loop
 loop-holds c = (omega arith, greatest-none _ _ _)
+
+mul-x : tie.Need-mul-x Inv-loop μ-loop
+mul-x c = search needs
 
 element-copy-out-x : tie.Need-element-copy-out-x Inv-loop μ-loop
 element-copy-out-x c = search needs
@@ -35,7 +38,7 @@ loop-again c =
     )
 
 returns : tie.Need-returns Inv-loop μ-loop
-returns c = let l = c .before .loop in says-zero _ _ 4180 (l .i) (l .most) (l .inv .1) (omega arith)
+returns c = let l = c .before .loop in says-zero _ _ 132 (l .i) (l .most) (l .inv .1) (omega arith)
 
 pub stack-zeros-spec : {M : Type 1} → statement M
 stack-zeros-spec =
@@ -44,6 +47,7 @@ stack-zeros-spec =
     Inv-loop
     μ-loop
     loop-holds
+    mul-x
     element-copy-out-x
     add-i
     loop-less

@@ -19,27 +19,28 @@ use Rattle.graph.specs.Parts.{own-parts}
 use Rattle.tree_theory.specs.Inputs.{multipliersFit}
 use Rattle.tree_theory.specs.Scaled.{scaledBy}
 use Rattle.machine.specs.Machine.{Opening, Progress, passes, ran}
-use Rattle.node.specs.Marks.{marksIn, bytesOf}
+use Rattle.mark_rows.specs.MarkRows.{marksInRows}
+use Rattle.node.specs.Marks.{bytesOf}
 use Rattle.node.specs.Opened as Node
 use Rattle.node.specs.Opened.{Opened, opened, openedAs}
 use Rattle.node.specs.Faults.{Fit}
 use Rattle.node.specs.OnePass.{topOf}
 use Rattle.node.specs.Passes.{withBytes}
 use Rattle.node.specs.Opens.{opens-node}
-use Rattle.search.specs.Runs.Frames.{Top, Opens, holds-mag, holds-deep, holds-valid, top-of, top-high, split-room, next-carried}
+use Rattle.search.specs.Runs.Frames.{Top, Opens, holds-mag, holds-size, holds-deep, holds-valid, top-of, top-high, split-room, next-carried}
 use Rattle.search.specs.Record.{multiplierAt}
 use Rattle.search.specs.Cells.{carried-places, cells-size}
-use Rattle.search.specs.Runs.Running.{runs-ceiling, runs-sweeps, runs-step, runs-denominator, row-bytes, top-fits, top-is, runs-next}
+use Rattle.search.specs.Runs.Running.{runs-ceiling, runs-sweeps, runs-step, runs-denominator, top-fits, top-is, runs-next}
 use Rattle.search.specs.Runs.Running.{Runs, RunsTo, run-stops, run-spent, run-turn}
 use Rattle.search.proofs.running.run_frame.Statement.{statement}
 use Rattle.search.proofs.running.run_frame.Tie as tie
 
 abbrev Inv-loop : tie.InvT-loop
-Inv-loop settings stack₀ best₀ carried₀ budget g n m t₀ left₀ top₀ last₀ stack best carried t left top last =
+Inv-loop settings stack₀ best₀ carried₀ budget g n m t₀ left₀ top₀ tour₀ last₀ stack best carried t left top tour last =
     (s : Progress) → Runs g settings t₀ stack₀ best₀ carried₀ s → RunsTo g settings t stack best carried left (ran left₀ s)
 
 abbrev μ-loop : tie.MeasureT-loop
-μ-loop settings stack₀ best₀ carried₀ budget g n m t₀ left₀ top₀ last₀ stack best carried t left top last = left
+μ-loop settings stack₀ best₀ carried₀ budget g n m t₀ left₀ top₀ tour₀ last₀ stack best carried t left top tour last = left
 
 -- where the function starts, from a turn of the loop
 abbrev start : tie.At-loop Inv-loop μ-loop → tie.Start Inv-loop μ-loop
@@ -135,12 +136,15 @@ open-requires c κs = search needs
 
 -- what the top node comes to
 abbrev came : tie.After-open Inv-loop μ-loop → Opened
-came c = let o = c .«open» in opened (o .result) (o .last .1 .1 .1 .1 .0) (o .last .1 .1 .1 .1 .1 .0) (o .last .1 .1 .1 .1 .1 .1 .0)
+came c =
+    let o = c .«open» in
+    let rest = o .last .1 .1 .1 .1 in
+    opened (o .result) (rest .0) (rest .1 .0) (rest .1 .1 .0) (rest .1 .1 .1 .0)
 
 -- where the node's multipliers are read, and its marks, from where it is opened
 abbrev numbers : tie.After-open Inv-loop μ-loop → tie.After-get-carried Inv-loop μ-loop
 numbers c =
-    let arguments = c .before .before .before in
+    let arguments = c .before .before .before .before in
     let ends = arguments .before .before .before in
     ends .before .before .before
 
@@ -174,20 +178,20 @@ fits at q r d good =
       denominator = runs-denominator _ _ _ _ _ _ _ r;
     }
 
--- so the node with the bytes x comes to what its passes come to
-comes : (at : tie.At-loop Inv-loop μ-loop) (q : Progress) → RunsAt at q → (x top : List ℕ) (d last : List ℤ)
-    → x ≡ bytesOf (marksIn (given at .m) x) → multipliersFit (fit (given at .n) (pos 0) d) ≡ true
+-- so the node with the words x comes to what its passes come to
+comes : (at : tie.At-loop Inv-loop μ-loop) (q : Progress) → RunsAt at q → (x top tour : List ℕ) (d last : List ℤ)
+    → multipliersFit (fit (given at .n) (pos 0) d) ≡ true
     → (o : Opened)
     → let w = given-with at d in
-    o ≡ Node.opens (record { graph = withBytes (w .graph) x; multipliers = w .multipliers; settings = w .settings }) top last
+    o ≡ Node.opens (record { graph = withBytes (w .graph) (bytesOf (marksInRows (at .before .wide2 .result) x)); multipliers = w .multipliers; settings = w .settings }) x top tour last
     → o ≡ openedAs (passes (scaledBy (w .settings .denominator) (network (given at))) (w .settings .step) (topOf w) (w .settings .sweeps)
-    (fit (given at .n) (pos 0) d) (marksIn (given at .m) x))
-comes at q r x top d last canonical good o e =
+    (fit (given at .n) (pos 0) d) (marksInRows (given at .m) x))
+comes at q r x top tour d last good o e =
     let w = given-with at d in
     e
-    ∙ opens-node w (fits at q r d good) x (subst (λ (m : ℕ). x ≡ bytesOf (marksIn m x)) (sym (edges at)) canonical) top last
+    ∙ opens-node w (fits at q r d good) x x top tour last
     ∙ ap openedAs (λ i. passes (scaledBy (w .settings .denominator) (network (parts at i))) (w .settings .step) (topOf w) (w .settings .sweeps)
-    (fit (vertices at i) (pos 0) d) (marksIn (edges at i) x))
+    (fit (vertices at i) (pos 0) d) (marksInRows (edges at i) x))
 
 -- the node that is read is the machine's top node, and its opening the machine's
 opens : (c : tie.After-open Inv-loop μ-loop) (q : Progress) →
@@ -198,11 +202,8 @@ opens c q r =
     let at = turn-of k in
     let u = back64 (at .loop .t .upper) (holds-mag _ _ _ _ _ (r .holds)) in
     let top = top-node (going k) q r in
-    let row : List ℕ = k .get .result in
+    let rows : List ℕ = k .get .result in
     let d : List ℤ = numbers c .get-carried .result in
-    let canonical =
-    subst (λ (x : List ℕ). x ≡ bytesOf (marksIn (given at .m) x)) (sym (k .get .ensures)) (row-bytes _ _ _ _ _ _ _ r top)
-    in
     let good = subst (λ (y : List ℤ). multipliersFit (fit (given at .n) (pos 0) y) ≡ true) (sym (numbers c .get-carried .ensures))
     (top-fits _ _ _ _ _ _ _ r top) in
     record {
@@ -213,14 +214,26 @@ opens c q r =
       holds = r .holds;
       top = top;
       is =
-          top-is _ _ _ _ _ _ _ r top (came c) _ row d u (k .get .ensures) (numbers c .get-carried .ensures)
-          (comes at q r row _ d _ canonical good (came c) (c .«open» .ensures));
+          top-is _ _ _ _ _ _ _ r top (came c) _ rows d u (k .get .ensures) (numbers c .get-carried .ensures)
+          (comes at q r rows _ _ d _ good (came c) (c .«open» .ensures));
     }
 
--- there is room for what the node's halves carry
+-- there is room for the node's halves
+pile-requires : tie.Need-pile-requires Inv-loop μ-loop
+pile-requires c κs =
+    let o = c .before .before .before in
+    let k = held (turn-of (read o)) in
+    let t = opens o (k .0) (k .1) in
+    (top-high _ _ _ _ _ _ t, holds-size _ _ _ _ _ (k .1 .holds), split-room _ _ _ _ _ _ t)
+
+-- where the node is opened, from where its halves' words are stored
+abbrev before-pile : tie.After-pile Inv-loop μ-loop → tie.After-open Inv-loop μ-loop
+before-pile c = c .before .before .before .before
+
+-- and for what they carry
 carry-requires : tie.Need-carry-requires Inv-loop μ-loop
 carry-requires c κs =
-    let o = c .before .before in
+    let o = before-pile (c .before .before) in
     let k = held (turn-of (read o)) in
     let t = opens o (k .0) (k .1) in (
       top-high _ _ _ _ _ _ t,
@@ -228,16 +241,16 @@ carry-requires c κs =
       split-room _ _ _ _ _ _ t,
     )
 
--- where the node is opened, from where its multipliers are stored
-abbrev before-carry : tie.After-carry Inv-loop μ-loop → tie.After-open Inv-loop μ-loop
-before-carry c = c .before .before .before
+-- where the words are stored, from where the multipliers are
+abbrev piled : tie.After-carry Inv-loop μ-loop → tie.After-pile Inv-loop μ-loop
+piled c = c .before .before .before
 
 settle-requires : tie.Need-settle-requires Inv-loop μ-loop
 settle-requires c κs =
-    let lent = c .before .before .before in
-    let o = before-carry (lent .before .before .before) in
-    let k = held (turn-of (read o)) in
-    (came o .last, opens o (k .0) (k .1))
+    let o = before-pile (piled (c .before .before .before .before)) in
+    let at = turn-of (read o) in
+    let k = held at in
+    (at .loop .stack, came o .rows, came o .top, came o .last, opens o (k .0) (k .1))
 
 -- budget is left
 left : (c : tie.Else1 Inv-loop μ-loop) → 0 < turn c .loop .left
@@ -247,11 +260,10 @@ left c = omega (arith, c .before .before .loop-test .taken)
 abbrev carried : tie.After-settle Inv-loop μ-loop → tie.After-carry Inv-loop μ-loop
 carried c =
     let lent = c .before .before .before in
-    let costs = lent .before .before .before in
-    costs .before
+    lent .before .before
 
 abbrev opening : tie.After-settle Inv-loop μ-loop → tie.After-open Inv-loop μ-loop
-opening c = before-carry (carried c)
+opening c = before-pile (piled (carried c))
 
 sub-left : tie.Need-sub-left Inv-loop μ-loop
 sub-left c = omega (arith, left (waits (going (read (opening c)))))
@@ -269,7 +281,7 @@ loop-again c =
     run-turn _ _ _ _ _ _ _ _ (l .inv q r) (l .left - 1) (omega (arith, left (waits e))) (deep e) (omega (arith, e .if2 .left)) _ _ _ _
     (λ p h.
     let s = opens o p h in
-    runs-next _ _ _ _ _ _ _ h (s .top) _ _ _ _ (c .settle .ensures _ s)
+    runs-next _ _ _ _ _ _ _ h (s .top) _ _ _ _ (c .settle .ensures _ _ _ _ _ s (piled (carried c) .pile .ensures))
     (next-carried _ _ _ _ _ _ s _ _ (h .carried) (carried c .carry .ensures)))
 
 returns-3 : tie.Need-returns-3 Inv-loop μ-loop
@@ -290,6 +302,7 @@ run-frame-spec =
     get-requires
     get-carried-requires
     open-requires
+    pile-requires
     carry-requires
     settle-requires
     sub-left

@@ -32,6 +32,7 @@ enum {
     PLANNER_VERTICES = 20,   /* at most */
     PLANNER_EDGES = 190,     /* at most */
     PLANNER_NODES = 22,      /* a search has at most n + 2 nodes waiting */
+    PLANNER_ROW = 3,         /* words of a node's row of bits, a bit for each edge */
     PLANNER_PLACES = 8,      /* of a shelf, and of a dispatcher */
     PLANNER_WINDOW = 32,     /* at most */
     PLANNER_PAIRS = 16,      /* at most, in a comparison */
@@ -85,16 +86,17 @@ typedef struct {
     uint64_t denominator;
 } planner_terms;
 
-/* A search record (docs/RECORD.md). Begin with planner_fresh; write nothing in it. */
+/* A search record (docs/RECORD.md). Begin with planner_fresh; write nothing in it. A node of the stack is two rows of bits, that of its required
+ * edges and then that of its excluded ones: edge k is bit (k - 1) % 64 of a row's word (k - 1) / 64. */
 typedef struct {
     planner_settings settings;
     int64_t upper;
     uint64_t count;
-    size_t depth;
+    uint64_t stack[PLANNER_NODES * 2 * PLANNER_ROW];
+    uint32_t depth;
     planner_graph graph;
     int32_t multipliers[PLANNER_VERTICES];
     int32_t carried[PLANNER_NODES * PLANNER_VERTICES];
-    uint8_t stack[PLANNER_NODES * PLANNER_EDGES];
     uint8_t best[PLANNER_EDGES];
     uint8_t open, has_best;
 } planner_search;
@@ -214,12 +216,12 @@ PLANNER_ASSERT(offsetof(planner_graph, mark) == 1140 && offsetof(planner_graph, 
 PLANNER_ASSERT(sizeof(planner_settings) == 24);
 PLANNER_ASSERT(offsetof(planner_settings, ceiling) == 0 && offsetof(planner_settings, sweeps) == 8);
 PLANNER_ASSERT(offsetof(planner_settings, step) == 12 && offsetof(planner_settings, denominator) == 16);
-PLANNER_ASSERT(sizeof(planner_search) == 7592);
+PLANNER_ASSERT(sizeof(planner_search) == 4464);
 PLANNER_ASSERT(offsetof(planner_search, settings) == 0 && offsetof(planner_search, upper) == 24 && offsetof(planner_search, count) == 32);
-PLANNER_ASSERT(offsetof(planner_search, depth) == 40 && offsetof(planner_search, graph) == 48);
-PLANNER_ASSERT(offsetof(planner_search, multipliers) == 1380 && offsetof(planner_search, carried) == 1460);
-PLANNER_ASSERT(offsetof(planner_search, stack) == 3220 && offsetof(planner_search, best) == 7400);
-PLANNER_ASSERT(offsetof(planner_search, open) == 7590 && offsetof(planner_search, has_best) == 7591);
+PLANNER_ASSERT(offsetof(planner_search, stack) == 40 && offsetof(planner_search, depth) == 1096 && offsetof(planner_search, graph) == 1100);
+PLANNER_ASSERT(offsetof(planner_search, multipliers) == 2432 && offsetof(planner_search, carried) == 2512);
+PLANNER_ASSERT(offsetof(planner_search, best) == 4272);
+PLANNER_ASSERT(offsetof(planner_search, open) == 4462 && offsetof(planner_search, has_best) == 4463);
 PLANNER_ASSERT(sizeof(planner_shelf) == PLANNER_PLACES * sizeof(planner_search));
 PLANNER_ASSERT(sizeof(planner_dispatcher) == sizeof(size_t) + PLANNER_PLACES * sizeof(planner_search));
 PLANNER_ASSERT(offsetof(planner_dispatcher, last) == 0 && offsetof(planner_dispatcher, places) == sizeof(size_t));

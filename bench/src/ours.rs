@@ -45,7 +45,7 @@ impl Planner for Ours {
     }
 
     fn state(&self) -> (i64, usize) {
-        (self.0.upper, self.0.depth)
+        (self.0.upper, self.0.depth as usize)
     }
 
     fn finish(&mut self, tour: &mut [u8]) -> (Verdict, u64) {

@@ -19,6 +19,7 @@ from typing import NamedTuple, TypeVar
 from .faults import Faults, span
 
 MOST_VERTICES, MOST_EDGES, MOST_NODES, PLACES = 20, 190, 22, 8  # the room that the library's structs have
+ROW_WORDS = 3  # of 64 bits, one bit for each edge; a node has two rows
 VERTICES = range(3, MOST_VERTICES + 1)
 COSTS = range(-100_000_000, 100_000_001)
 MULTIPLIERS = range(-1_000_000, 1_000_001)
@@ -118,11 +119,11 @@ class CSearch(ctypes.Structure):
         ("settings", CSettings),
         ("upper", c_int64),
         ("count", c_uint64),
-        ("depth", c_size_t),
+        ("stack", c_uint64 * (MOST_NODES * 2 * ROW_WORDS)),
+        ("depth", c_uint32),
         ("graph", CGraph),
         ("multipliers", c_int32 * MOST_VERTICES),
         ("carried", c_int32 * (MOST_NODES * MOST_VERTICES)),
-        ("stack", c_uint8 * (MOST_NODES * MOST_EDGES)),
         ("best", c_uint8 * MOST_EDGES),
         ("open", c_uint8),
         ("has_best", c_uint8),
@@ -139,7 +140,7 @@ class CDispatcher(ctypes.Structure):
 
 Said = TypeVar("Said", CSaid, CSailed)
 
-for struct, size in ((CSaid, 32), (CGraph, 1_332), (CSettings, 24), (CSailed, 32), (CTerms, 24), (CSearch, 7_592)):
+for struct, size in ((CSaid, 32), (CGraph, 1_332), (CSettings, 24), (CSailed, 32), (CTerms, 24), (CSearch, 4_464)):
     assert ctypes.sizeof(struct) == size, f"{struct.__name__} is not as the library has it"
 
 _BYTES, _RECORD, _SHELF, _DISPATCHER = POINTER(c_uint8), POINTER(CSearch), POINTER(CShelf), POINTER(CDispatcher)

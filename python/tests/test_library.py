@@ -1,5 +1,6 @@
 """The library's calls from Python: answers, refusals, what a refusal leaves, where the library is found."""
 import ctypes
+import itertools
 import os
 import random
 import shutil
@@ -127,6 +128,21 @@ class Calls(unittest.TestCase):
             search.open(FOUR, 12, denominator=7)
             search.record.settings.denominator = denominator
             self.assertEqual(refusal(search.tell), number and (number, 0), denominator)
+
+    def test_rows_of_a_node(self):
+        """A node's required legs in one row of bits and its struck legs in another; 24 where a leg is in both, past m, or in a node that does not wait."""
+        legs = [(a, b, 5, mark) for (a, b), mark in zip(itertools.combinations(range(1, 13), 2), itertools.cycle((0, 1, 0, 2, 0)))]
+        search = planner.Search()
+        search.open(planner.Graph(12, legs), 60)
+        rows = [sum(1 << k for k, leg in enumerate(legs) if leg[3] == mark) for mark in (1, 2)]
+        words = [row >> 64 * word & 2**64 - 1 for row in rows for word in range(3)]
+        self.assertEqual(list(search.record.stack), words + [0] * (21 * 6))
+        self.assertEqual((len(legs), search.record.depth), (66, 1))
+        for word, bit in ((3, 1), (0, 3), (1, 2), (4, 2), (2, 63), (5, 0), (6, 0), (131, 63)):
+            search.record.stack[word] ^= 1 << bit
+            self.assertEqual(refusal(search.tell), (24, 0), (word, bit))
+            search.record.stack[word] ^= 1 << bit
+        self.assertEqual(search.tell().verdict, "going on")
 
     def test_refusals_of_values(self):
         """Whatever fits the number types is sent; the library refuses."""

@@ -40,18 +40,18 @@ AT(planner_terms, ceiling, 0);
 AT(planner_terms, budget, 8);
 AT(planner_terms, denominator, 16);
 
-CLAIM(sizeof(planner_search) == 7592);
+CLAIM(sizeof(planner_search) == 4464);
 AT(planner_search, settings, 0);
 AT(planner_search, upper, 24);
 AT(planner_search, count, 32);
-AT(planner_search, depth, 40);
-AT(planner_search, graph, 48);
-AT(planner_search, multipliers, 1380);
-AT(planner_search, carried, 1460);
-AT(planner_search, stack, 3220);
-AT(planner_search, best, 7400);
-AT(planner_search, open, 7590);
-AT(planner_search, has_best, 7591);
+AT(planner_search, stack, 40);
+AT(planner_search, depth, 1096);
+AT(planner_search, graph, 1100);
+AT(planner_search, multipliers, 2432);
+AT(planner_search, carried, 2512);
+AT(planner_search, best, 4272);
+AT(planner_search, open, 4462);
+AT(planner_search, has_best, 4463);
 
 CLAIM(sizeof(planner_dispatcher) == sizeof(size_t) + 8 * sizeof(planner_search));
 AT(planner_dispatcher, last, 0);
@@ -105,32 +105,55 @@ static planner_graph sample(uint8_t bytes[FILE_LENGTH]) {
     return g;
 }
 
+/* Whether edge k + 1 has its bit set in a row. */
+static int bit(const uint64_t *row, size_t k) { return (int)(row[k / 64] >> (k % 64) & 1); }
+
+/* The rows of a node: no edge in both, none past the edges in use, and how many are required. */
+static int rows_fit(const uint64_t *node, size_t used, size_t *required) {
+    int fit = 1;
+    *required = 0;
+    for (size_t k = 0; k < 64 * PLANNER_ROW; k++) {
+        int in = bit(node, k), out = bit(node + PLANNER_ROW, k);
+        *required += (size_t)in;
+        if ((in && out) || (k >= used && (in || out))) fit = 0;
+    }
+    return fit;
+}
+
+/* Whether a node's rows are the marks of a graph. */
+static int rows_are(const uint64_t *node, const planner_graph *g) {
+    int same = 1;
+    for (size_t k = 0; k < M; k++) {
+        if (bit(node, k) != (g->mark[k] == 1) || bit(node + PLANNER_ROW, k) != (g->mark[k] == 2)) same = 0;
+    }
+    return same;
+}
+
 /* Each field of a record of an open search, by name and at its offset; the marks of the waiting nodes are the caller's to judge. */
 static void record(const planner_search *s, const planner_graph *g, const int32_t *multipliers, planner_settings settings, int64_t upper,
                    uint64_t count) {
     int32_t padded[PLANNER_VERTICES] = {0};
-    uint8_t zeros[PLANNER_NODES * PLANNER_EDGES] = {0};
-    size_t depth = s->depth;
+    uint8_t zeros[PLANNER_EDGES] = {0};
+    uint32_t depth = s->depth;
     memcpy(padded, multipliers, N * sizeof *multipliers);
     expect("settings", stands(s, 0, &settings, sizeof settings) && s->settings.ceiling == settings.ceiling
                            && s->settings.sweeps == settings.sweeps && s->settings.step == settings.step
                            && s->settings.denominator == settings.denominator);
     expect("upper", stands(s, 24, &upper, 8) && s->upper == upper);
     expect("count", stands(s, 32, &count, 8) && s->count == count);
-    expect("depth", stands(s, 40, &depth, 8) && 0 < depth && depth <= N + 2);
-    expect("graph", stands(s, 48, g, sizeof *g));
-    expect("multipliers", stands(s, 1380, padded, sizeof padded));
-    expect("best past m", stands(s, 7400 + M, zeros, PLANNER_EDGES - M));
-    expect("open", stands(s, 7590, "\1", 1) && s->open == 1);
+    expect("depth", stands(s, 1096, &depth, 4) && 0 < depth && depth <= N + 2);
+    expect("graph", stands(s, 1100, g, sizeof *g));
+    expect("multipliers", stands(s, 2432, padded, sizeof padded));
+    expect("best past m", stands(s, 4272 + M, zeros, PLANNER_EDGES - M));
+    expect("open", stands(s, 4462, "\1", 1) && s->open == 1);
     for (size_t p = 0; p < PLANNER_NODES; p++) {
-        const uint8_t *node = s->stack + PLANNER_EDGES * p;
-        size_t required = 0, used = p < depth ? M : 0;
-        for (size_t k = 0; k < used; k++) required += node[k] == 1;
-        expect("a node", stands(s, 3220 + PLANNER_EDGES * p, node, PLANNER_EDGES) && (p >= depth || required >= p));
-        expect("a node's unused places", memcmp(node + used, zeros, PLANNER_EDGES - used) == 0);
+        const uint64_t *node = s->stack + 2 * PLANNER_ROW * p;
+        size_t required = 0;
+        expect("a node", stands(s, 40 + 16 * PLANNER_ROW * p, node, 16 * PLANNER_ROW));
+        expect("a node's rows", rows_fit(node, p < depth ? M : 0, &required) && (p >= depth || required >= p));
         const int32_t *carried = s->carried + PLANNER_VERTICES * p;
         size_t vertices = p < depth ? N : 0;
-        expect("what a node carries", stands(s, 1460 + 4 * PLANNER_VERTICES * p, carried, 4 * PLANNER_VERTICES) && carried[0] == 0);
+        expect("what a node carries", stands(s, 2512 + 4 * PLANNER_VERTICES * p, carried, 4 * PLANNER_VERTICES) && carried[0] == 0);
         expect("carried past n", memcmp(carried + vertices, zeros, 4 * (PLANNER_VERTICES - vertices)) == 0);
     }
 }
@@ -201,7 +224,7 @@ int main(void) {
     settings.denominator = 7;
     said_so("open", planner_open(&s, g, multipliers, N, settings), 0, 0, 0, 0);
     record(&s, &g, multipliers, settings, settings.ceiling, 0);
-    expect("the opening's node", s.depth == 1 && memcmp(s.stack, g.mark, sizeof g.mark) == 0
+    expect("the opening's node", s.depth == 1 && rows_are(s.stack, &g)
                                      && memcmp(s.carried, multipliers, sizeof multipliers) == 0);
     while (s.depth > 0 && s.has_best == 0 && failed == 0) {
         said = planner_run(&s, 1);
@@ -211,13 +234,13 @@ int main(void) {
 
     for (int k = 0; k < M; k++) cost += s.best[k] * g.cost[k];
     record(&s, &g, multipliers, settings, cost, nodes);
-    expect("an incumbent while nodes wait", s.depth > 0 && s.has_best == 1 && stands(&s, 7591, "\1", 1) && nodes > 1);
+    expect("an incumbent while nodes wait", s.depth > 0 && s.has_best == 1 && stands(&s, 4463, "\1", 1) && nodes > 1);
     said_so("tell", planner_tell(&s), PLANNER_GOING_ON, 0, 0, nodes);
     said = planner_run(&s, 1000000);
     said_so("finished", said, PLANNER_FINISHED, 0, 0, s.count);
     said_so("the best cost", planner_tell(&s), PLANNER_BEST, 0, s.upper, s.count);
     said_so("show", planner_show(&s, out, M), 0, 0, 0, 0);
-    expect("the tour", stands(&s, 7400, out, M) && s.depth == 0);
+    expect("the tour", stands(&s, 4272, out, M) && s.depth == 0);
     said_so("close", planner_close(&s), 0, 0, 0, 0);
     expect("closed, a record is fresh", memcmp(&s, &fresh, sizeof s) == 0);
 

@@ -277,6 +277,31 @@ pub const JUNK_PAST_DEPTH: Bend = Bend {
     bend: |law| law.zeros_past_depth = false,
 };
 
+pub const STRUCK_ROW_FIRST: Bend = Bend {
+    what: "a node's row of struck legs comes first",
+    bend: |law| law.required_row = 1,
+};
+
+pub const BITS_FROM_ONE: Bend = Bend {
+    what: "leg k is bit k of a row",
+    bend: |law| law.first_bit = 1,
+};
+
+pub const LEG_IN_BOTH_ROWS: Bend = Bend {
+    what: "a leg may stand in both rows of a node",
+    bend: |law| law.rows_apart = false,
+};
+
+pub const BITS_PAST_M: Bend = Bend {
+    what: "a node's bits past leg m count for nothing",
+    bend: |law| law.clear_past_m = false,
+};
+
+pub const ONE_ROW_COUNTED: Bend = Bend {
+    what: "the free legs are m less the required ones alone",
+    bend: |law| law.both_rows_counted = false,
+};
+
 pub const RULED_STAYS_ABOVE: Bend = Bend {
     what: "what the lower ceiling rules is ruled so under the higher",
     bend: |law| law.ruled_stays_below = false,
@@ -600,4 +625,24 @@ pub const SEVEN_PLACES_CHECKED: Bend = Bend {
 pub const LAST_OF_NINE: Bend = Bend {
     what: "a dispatcher's last served may be 9",
     bend: |law| law.max_last = 9,
+};
+
+pub const STORED_COUNT: Bend = Bend {
+    what: "a former count was one higher",
+    bend: |law| law.stored_nodes = 1,
+};
+
+pub const STORED_VALUE: Bend = Bend {
+    what: "a former best cost was one higher",
+    bend: |law| law.stored_value = 1,
+};
+
+pub const STORED_REFUSAL: Bend = Bend {
+    what: "a former refusal had another number",
+    bend: |law| law.stored_number = 1,
+};
+
+pub const STORED_BYTE: Bend = Bend {
+    what: "the last byte of a list that was lent was another",
+    bend: |law| law.stored_byte = 1,
 };

@@ -14,4 +14,6 @@ pub mod report;
 pub mod soak;
 #[cfg(feature = "library")]
 pub mod stack;
+#[cfg(feature = "library")]
+pub mod stored;
 pub mod suites;

@@ -1,7 +1,7 @@
 //! The search record: its parts, the record of a state of the machine, and the record's own check as docs/RECORD.md states it.
 
 use crate::document::dispatcher::{self, Dispatcher};
-use crate::document::graph::{self, Graph, EXCLUDED, PLACES, REQUIRED};
+use crate::document::graph::{self, Graph, EXCLUDED, FREE, PLACES, REQUIRED};
 use crate::document::law::Law;
 use crate::document::machine::{Call, Machine, Node, Search};
 use crate::document::rulings::ceiling_fits;
@@ -11,7 +11,14 @@ use std::fmt;
 /// Nodes that the stack has room for.
 pub const NODES: usize = 22;
 
-pub const STACK: usize = NODES * PLACES;
+/// Words of a row of bits, of which a node has two: a bit for each edge.
+pub const ROW: usize = PLACES.div_ceil(64);
+
+/// Words of a node: "a node's required legs in one row of 64-bit words and its struck legs in another" (document 02, C-19).
+pub const NODE: usize = 2 * ROW;
+
+/// Words of all nodes.
+pub const STACK: usize = NODES * NODE;
 
 /// Vertices that a graph has room for.
 pub const VERTICES: usize = 20;
@@ -22,14 +29,15 @@ pub const CARRIED: usize = NODES * VERTICES;
 /// Bytes of a graph: a cost, two ends and a mark for each place, n and m.
 pub const GRAPH: usize = 7 * PLACES + 2;
 
-/// Bytes of a record before its stack: settings, three numbers, the graph, the multipliers and what the nodes carry.
-pub const BEFORE_STACK: usize = 24 + 3 * 8 + GRAPH + 4 * VERTICES + 4 * CARRIED;
+/// Bytes of a record before its stack: settings, upper bound and count.
+pub const BEFORE_STACK: usize = 24 + 2 * 8;
 
-/// Bytes of a record: behind the stack are the incumbent and two flags.
-pub const SIZE: usize = BEFORE_STACK + STACK + PLACES + 2;
+/// Bytes of a record: behind the stack are the depth, the graph, the multipliers, what the nodes carry, the incumbent and two flags.
+pub const SIZE: usize =
+    BEFORE_STACK + 8 * STACK + 4 + GRAPH + 4 * VERTICES + 4 * CARRIED + PLACES + 2;
 
-/// The record's parts, with any contents. Edge j of node p, both counted from 0, has its mark at place 190 · p + j of the stack, and vertex v of
-/// node p its multiplier at place 20 · p + v of what the nodes carry.
+/// The record's parts, with any contents. Node p, counted from 0, has its two rows from word 6 · p of the stack on, and the multiplier of vertex v,
+/// counted from 0, at place 20 · p + v of what the nodes carry.
 #[derive(Clone, PartialEq, Eq)]
 pub struct Record {
     pub ceiling: i64,
@@ -38,11 +46,11 @@ pub struct Record {
     pub denominator: u64,
     pub upper: i64,
     pub count: u64,
-    pub depth: usize,
+    pub stack: Vec<u64>,
+    pub depth: u32,
     pub graph: Graph,
     pub multipliers: [i32; VERTICES],
     pub carried: Vec<i32>,
-    pub stack: Vec<u8>,
     pub best: [u8; PLACES],
     pub open: u8,
     pub has_best: u8,
@@ -68,9 +76,9 @@ impl Record {
         record.step = search.step;
         record.denominator = search.denominator;
         record.upper = search.upper;
-        record.depth = search.stack.len();
+        record.depth = search.stack.len() as u32;
         for (p, Node { marks, multipliers }) in search.stack.iter().enumerate() {
-            record.stack[PLACES * p..PLACES * p + marks.len()].copy_from_slice(marks);
+            record.stack[NODE * p..NODE * (p + 1)].copy_from_slice(&rows(&Law::AS_WRITTEN, marks));
             record.carried[VERTICES * p..VERTICES * p + multipliers.len()]
                 .copy_from_slice(multipliers);
         }
@@ -90,11 +98,11 @@ impl Record {
         bytes.extend(self.denominator.to_ne_bytes());
         bytes.extend(self.upper.to_ne_bytes());
         bytes.extend(self.count.to_ne_bytes());
+        bytes.extend(self.stack.iter().flat_map(|x| x.to_ne_bytes()));
         bytes.extend(self.depth.to_ne_bytes());
         bytes.extend(graph_bytes(&self.graph));
         bytes.extend(self.multipliers.iter().flat_map(|x| x.to_ne_bytes()));
         bytes.extend(self.carried.iter().flat_map(|x| x.to_ne_bytes()));
-        bytes.extend(&self.stack);
         bytes.extend(self.best);
         bytes.extend([self.open, self.has_best]);
         bytes
@@ -110,13 +118,15 @@ impl Record {
             denominator: u64::from_ne_bytes(next(&mut rest)),
             upper: i64::from_ne_bytes(next(&mut rest)),
             count: u64::from_ne_bytes(next(&mut rest)),
-            depth: usize::from_ne_bytes(next(&mut rest)),
+            stack: (0..STACK)
+                .map(|_| u64::from_ne_bytes(next(&mut rest)))
+                .collect(),
+            depth: u32::from_ne_bytes(next(&mut rest)),
             graph: graph_of(&next::<GRAPH>(&mut rest)),
             multipliers: std::array::from_fn(|_| i32::from_ne_bytes(next(&mut rest))),
             carried: (0..CARRIED)
                 .map(|_| i32::from_ne_bytes(next(&mut rest)))
                 .collect(),
-            stack: next::<STACK>(&mut rest).to_vec(),
             best: next(&mut rest),
             open: next::<1>(&mut rest)[0],
             has_best: next::<1>(&mut rest)[0],
@@ -145,9 +155,9 @@ impl Record {
         });
         let search = machine.search.as_mut()?;
         search.upper = self.upper;
-        search.stack = (0..self.depth)
+        search.stack = (0..self.waiting())
             .map(|p| Node {
-                marks: self.node(p)[..m].to_vec(),
+                marks: (0..m).map(|k| self.mark(p, k)).collect(),
                 multipliers: self.carried_by(p)[..n].to_vec(),
             })
             .collect();
@@ -181,15 +191,15 @@ impl Record {
                 .all(|x| *x == 0)
             && self.best[best..].iter().all(|x| *x == 0)
             && (0..NODES).all(|p| {
-                let used = match p < self.depth {
-                    true => graph.m.min(PLACES),
+                let used = match p < self.waiting() {
+                    true if law.clear_past_m => graph.m,
                     false if law.zeros_past_depth => 0,
-                    false => PLACES,
+                    _ => 64 * ROW,
                 };
-                self.node(p)[used..].iter().all(|x| *x == 0)
+                (used..64 * ROW).all(|k| !self.required(p, k) && !self.struck(p, k))
             })
             && (0..NODES).all(|p| {
-                let used = match p < self.depth {
+                let used = match p < self.waiting() {
                     true if law.carried_zero_past_n => graph.n.min(VERTICES),
                     false if law.zeros_past_depth => 0,
                     _ => VERTICES,
@@ -198,8 +208,46 @@ impl Record {
             })
     }
 
-    fn node(&self, p: usize) -> &[u8] {
-        &self.stack[PLACES * p..PLACES * (p + 1)]
+    pub fn waiting(&self) -> usize {
+        self.depth as usize
+    }
+
+    /// The two rows of node p, that of the required edges first.
+    pub fn rows(&self, p: usize) -> (&[u64], &[u64]) {
+        self.stack[NODE * p..NODE * (p + 1)].split_at(ROW)
+    }
+
+    /// Whether edge k, counted from 0, is in node p's row of required edges.
+    fn required(&self, p: usize, k: usize) -> bool {
+        bit(self.rows(p).0, k)
+    }
+
+    /// Whether it is in the row of excluded ones.
+    fn struck(&self, p: usize, k: usize) -> bool {
+        bit(self.rows(p).1, k)
+    }
+
+    fn mark(&self, p: usize, k: usize) -> u8 {
+        match (self.required(p, k), self.struck(p, k)) {
+            (true, _) => REQUIRED,
+            (_, true) => EXCLUDED,
+            _ => FREE,
+        }
+    }
+
+    /// "The number of free legs becomes m less the set bits of both rows."
+    pub fn free(&self, law: &Law, p: usize) -> usize {
+        let (required, struck) = self.rows(p);
+        let ones = |row: &[u64]| {
+            row.iter()
+                .map(|word| word.count_ones() as usize)
+                .sum::<usize>()
+        };
+        let counted = match law.both_rows_counted {
+            true => ones(required) + ones(struck),
+            false => ones(required),
+        };
+        self.graph.m - counted
     }
 
     fn carried_by(&self, p: usize) -> &[i32] {
@@ -220,8 +268,8 @@ impl Record {
             && self.count == 0
     }
 
-    /// A search is open: an opening accepts the arguments, U is a ceiling, at most n + 2 nodes wait, node p has marks only and at least
-    /// p of them required, an opening accepts the multipliers that it carries, the incumbent is of 0 and 1, and the count is at most 2^63 - 1.
+    /// A search is open: an opening accepts the arguments, U is a ceiling, at most n + 2 nodes wait, node p has "no leg in both" rows and at least
+    /// p required ones, an opening accepts the multipliers that it carries, the incumbent is of 0 and 1, and the count is at most 2^63 - 1.
     fn fits(&self, law: &Law) -> bool {
         let m = self.graph.m;
         graph::fits(law, &self.graph)
@@ -238,13 +286,13 @@ impl Record {
             && self.step <= law.max_step
             && (tree::denominator_fits(law, self.denominator) || !law.denominator_checked)
             && ceiling_fits(law, self.upper)
-            && self.depth <= NODES.min(self.graph.n + law.nodes_above_vertices)
-            && (0..self.depth).all(|p| {
-                let marks = &self.node(p)[..m];
-                let required = marks.iter().filter(|mark| **mark == REQUIRED).count();
-                marks.iter().all(|mark| *mark <= EXCLUDED) && p <= required + law.required_short
+            && self.waiting() <= NODES.min(self.graph.n + law.nodes_above_vertices)
+            && (0..self.waiting()).all(|p| {
+                let both = |k: usize| self.required(p, k) && self.struck(p, k);
+                let required = (0..m).filter(|k| self.required(p, *k)).count();
+                (!law.rows_apart || !(0..m).any(both)) && p <= required + law.required_short
             })
-            && (0..self.depth).all(|p| {
+            && (0..self.waiting()).all(|p| {
                 let carried = &self.carried_by(p)[..self.graph.n];
                 let q = self.denominator;
                 !law.carried_fit || tree::admit(law, &self.graph, carried, q, None).is_ok()
@@ -252,6 +300,25 @@ impl Record {
             && self.best.iter().all(|x| *x <= 1)
             && self.count < 1 << 63
     }
+}
+
+/// Whether edge k, counted from 0, has its bit set in a row.
+fn bit(row: &[u64], k: usize) -> bool {
+    row[k / 64] >> (k % 64) & 1 == 1
+}
+
+/// The rows of a node's marks: "a node's required legs in one row of 64-bit words and its struck legs in another".
+pub fn rows(law: &Law, marks: &[u8]) -> [u64; NODE] {
+    let mut rows = [0; NODE];
+    for (k, mark) in (law.first_bit..).zip(marks) {
+        let row = match *mark {
+            REQUIRED => law.required_row,
+            EXCLUDED => 1 - law.required_row,
+            _ => continue,
+        };
+        rows[ROW * row + k / 64] |= 1 << (k % 64);
+    }
+    rows
 }
 
 /// Bytes of a dispatcher: the place last served, and a record for each place.
@@ -368,7 +435,12 @@ impl fmt::Debug for Record {
             .filter(|(_, x)| *x != 0)
             .collect();
         write!(f, " carried, where not zero, {carried:?}")?;
-        write!(f, " stack, where not zero, {:?}", places(&self.stack))?;
+        let words: Vec<String> = (0..)
+            .zip(&self.stack)
+            .filter(|(_, x)| **x != 0)
+            .map(|(i, x): (usize, &u64)| format!("({i}, {x:#x})"))
+            .collect();
+        write!(f, " stack, where not zero, [{}]", words.join(", "))?;
         write!(f, " incumbent {:?}", places(&self.best))
     }
 }

@@ -8,21 +8,25 @@ use std::collections::BTreeMap;
 /// No call of the library but those on a shelf or a dispatcher uses more stack than this: README states it, `soak` holds them to it.
 pub const STATED: usize = 64 * 1024;
 
-/// Nor does one of those on a shelf use more than this: they copy its eight records.
-pub const STATED_OF_SHELVES: usize = 264 * 1024;
+/// Nor does one of those use more than this: they copy its eight records.
+pub const STATED_OF_EIGHT: usize = 160 * 1024;
 
-/// Nor one of those on a dispatcher, which copy its eight too.
-pub const STATED_OF_DISPATCHERS: usize = 256 * 1024;
+/// The ends of these calls' names.
+const OF_EIGHT: [&str; 7] = [
+    "_shelf",
+    "_save",
+    "_back",
+    "_dispatcher",
+    "_add",
+    "_turn",
+    "_at",
+];
 
 /// What is stated of a call.
 pub fn stated(name: &str) -> usize {
-    let is_of = |ends: &[&str]| ends.iter().any(|end| name.ends_with(end));
-    if is_of(&["_shelf", "_save", "_back"]) {
-        STATED_OF_SHELVES
-    } else if is_of(&["_dispatcher", "_add", "_turn", "_at"]) {
-        STATED_OF_DISPATCHERS
-    } else {
-        STATED
+    match OF_EIGHT.iter().any(|end| name.ends_with(end)) {
+        true => STATED_OF_EIGHT,
+        false => STATED,
     }
 }
 
@@ -30,7 +34,7 @@ pub fn stated(name: &str) -> usize {
 pub const STATED_OF_PROGRAMS: usize = 128 * 1024;
 
 /// Words of the painted stack: more than is stated, so that a call that goes too deep is measured and does not break anything.
-const WORDS: usize = 4 * STATED_OF_SHELVES / 8;
+const WORDS: usize = 4 * STATED_OF_EIGHT / 8;
 
 const PAINT: u64 = 0x7061_696e_7465_6421;
 

@@ -2,10 +2,9 @@
 //! compiler takes many places at a time.
 
 use super::record::{Record, NODES};
-use super::{Marks, Multipliers};
-use crate::inputs::{
-    Graph, EXCLUDED, MAX_CEILING, MAX_COST, MAX_MULTIPLIER, PLACES, REQUIRED, VERTICES,
-};
+use super::rows::{fit, Rows};
+use super::Multipliers;
+use crate::inputs::{Graph, EXCLUDED, MAX_CEILING, MAX_COST, MAX_MULTIPLIER, PLACES, VERTICES};
 
 /// Document 01, 'Legs and marks'.
 pub fn graph_fits(graph: &Graph) -> bool {
@@ -59,6 +58,10 @@ fn zero_numbers(numbers: &[i32]) -> bool {
     numbers.iter().fold(0, |any, number| any | number) == 0
 }
 
+fn zero_words(words: &[u64]) -> bool {
+    words.iter().fold(0, |any, word| any | word) == 0
+}
+
 /// docs/RECORD.md.
 pub fn record_fits(record: &Record) -> bool {
     let graph = &record.graph;
@@ -70,9 +73,9 @@ pub fn record_fits(record: &Record) -> bool {
             && sweeps_fit(record.sweeps, record.step)
             && record.denominator == 1
             && ceiling_fits(record.upper)
-            && record.depth <= graph.n() + 2
-            && nodes_fit(&record.stack[..record.depth], graph.m())
-            && carried_fits(&record.carried[..record.depth], graph.n())
+            && record.waiting() <= graph.n() + 2
+            && nodes_fit(&record.stack[..record.waiting()], graph.m())
+            && carried_fits(&record.carried[..record.waiting()], graph.n())
             && record.best.iter().fold(0, |most, byte| most.max(*byte)) <= 1
             && record.count < 1 << 63
     } else {
@@ -81,16 +84,9 @@ pub fn record_fits(record: &Record) -> bool {
     flags && used && unused(record)
 }
 
-/// Nodes from the bottom: marks, zero past m, and at place p at least p required ones.
-fn nodes_fit(nodes: &[Marks], m: usize) -> bool {
-    nodes.iter().enumerate().all(|(p, node)| {
-        let most = node.iter().fold(0, |most, mark| most.max(*mark));
-        let required = node
-            .iter()
-            .map(|mark| (*mark == REQUIRED) as u8)
-            .sum::<u8>();
-        most <= EXCLUDED && zero(&node[m..]) && p <= required as usize
-    })
+/// Nodes from the bottom: rows of different edges, none past m, and at place p at least p required ones.
+fn nodes_fit(nodes: &[Rows], m: usize) -> bool {
+    nodes.iter().enumerate().all(|(p, node)| fit(node, m, p))
 }
 
 /// What nodes carry: multipliers, zero past n.
@@ -117,7 +113,7 @@ fn closed(record: &Record) -> bool {
 /// What is not in use is zero.
 fn unused(record: &Record) -> bool {
     let graph = &record.graph;
-    let (n, m, depth) = (graph.n(), graph.m(), record.depth);
+    let (n, m, depth) = (graph.n(), graph.m(), record.waiting());
     let best = if record.has_best == 1 { m } else { 0 };
     debug_assert!(n <= VERTICES && m <= PLACES && depth <= NODES);
     zero(&graph.a[m..])
@@ -125,7 +121,7 @@ fn unused(record: &Record) -> bool {
         && zero_numbers(&graph.cost[m..])
         && zero(&graph.mark[m..])
         && zero_numbers(&record.multipliers[n..])
-        && zero(record.stack[depth..].as_flattened())
+        && zero_words(record.stack[depth..].as_flattened())
         && zero_numbers(record.carried[depth..].as_flattened())
         && zero(&record.best[best..])
 }

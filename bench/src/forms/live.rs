@@ -1,8 +1,7 @@
-//! Which edges of a node are not excluded: deep in a search few, and their marks lie far apart.
+//! Which edges of a node are not excluded: deep in a search few, and their bits lie far apart.
 
 use super::keys::ROOM;
-use super::Marks;
-use crate::inputs::{EXCLUDED, PLACES};
+use super::rows::{Rows, ROW};
 
 const ONES: u64 = 0x0101_0101_0101_0101;
 
@@ -32,28 +31,18 @@ const fn set_places(bits: u64) -> (u64, u64) {
     (places, count)
 }
 
-/// Puts down the numbers of the edges that are not excluded, ascending, and gives their count: eight
-/// marks at a time and without a branch on any mark.
+/// Puts down the numbers of the first m edges that are not excluded, ascending, and gives their count: eight bits of the row at a time and without a
+/// branch on any of them.
 #[inline(always)]
-pub fn live(marks: &Marks, m: usize, numbers: &mut Numbers) -> usize {
-    let mut padded = [EXCLUDED; ROOM];
-    padded[..PLACES].copy_from_slice(marks);
-    let (blocks, _) = padded.as_chunks::<8>();
+pub fn live(rows: &Rows, m: usize, numbers: &mut Numbers) -> usize {
     let (mut count, mut first) = (0, 0);
-    for block in &blocks[..m.div_ceil(8)] {
-        let (places, more) = SET_PLACES[live_bits(u64::from_le_bytes(*block))];
+    for i in 0..m.div_ceil(8) {
+        let live = !(rows[ROW + i / 8] >> (8 * i % 64));
+        let (places, more) = SET_PLACES[live as usize % 256];
         numbers[count..count + 8].copy_from_slice(&(places + first).to_le_bytes());
         count += more as usize;
         first += 8 * ONES;
     }
-    // Marks past m are zero, as if their edges were free.
-    count - (m.next_multiple_of(8) - m).min(PLACES - m)
-}
-
-/// Which of eight marks are not 2, a bit each: the product has the lowest bit of each byte in its
-/// highest byte.
-#[inline(always)]
-fn live_bits(marks: u64) -> usize {
-    let live = !(marks >> 1) & ONES;
-    (live.wrapping_mul(0x0102_0408_1020_4080) >> 56) as usize
+    // Bits past m are clear, as if their edges were free.
+    count - (m.next_multiple_of(8) - m)
 }

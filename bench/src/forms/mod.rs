@@ -2,7 +2,7 @@
 //! as fast as an expert would write it without proofs. It shares no code with the library, nor with
 //! the first reference.
 //!
-//! The forms: a node is a mark for each edge in an array by value; the tree part (`tree` and what
+//! The forms: a node in hand is a mark for each edge in an array by value, a stored one two rows of bits; the tree part (`tree` and what
 //! stands below it) knows nothing of searches, is called once a pass with a graph and multipliers
 //! and gives tree and rulings; a 20 by 20 array of edge numbers in it; the nested climb with a
 //! labelled break; one record that the caller lends and that every call checks (docs/RECORD.md);
@@ -23,6 +23,7 @@ mod live;
 mod order;
 mod planner;
 mod record;
+mod rows;
 mod search;
 #[cfg(test)]
 mod tests;

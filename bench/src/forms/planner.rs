@@ -27,7 +27,7 @@ impl Planner for Forms {
     }
 
     fn state(&self) -> (i64, usize) {
-        (self.0.upper, self.0.depth)
+        (self.0.upper, self.0.waiting())
     }
 
     fn finish(&mut self, tour: &mut [u8]) -> (Verdict, u64) {

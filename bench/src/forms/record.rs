@@ -1,5 +1,6 @@
 //! The record that the caller lends, and the calls on it: thin functions above the core by value.
 
+use super::rows::{Rows, ROW};
 use super::{search, Marks, Multipliers};
 use crate::inputs::{Graph, PLACES, VERTICES};
 use ::planner::raw;
@@ -18,8 +19,8 @@ pub struct Record {
     /// 1 in a search: the references know no fractions (document 02, C-17)
     pub denominator: u64,
     pub upper: i64,
-    pub depth: usize,
-    pub stack: [Marks; NODES],
+    pub depth: u32,
+    pub stack: [Rows; NODES],
     pub carried: [Multipliers; NODES],
     pub has_best: u8,
     pub best: Marks,
@@ -59,12 +60,17 @@ impl Record {
             denominator: 0,
             upper: 0,
             depth: 0,
-            stack: [[0; PLACES]; NODES],
+            stack: [[0; 2 * ROW]; NODES],
             carried: [[0; VERTICES]; NODES],
             has_best: 0,
             best: [0; PLACES],
             count: 0,
         }
+    }
+
+    /// How many nodes wait.
+    pub fn waiting(&self) -> usize {
+        self.depth as usize
     }
 
     pub fn open(&mut self, g: &Graph, d: &[i32], ceiling: i64, sweeps: u32, step: u32) -> Answer {

@@ -2,9 +2,10 @@
 
 use super::check::{ceiling_fits, graph_fits, multipliers_fit, record_fits, sweeps_fit};
 use super::record::{Answer, Record, Step};
+use super::rows::{excluding, lowest_free, packed, requiring, unpack, Rows, ROW};
 use super::tree::{self, Tree, Work};
 use super::{Marks, Multipliers};
-use crate::inputs::{Graph, EXCLUDED, FREE, MAX_MULTIPLIER, PLACES, REQUIRED, VERTICES};
+use crate::inputs::{Graph, MAX_MULTIPLIER, PLACES, REQUIRED, VERTICES};
 
 /// Run opens no node beyond.
 const MOST: u64 = (1 << 63) - 1;
@@ -51,7 +52,7 @@ pub fn open(
     (record.ceiling, record.upper) = (ceiling, ceiling);
     (record.sweeps, record.step) = (sweeps, gain);
     record.denominator = 1;
-    record.stack[0] = record.graph.mark;
+    record.stack[0] = packed(&record.graph.mark, m);
     record.carried[0] = record.multipliers;
     record.depth = 1;
     step.answer = Answer::Accepted;
@@ -130,37 +131,41 @@ pub fn run(mut step: Step, budget: u64) -> Step {
 fn open_nodes(record: &mut Record, mut left: u64) {
     let mut node = Node {
         graph: record.graph.clone(),
+        rows: [0; 2 * ROW],
         work: Work::blank(),
         rulings: [0; PLACES],
         multipliers: record.multipliers,
     };
-    let (mut highest, mut in_hand) = (record.depth, false);
+    let (mut highest, mut in_hand) = (record.waiting(), false);
     while left > 0 && (in_hand || record.depth > 0) {
         left -= 1;
         record.count += 1;
         if !in_hand {
             record.depth -= 1;
-            node.graph.mark = record.stack[record.depth];
-            node.multipliers = record.carried[record.depth];
+            node.rows = record.stack[record.waiting()];
+            unpack(&node.rows, node.graph.m(), &mut node.graph.mark);
+            node.multipliers = record.carried[record.waiting()];
         }
-        node.work.order.list(&node.graph);
+        node.work.order.list(&node.graph, &node.rows);
         in_hand = node.passes(record) && split(record, &mut node);
-        highest = highest.max(record.depth);
+        highest = highest.max(record.waiting());
     }
     if in_hand {
-        record.stack[record.depth] = node.graph.mark;
-        record.carried[record.depth] = node.multipliers;
+        record.stack[record.waiting()] = node.rows;
+        record.carried[record.waiting()] = node.multipliers;
         record.depth += 1;
     }
-    if highest > record.depth {
-        record.stack[record.depth..highest].fill([0; PLACES]);
-        record.carried[record.depth..highest].fill([0; VERTICES]);
+    let waiting = record.waiting();
+    if highest > waiting {
+        record.stack[waiting..highest].fill([0; 2 * ROW]);
+        record.carried[waiting..highest].fill([0; VERTICES]);
     }
 }
 
-/// The node that is open: its marks are those of the graph.
+/// The node that is open: its marks are those of the graph. The rows are of its marks as it was opened, and again after a split.
 struct Node {
     graph: Graph,
+    rows: Rows,
     work: Work,
     rulings: Marks,
     /// those of the last pass
@@ -242,31 +247,14 @@ fn adjust(d: &mut Multipliers, tree: &Tree, n: usize, step: i32) {
 /// where none is free.
 fn split(record: &mut Record, node: &mut Node) -> bool {
     let graph = &mut node.graph;
-    let k = lowest_free(&graph.mark);
-    if k >= graph.m() {
+    let (rows, waiting) = (packed(&graph.mark, graph.m()), record.waiting());
+    let Some(k) = lowest_free(&rows, graph.m()) else {
         return false;
-    }
-    let excluded = &mut record.stack[record.depth];
-    *excluded = graph.mark;
-    excluded[k] = EXCLUDED;
-    record.carried[record.depth] = node.multipliers;
+    };
+    record.stack[waiting] = excluding(rows, k);
+    record.carried[waiting] = node.multipliers;
     record.depth += 1;
+    node.rows = requiring(rows, k);
     graph.mark[k] = REQUIRED;
     true
-}
-
-/// The first place with a free mark, eight places at a time, or one past all edges.
-fn lowest_free(marks: &Marks) -> usize {
-    const ONES: u64 = 0x0101_0101_0101_0101;
-    let (blocks, rest) = marks.as_chunks::<8>();
-    for (i, block) in blocks.iter().enumerate() {
-        let word = u64::from_le_bytes(*block);
-        let free = !(word | word >> 1) & ONES;
-        if free != 0 {
-            return 8 * i + free.trailing_zeros() as usize / 8;
-        }
-    }
-    let start = PLACES - rest.len();
-    let place = rest.iter().position(|mark| *mark == FREE);
-    start + place.unwrap_or(rest.len())
 }

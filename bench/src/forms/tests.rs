@@ -2,6 +2,7 @@
 //! one.
 
 use super::check::record_fits;
+use super::rows::{packed, unpack, ROW};
 use super::{Answer, Forms, Record};
 use crate::agree::{any_ceiling, any_multipliers, sparse};
 use crate::inputs::{Random, MAX_CEILING, MAX_COST, MAX_MULTIPLIER, PLACES, VERTICES};
@@ -60,9 +61,38 @@ fn agrees_with_the_free_reference() {
     }
 }
 
+/// Whether edge k, counted from 0, is required in node p.
+fn required(r: &Record, p: usize, k: usize) -> bool {
+    r.stack[p][k / 64] >> (k % 64) & 1 == 1
+}
+
+fn excluded(r: &Record, p: usize, k: usize) -> bool {
+    r.stack[p][ROW + k / 64] >> (k % 64) & 1 == 1
+}
+
+#[test]
+fn rows_are_the_marks() {
+    let mut random = Random::new(19);
+    for m in 0..=PLACES {
+        let mut marks = [0; PLACES];
+        marks[..m]
+            .iter_mut()
+            .for_each(|mark| *mark = random.below(3) as u8);
+        let mut record = Record::fresh();
+        record.stack[0] = packed(&marks, m);
+        for (k, mark) in marks.iter().enumerate() {
+            let said = (required(&record, 0, k), excluded(&record, 0, k));
+            assert_eq!(said, (*mark == 1, *mark == 2));
+        }
+        let mut again = [0; PLACES];
+        unpack(&record.stack[0], m, &mut again);
+        assert_eq!(again, marks);
+    }
+}
+
 /// docs/RECORD.md, place by place.
 fn plain_check(r: &Record) -> bool {
-    let (n, m, depth) = (r.graph.n(), r.graph.m(), r.depth);
+    let (n, m, depth) = (r.graph.n(), r.graph.m(), r.waiting());
     if n > VERTICES || m > PLACES || depth > n + 2 {
         return false;
     }
@@ -70,8 +100,8 @@ fn plain_check(r: &Record) -> bool {
     let unused = (m..PLACES)
         .all(|k| g.a[k] == 0 && g.b[k] == 0 && g.cost[k] == 0 && g.mark[k] == 0 && r.best[k] == 0)
         && (n..VERTICES).all(|v| r.multipliers[v] == 0)
-        && (depth..r.stack.len()).all(|p| r.stack[p].iter().all(|mark| *mark == 0))
-        && (0..depth).all(|p| r.stack[p][m..].iter().all(|mark| *mark == 0))
+        && (depth..r.stack.len()).all(|p| r.stack[p].iter().all(|word| *word == 0))
+        && (0..depth).all(|p| (m..64 * ROW).all(|k| !required(r, p, k) && !excluded(r, p, k)))
         && (depth..r.carried.len()).all(|p| r.carried[p].iter().all(|d| *d == 0))
         && (0..depth).all(|p| r.carried[p][n..].iter().all(|d| *d == 0))
         && (r.has_best == 1 || r.best.iter().all(|byte| *byte == 0));
@@ -102,8 +132,8 @@ fn plain_check(r: &Record) -> bool {
         && r.step <= 10_000
         && r.denominator == 1
         && (0..depth).all(|p| {
-            let required = r.stack[p][..m].iter().filter(|mark| **mark == 1).count();
-            r.stack[p].iter().all(|mark| *mark <= 2) && p <= required
+            let least = (0..m).filter(|k| required(r, p, *k)).count();
+            (0..m).all(|k| !(required(r, p, k) && excluded(r, p, k))) && p <= least
         })
         && (0..depth).all(|p| {
             let carried = &r.carried[p];
@@ -132,11 +162,11 @@ fn bend(r: &mut Record, random: &mut Random) {
         10 => r.step = [0, 10_000, 10_001][random.below(3)],
         11 => r.upper = wide,
         12 => r.depth = [0, r.depth + 1, r.depth.wrapping_sub(1), 22, 23][random.below(5)],
-        13 => r.stack[p][k] = byte,
-        14 => r.stack[random.below(r.depth + 1) % 22][k] = byte,
+        13 => r.stack[p][k % (2 * ROW)] ^= 1 << random.below(64),
+        14 => r.stack[random.below(r.waiting() + 1) % 22][k % (2 * ROW)] ^= 1 << random.below(64),
         15 => r.has_best = byte,
         17 => r.carried[p][k % VERTICES] = [0, 1, MAX_MULTIPLIER + 1, i32::MIN][random.below(4)],
-        18 => r.carried[random.below(r.depth + 1) % 22][k % VERTICES] = [0, 1][random.below(2)],
+        18 => r.carried[random.below(r.waiting() + 1) % 22][k % VERTICES] = [0, 1][random.below(2)],
         16 => r.best[k] = byte,
         19 => r.denominator = [0, 1, 2, 1_001][random.below(4)],
         _ => r.count = [0, (1 << 63) - 1, 1 << 63][random.below(3)],

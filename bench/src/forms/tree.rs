@@ -6,6 +6,7 @@ use super::grow::Grown;
 use super::hang::Hung;
 use super::keys::{lanes, Lanes, LANES};
 use super::order::Order;
+use super::rows::packed;
 use super::{Marks, Multipliers};
 use crate::inputs::{Graph, PLACES};
 
@@ -81,7 +82,7 @@ fn fit(graph: &Graph, d: &[i32], length: usize) -> Option<Lanes> {
 
 /// One graph by itself: the bound of its least 1-tree.
 fn alone(graph: &Graph, d: &Lanes, grown: &mut Grown, order: &mut Order) -> Option<i64> {
-    order.list(graph);
+    order.list(graph, &packed(&graph.mark, graph.m()));
     order.sort(graph, d);
     grown.grow(graph, d, order)
 }

@@ -474,7 +474,7 @@ impl Told {
     }
 }
 
-/// A search for the cheapest tour. It owns its record, 7,592 bytes on the heap.
+/// A search for the cheapest tour. It owns its record, 4,464 bytes on the heap.
 #[derive(Clone, Debug)]
 pub struct Search {
     record: Box<Record>,

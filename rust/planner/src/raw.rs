@@ -7,6 +7,8 @@ pub const VERTICES: usize = 20;
 pub const EDGES: usize = 190;
 /// The most nodes that wait in a search.
 pub const NODES: usize = VERTICES + 2;
+/// Words of a row of bits, one bit for each edge; a node has two rows.
+pub const ROW: usize = 3;
 /// The places of a shelf, with the names 1 to 8, and of a dispatcher.
 pub const PLACES: usize = 8;
 /// The most times of an edge that its recent cost looks at.
@@ -95,11 +97,11 @@ pub struct Record {
     pub settings: Settings,
     pub upper: i64,
     pub count: u64,
-    pub depth: usize,
+    pub stack: [u64; NODES * 2 * ROW],
+    pub depth: u32,
     pub graph: Graph,
     pub multipliers: [i32; VERTICES],
     pub carried: [i32; NODES * VERTICES],
-    pub stack: [u8; NODES * EDGES],
     pub best: [u8; EDGES],
     pub open: u8,
     pub has_best: u8,
@@ -135,9 +137,9 @@ layout!(Settings, 24, ceiling at 0, sweeps at 8, step at 12, denominator at 16);
 layout!(Sailed, 32, number at 0, place at 8, total at 16, state at 24);
 layout!(Terms, 24, ceiling at 0, budget at 8, denominator at 16);
 layout!(
-    Record, 7_592,
-    settings at 0, upper at 24, count at 32, depth at 40, graph at 48, multipliers at 1_380, carried at 1_460, stack at 3_220, best at 7_400,
-    open at 7_590, has_best at 7_591
+    Record, 4_464,
+    settings at 0, upper at 24, count at 32, stack at 40, depth at 1_096, graph at 1_100, multipliers at 2_432, carried at 2_512, best at 4_272,
+    open at 4_462, has_best at 4_463
 );
 
 layout!(Places, PLACES * std::mem::size_of::<Record>(), places at 0);

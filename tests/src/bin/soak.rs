@@ -7,7 +7,7 @@ use planner_tests::random::Random;
 use planner_tests::soak::counts::Counts;
 use planner_tests::soak::programs::{ended, hunt_input, limited, Ended};
 use planner_tests::soak::{kind_of, random_of, run, Kind, Watch, KINDS};
-use planner_tests::stack::{self, stated, STATED_OF_PROGRAMS, STATED_OF_SHELVES};
+use planner_tests::stack::{self, stated, STATED_OF_EIGHT, STATED_OF_PROGRAMS};
 use std::fs;
 use std::hint::black_box;
 use std::os::unix::process::ExitStatusExt;
@@ -118,7 +118,7 @@ fn folder() -> PathBuf {
 
 /// Makes the runs in a thread that has no more stack than a call may use, and prints what was counted.
 fn worker(plan: Plan) -> Result<(), String> {
-    let thread = thread::Builder::new().stack_size(STATED_OF_SHELVES + OWN);
+    let thread = thread::Builder::new().stack_size(STATED_OF_EIGHT + OWN);
     let counts = thread
         .spawn(move || runs(&plan))
         .map_err(|error| error.to_string())?

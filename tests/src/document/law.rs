@@ -215,6 +215,16 @@ pub struct Law {
     pub required_short: usize,
     /// its nodes that do not wait are zero
     pub zeros_past_depth: bool,
+    /// C-19: "a node's required legs in one row .. and its struck legs in another": which comes first is ours
+    pub required_row: usize,
+    /// leg k is bit (k − 1) % 64 of word (k − 1) / 64
+    pub first_bit: usize,
+    /// C-19: "with no leg in both"
+    pub rows_apart: bool,
+    /// C-19: "and every bit past leg m clear"
+    pub clear_past_m: bool,
+    /// C-19: "m less the set bits of both rows"
+    pub both_rows_counted: bool,
     /// C-16: the multipliers that its nodes carry fit
     pub carried_fit: bool,
     /// and are zero past n
@@ -236,6 +246,12 @@ pub struct Law {
     pub close_keeps_places: bool,
     /// C-18: "24 covers the lent saved states too": every one of them
     pub every_place_checked: bool,
+
+    /// C-19: "answers on every call equal the former ones": what the stored ones have more, or other, than was answered
+    pub stored_nodes: u64,
+    pub stored_value: i64,
+    pub stored_number: u32,
+    pub stored_byte: u8,
 }
 
 impl Law {
@@ -341,6 +357,11 @@ impl Law {
         nodes_above_vertices: 2,
         required_short: 0,
         zeros_past_depth: true,
+        required_row: 0,
+        first_bit: 0,
+        rows_apart: true,
+        clear_past_m: true,
+        both_rows_counted: true,
         carried_fit: true,
         carried_zero_past_n: true,
         max_name: 8,
@@ -351,5 +372,9 @@ impl Law {
         back_keeps_place: true,
         close_keeps_places: true,
         every_place_checked: true,
+        stored_nodes: 0,
+        stored_value: 0,
+        stored_number: 0,
+        stored_byte: 0,
     };
 }

@@ -1,7 +1,7 @@
 //! The calls on a dispatcher.
 
 use super::lent::Lent;
-use super::{by_value, call, Reply};
+use super::{by_value, call, settings, Reply};
 use crate::document::dispatcher::Call;
 use crate::document::machine;
 use crate::record::{Dispatched, DISPATCHER};
@@ -9,7 +9,7 @@ use crate::report::Hex;
 use crate::stack;
 use planner::raw::{
     self, planner_add, planner_close_at, planner_fresh_dispatcher, planner_show_at,
-    planner_tell_at, planner_turn, Settings,
+    planner_tell_at, planner_turn,
 };
 
 impl Dispatched {
@@ -37,26 +37,15 @@ impl Dispatched {
         let said = match call {
             Call::Add(opening) => {
                 let machine::Call::Open {
-                    graph,
-                    multipliers,
-                    ceiling,
-                    sweeps,
-                    step,
-                    denominator,
+                    graph, multipliers, ..
                 } = opening
                 else {
                     unreachable!("a search is added by an opening");
                 };
-                let settings = Settings {
-                    ceiling: *ceiling,
-                    sweeps: *sweeps,
-                    step: *step,
-                    denominator: *denominator,
-                };
-                let g = by_value(graph);
+                let (g, t) = (by_value(graph), settings(opening));
                 let mut given = Lent::numbers(multipliers);
                 let m = given.pointer();
-                let said = call!(planner_add(d, g, m, multipliers.len(), settings));
+                let said = call!(planner_add(d, g, m, multipliers.len(), t));
                 kept = given.kept(&Lent::numbers(multipliers));
                 said
             }

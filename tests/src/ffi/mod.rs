@@ -2,6 +2,7 @@
 //! both sides, and what is only read is looked at again after the call.
 
 use crate::document::graph::Graph;
+use crate::document::machine::Call;
 use crate::document::recent::Log;
 use crate::document::Refusal;
 use crate::record::{graph_bytes, graph_of, GRAPH};
@@ -64,6 +65,26 @@ pub fn bound(value: i64) -> Said {
 pub fn by_value(graph: &Graph) -> raw::Graph {
     // SAFETY: any bytes are a graph of numbers, and it has no others.
     unsafe { std::mem::transmute::<[u8; GRAPH], raw::Graph>(graph_bytes(graph)) }
+}
+
+/// What a call takes of an opening beside the graph and the multipliers.
+pub fn settings(opening: &Call) -> raw::Settings {
+    let Call::Open {
+        ceiling,
+        sweeps,
+        step,
+        denominator,
+        ..
+    } = opening
+    else {
+        unreachable!("an opening has settings");
+    };
+    raw::Settings {
+        ceiling: *ceiling,
+        sweeps: *sweeps,
+        step: *step,
+        denominator: *denominator,
+    }
 }
 
 /// The check call: 0 where the value meets 'Legs and marks', otherwise 15.

@@ -1,14 +1,13 @@
 //! The calls on a search.
 
 use super::lent::Lent;
-use super::{by_value, call, Reply};
+use super::{by_value, call, settings, Reply};
 use crate::document::machine::Call;
 use crate::record::{Record, SIZE};
 use crate::report::Hex;
 use crate::stack;
 use planner::raw::{
     self, planner_close, planner_fresh, planner_open, planner_run, planner_show, planner_tell,
-    Settings,
 };
 
 impl Record {
@@ -33,23 +32,12 @@ impl Record {
         let mut kept = true;
         let said = match call {
             Call::Open {
-                graph,
-                multipliers,
-                ceiling,
-                sweeps,
-                step,
-                denominator,
+                graph, multipliers, ..
             } => {
-                let settings = Settings {
-                    ceiling: *ceiling,
-                    sweeps: *sweeps,
-                    step: *step,
-                    denominator: *denominator,
-                };
-                let g = by_value(graph);
+                let (g, t) = (by_value(graph), settings(call));
                 let mut given = Lent::numbers(multipliers);
                 let d = given.pointer();
-                let said = call!(planner_open(s, g, d, multipliers.len(), settings));
+                let said = call!(planner_open(s, g, d, multipliers.len(), t));
                 kept = given.kept(&Lent::numbers(multipliers));
                 said
             }

@@ -27,6 +27,8 @@ pub const RECORDS: Kind = Kind {
         bends::FLAG_OF_TWO,
         bends::FEWER_REQUIRED,
         bends::JUNK_PAST_DEPTH,
+        bends::LEG_IN_BOTH_ROWS,
+        bends::BITS_PAST_M,
         bends::CARRIED_NOT_JUDGED,
         bends::CARRIED_PAST_N,
         bends::HIGHER_DENOMINATOR,
@@ -80,15 +82,15 @@ impl Numbered for (Reply, Record) {
     }
 }
 
-/// A place of a record: any, one that is in use, or one beside the stack, which is most of the record.
+/// A place of a record: any, one that is in use, or one beside the stack.
 fn a_place(random: &mut Random, bytes: &[u8]) -> usize {
     let used: Vec<usize> = (0..bytes.len()).filter(|at| bytes[*at] != 0).collect();
     match random.below(4) {
         0 => random.below(bytes.len()),
         1 | 2 if !used.is_empty() => random.pick(&used),
-        _ => match random.below(bytes.len() - STACK) {
+        _ => match random.below(bytes.len() - 8 * STACK) {
             before if before < BEFORE_STACK => before,
-            behind => behind + STACK,
+            behind => behind + 8 * STACK,
         },
     }
 }

@@ -10,7 +10,7 @@ use crate::generate::{
     self, past, wrong_ceiling, MAX_CEILING, MAX_COST, MAX_DENOMINATOR, MAX_MULTIPLIER,
 };
 use crate::random::Random;
-use crate::record::{Record, CARRIED, NODES, STACK, VERTICES};
+use crate::record::{Record, CARRIED, NODE, NODES, ROW, STACK, VERTICES};
 use crate::report::{Outcome, Suite, Tally};
 
 pub const SUITE: Suite = Suite {
@@ -31,6 +31,8 @@ pub const SUITE: Suite = Suite {
         bends::SHALLOWER_STACK,
         bends::FEWER_REQUIRED,
         bends::JUNK_PAST_DEPTH,
+        bends::LEG_IN_BOTH_ROWS,
+        bends::BITS_PAST_M,
         bends::CARRIED_NOT_JUDGED,
         bends::CARRIED_PAST_N,
         bends::DENOMINATOR_OF_ZERO,
@@ -73,20 +75,14 @@ pub fn harm(random: &mut Random, record: &mut Record) {
     };
     let wrong = wrong_ceiling(random);
     let wide = random.pick(&[0, 1, MAX_CEILING, -MAX_CEILING, wrong, wrong]);
-    let place = match random.below(3) {
-        0 => random.below(STACK),
-        1 => PLACES * record.depth.min(NODES - 1) + random.below(PLACES),
-        _ => PLACES * random.below(record.depth.clamp(1, NODES)) + k,
-    };
+    let first_unused = record.waiting().min(NODES - 1);
+    let node = random.below(record.waiting().clamp(1, NODES));
     let number = match random.below(3) {
         0 => random.below(CARRIED),
-        1 => VERTICES * record.depth.min(NODES - 1) + random.below(VERTICES),
-        _ => VERTICES * random.below(record.depth.clamp(1, NODES)) + random.below(n),
+        1 => VERTICES * first_unused + random.below(VERTICES),
+        _ => VERTICES * node + random.below(n),
     };
-    let node = PLACES * random.below(record.depth.clamp(1, NODES));
-    let mut marks = record.stack[node..node + PLACES].iter_mut();
-    let required = marks.find(|mark| **mark == REQUIRED);
-    match random.below(20) {
+    match random.below(21) {
         0 => record.open = byte,
         1 => record.graph.n = random.pick(&[0, 2, 3, 4, 20, 21, 255]),
         2 => record.graph.m = random.pick(&[0, m - 1, m + 1, 190, 191, 255]),
@@ -99,17 +95,47 @@ pub fn harm(random: &mut Random, record: &mut Record) {
         9 => record.sweeps = random.pick(&[0, 15, 16, u32::MAX]),
         10 => record.step = random.pick(&[0, 10_000, 10_001, u32::MAX]),
         11 => record.upper = wide,
-        12 => record.depth = random.pick(&[0, 1, 2, n + 2, n + 3, m + 2, 22, 23, usize::MAX]),
-        13 => record.stack[place] = byte,
+        12 => {
+            let (n, m) = (n as u32, m as u32);
+            record.depth = random.pick(&[0, 1, 2, n + 2, n + 3, m + 2, 22, 23, 1 << 16, u32::MAX]);
+        }
+        13 => {
+            let node = random.pick(&[first_unused, node, node]);
+            harm_rows(random, record, node, k);
+        }
         14 => record.has_best = byte,
         15 => record.best[k] = byte,
         16 => record.carried[number] = about(random, MAX_MULTIPLIER),
-        17 => required.into_iter().for_each(|mark| *mark = FREE),
+        17 => clear_required(record, node),
+        20 => record.stack[random.below(STACK)] = random.word(),
         18 => {
             let wrong = generate::wrong_denominator(random);
             record.denominator = random.pick(&[1, 2, MAX_DENOMINATOR, wrong, wrong, wrong]);
         }
         _ => record.count = random.pick(&[0, 1, (1 << 63) - 1, 1 << 63, u64::MAX]),
+    }
+}
+
+/// Changes a bit of a node's rows: any of them, one past all edges, or both of edge k, counted from 0.
+fn harm_rows(random: &mut Random, record: &mut Record, node: usize, k: usize) {
+    let row = ROW * random.below(2);
+    let (word, bit) = (NODE * node + k / 64, 1 << (k % 64));
+    match random.below(4) {
+        0 => record.stack[NODE * node + random.below(NODE)] ^= 1 << random.below(64),
+        1 => record.stack[NODE * node + row + ROW - 1] |= 1 << (62 + random.below(2)),
+        2 => record.stack[word + row] ^= bit,
+        _ => {
+            record.stack[word] |= bit;
+            record.stack[word + ROW] |= bit;
+        }
+    }
+}
+
+/// Makes the first required edge of a node a free one.
+fn clear_required(record: &mut Record, node: usize) {
+    let mut row = record.stack[NODE * node..NODE * node + ROW].iter_mut();
+    if let Some(word) = row.find(|word| **word != 0) {
+        *word &= *word - 1;
     }
 }
 
@@ -201,34 +227,34 @@ fn flags(law: &Law, tally: &mut Tally, random: &mut Random) -> Outcome {
     Ok(())
 }
 
-/// A search of n vertices in which so many nodes wait, node p with p required edges: then each node with one required edge fewer, with a
-/// mark of 3, and with a byte past m; each other node with a byte in it; each with multipliers at a limit and past it, with one of vertex 1 and with one
-/// past n; and other depths.
+/// A search of n vertices in which so many nodes wait, node p with p required edges: then each node with one required edge fewer, with an edge in both
+/// rows, and with a bit past m in each row; each other node with a bit in it; each with multipliers at a limit and past it, with one of vertex 1 and
+/// with one past n; and other depths.
 fn stacks(law: &Law, tally: &mut Tally, random: &mut Random, n: usize, depth: usize) -> Outcome {
     let m = n * (n - 1) / 2;
     let record = waiting(random, n, depth);
     let mut judge = |record: Record| judge(law, tally, &record, &Call::Tell);
     judge(record.clone())?;
     for p in 0..NODES {
-        let node = PLACES * p..PLACES * (p + 1);
-        let mut with = |place: usize, byte: u8| {
+        let mut with = |rows: &[usize], k: usize| {
             let mut harmed = record.clone();
-            harmed.stack[place] = byte;
+            for row in rows {
+                harmed.stack[NODE * p + ROW * row + k / 64] |= 1 << (k % 64);
+            }
             judge(harmed)
         };
+        let past = m + random.below(64 * ROW - m);
         if p < depth {
-            let required = record.stack[node.clone()]
-                .iter()
-                .position(|x| *x == REQUIRED);
-            if let Some(k) = required {
-                with(node.start + k, random.pick(&[FREE, EXCLUDED]))?;
-            }
-            with(node.start + random.below(m), 3)?;
-            if m < PLACES {
-                with(node.start + m + random.below(PLACES - m), 1)?;
-            }
+            with(&[0, 1], random.below(m))?;
+            with(&[0], past)?;
+            with(&[1], past)?;
+            with(&[0], m)?;
+            with(&[1], 64 * ROW - 1)?;
+            let mut fewer = record.clone();
+            clear_required(&mut fewer, p);
+            judge(fewer)?;
         } else {
-            with(node.start + random.below(PLACES), 1)?;
+            with(&[random.below(2)], random.below(64 * ROW))?;
         }
     }
     for p in 0..NODES {
@@ -243,7 +269,8 @@ fn stacks(law: &Law, tally: &mut Tally, random: &mut Random, n: usize, depth: us
             carries(n + random.below(VERTICES - n), random.pick(&[-1, 1]))?;
         }
     }
-    for other in [depth + 1, 255, 256 + depth, (1 << 32) + depth, usize::MAX] {
+    let depth = depth as u32;
+    for other in [depth + 1, 255, 256 + depth, (1 << 16) + depth, u32::MAX] {
         let mut harmed = record.clone();
         harmed.depth = other;
         judge(harmed)?;

@@ -11,7 +11,7 @@ use crate::document::tree::Method;
 use crate::files::any_form;
 use crate::generate;
 use crate::random::Random;
-use crate::record::{GRAPH, NODES, SIZE};
+use crate::record::{rows, GRAPH, NODES, SIZE, STACK};
 use crate::report::{hex, Hex, Mismatch, Outcome, Suite, Tally};
 use planner::raw;
 
@@ -25,6 +25,8 @@ pub const SUITE: Suite = Suite {
         bends::LAST_PASS_GAINS,
         bends::ONE_LIST_FOR_BOTH,
         bends::PAST_M_NOT_ZERO,
+        bends::STRUCK_ROW_FIRST,
+        bends::BITS_FROM_ONE,
     ],
 };
 
@@ -77,6 +79,10 @@ fn numbers(values: &[i32]) -> Vec<u8> {
     values.iter().flat_map(|x| x.to_ne_bytes()).collect()
 }
 
+fn words(values: &[u64]) -> Vec<u8> {
+    values.iter().flat_map(|x| x.to_ne_bytes()).collect()
+}
+
 fn padded(mut bytes: Vec<u8>, length: usize) -> Vec<u8> {
     bytes.resize(length, 0);
     bytes
@@ -95,7 +101,7 @@ fn graph_fields(at: usize, graph: &Graph, named: &raw::Graph) -> [Field; 6] {
 }
 
 /// The fields of the record of a search that has an incumbent.
-fn record_fields(search: &Search, named: &raw::Record) -> Vec<Field> {
+fn record_fields(law: &Law, search: &Search, named: &raw::Record) -> Vec<Field> {
     let number = |name, offset, value: i64, named: i64| {
         let expected = value.to_ne_bytes().to_vec();
         field(name, offset, expected, &named.to_ne_bytes())
@@ -106,12 +112,12 @@ fn record_fields(search: &Search, named: &raw::Record) -> Vec<Field> {
     };
     let (settings, waiting) = (&named.settings, search.stack.len());
     let multipliers = padded(numbers(&search.multipliers), 4 * 20);
-    let marks: Vec<u8> = search
+    let marks: Vec<u64> = search
         .stack
         .iter()
-        .flat_map(|node| padded(node.marks.clone(), PLACES))
+        .flat_map(|node| rows(law, &node.marks))
         .collect();
-    let stack = padded(marks, NODES * PLACES);
+    let stack = padded(words(&marks), 8 * STACK);
     let carried: Vec<u8> = search
         .stack
         .iter()
@@ -131,21 +137,21 @@ fn record_fields(search: &Search, named: &raw::Record) -> Vec<Field> {
         ),
         number("upper", 24, search.upper, named.upper),
         number("count", 32, search.count as i64, named.count as i64),
-        number("depth", 40, waiting as i64, named.depth as i64),
+        field("stack", 40, stack, &words(&named.stack)),
+        half("depth", 1_096, waiting as u32, named.depth),
     ];
-    fields.extend(graph_fields(48, &search.graph, &named.graph));
+    fields.extend(graph_fields(1_100, &search.graph, &named.graph));
     fields.extend([
         field(
             "multipliers",
-            1_380,
+            2_432,
             multipliers,
             &numbers(&named.multipliers),
         ),
-        field("carried", 1_460, carried, &numbers(&named.carried)),
-        field("stack", 3_220, stack, &named.stack),
-        field("best", 7_400, best, &named.best),
-        field("open", 7_590, vec![1], &[named.open]),
-        field("has_best", 7_591, vec![1], &[named.has_best]),
+        field("carried", 2_512, carried, &numbers(&named.carried)),
+        field("best", 4_272, best, &named.best),
+        field("open", 4_462, vec![1], &[named.open]),
+        field("has_best", 4_463, vec![1], &[named.has_best]),
     ]);
     fields
 }
@@ -218,6 +224,11 @@ fn record_left(law: &Law, tally: &mut Tally, random: &mut Random) -> Result<bool
     // SAFETY: a record has no bytes but those of its numbers.
     let bytes = unsafe { std::mem::transmute::<raw::Record, [u8; SIZE]>(record.clone()) };
     let input = format!("a record after {open:?}");
-    compare(tally, &input, &record_fields(&expected, record), &bytes)?;
+    compare(
+        tally,
+        &input,
+        &record_fields(law, &expected, record),
+        &bytes,
+    )?;
     Ok(true)
 }

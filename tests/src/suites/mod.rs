@@ -52,6 +52,8 @@ pub mod shelves;
 #[cfg(feature = "library")]
 pub mod simulate;
 #[cfg(feature = "library")]
+pub mod stored_answers;
+#[cfg(feature = "library")]
 pub mod tree;
 #[cfg(feature = "library")]
 pub mod wrapper;
@@ -108,6 +110,8 @@ pub fn all() -> Vec<Suite> {
         library_searches::SUITE,
         #[cfg(feature = "library")]
         dispatcher::SUITE,
+        #[cfg(feature = "library")]
+        stored_answers::SUITE,
         #[cfg(feature = "library")]
         layout::SUITE,
         #[cfg(feature = "library")]

@@ -2,6 +2,7 @@
 //! every byte of the record.
 
 use crate::bends;
+use crate::document::graph::FREE;
 use crate::document::law::Law;
 use crate::document::machine::{Answer, Call, Machine, Verdict};
 use crate::document::tree::Method;
@@ -46,6 +47,7 @@ pub const SUITE: Suite = Suite {
         bends::DENOMINATOR_BEFORE_MULTIPLIERS,
         bends::DENOMINATOR_BEFORE_CEILING,
         bends::DENOMINATOR_BEFORE_STEP,
+        bends::ONE_ROW_COUNTED,
     ],
 };
 
@@ -98,22 +100,52 @@ fn run(law: &Law, tally: &mut Tally) -> Outcome {
         let (vertices, most) = if round % 4 == 0 { (7, 14) } else { (5, 10) };
         let mut list = generate::calls(random, vertices, most);
         vary(random, &mut list);
-        let mut machine = Machine::new(law, Method::Kruskal);
-        let mut record = Record::made_fresh();
-        tally.compare(
-            "fresh",
-            || "a fresh record".to_string(),
-            &Record::fresh(),
-            &record,
-        )?;
-        for (i, call) in list.iter().enumerate() {
-            let input = || format!("the first {} of {list:?}", i + 1);
-            let expected = reply(&machine.call(call));
-            let got = record.call(call);
-            tally.compare("answer", input, &expected, &got)?;
-            tally.compare("record", input, &Record::of(&machine.search), &record)?;
-            tally.compare("passes its check", input, &true, &record.passes(law))?;
-        }
+        on_record(law, tally, &list)?;
+    }
+    for _ in 0..600 {
+        on_record(law, tally, &large(random))?;
     }
     Ok(())
+}
+
+/// A list on graphs of up to 190 edges, so that all words of a row are used; the reference is slow there and gets small budgets.
+fn large(random: &mut Random) -> Vec<Call> {
+    let mut list = generate::calls_of(random, 16, 20, 190);
+    for call in &mut list {
+        if let Call::Run { budget } = call {
+            *budget = (*budget).min(2);
+        }
+    }
+    list
+}
+
+/// Each call of a list from a fresh record.
+fn on_record(law: &Law, tally: &mut Tally, list: &[Call]) -> Outcome {
+    let mut machine = Machine::new(law, Method::Kruskal);
+    let mut record = Record::made_fresh();
+    let fresh = || "a fresh record".to_string();
+    tally.compare("fresh", fresh, &Record::fresh(), &record)?;
+    for (i, call) in list.iter().enumerate() {
+        let input = || format!("the first {} of {list:?}", i + 1);
+        let expected = reply(&machine.call(call));
+        let got = record.call(call);
+        tally.compare("answer", input, &expected, &got)?;
+        tally.compare("record", input, &Record::of(&machine.search), &record)?;
+        tally.compare("passes its check", input, &true, &record.passes(law))?;
+        let counted = free_by_rows(law, &record);
+        tally.compare("free legs", input, &free_by_marks(&machine), &counted)?;
+    }
+    Ok(())
+}
+
+/// The free legs of each waiting node, by its marks.
+fn free_by_marks(machine: &Machine) -> Vec<usize> {
+    let nodes = machine.search.iter().flat_map(|search| &search.stack);
+    let free = |marks: &[u8]| marks.iter().filter(|mark| **mark == FREE).count();
+    nodes.map(|node| free(&node.marks)).collect()
+}
+
+/// The same by the record's rows.
+fn free_by_rows(law: &Law, record: &Record) -> Vec<usize> {
+    (0..record.waiting()).map(|p| record.free(law, p)).collect()
 }

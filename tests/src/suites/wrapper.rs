@@ -14,7 +14,7 @@ use crate::document::rulings::{self, BAR, FORCE, KEEP};
 use crate::document::shelf::{AnyCall, Shelved};
 use crate::document::tree::{self, Method};
 use crate::document::{chart, dispatcher, sailing, Refusal};
-use crate::ffi::by_value;
+use crate::ffi::{by_value, settings};
 use crate::generate;
 use crate::random::Random;
 use crate::record::{Dispatched, Record, SIZE};
@@ -286,20 +286,9 @@ fn said(answer: Answer) -> Result<Said, planner::Refusal> {
 pub fn answer(search: &mut Search, call: &Call) -> Result<Said, planner::Refusal> {
     match call {
         Call::Open {
-            graph,
-            multipliers,
-            ceiling,
-            sweeps,
-            step,
-            denominator,
+            graph, multipliers, ..
         } => {
-            let settings = Settings {
-                ceiling: *ceiling,
-                sweeps: *sweeps,
-                step: *step,
-                denominator: *denominator,
-            };
-            let opened = search.open(&by_value(graph), multipliers, settings);
+            let opened = search.open(&by_value(graph), multipliers, settings(call));
             opened.map(|()| Said::Accepted)
         }
         Call::Run { budget } => search.run(*budget).map(Said::Ran),
@@ -416,23 +405,12 @@ fn on_dispatcher(
     match call {
         dispatcher::Call::Add(open) => {
             let Call::Open {
-                graph,
-                multipliers,
-                ceiling,
-                sweeps,
-                step,
-                denominator,
+                graph, multipliers, ..
             } = open
             else {
                 unreachable!("a search is added by an opening");
             };
-            let settings = Settings {
-                ceiling: *ceiling,
-                sweeps: *sweeps,
-                step: *step,
-                denominator: *denominator,
-            };
-            let placed = class.add(&by_value(graph), multipliers, settings);
+            let placed = class.add(&by_value(graph), multipliers, settings(open));
             placed.map(OnClass::Placed)
         }
         dispatcher::Call::Turn { portion } => class.turn(*portion).map(OnClass::Turned),

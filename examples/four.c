@@ -9,7 +9,7 @@ int main(void) {
     int32_t multipliers[4] = {0};
     uint8_t out[6];
 
-    planner_said said = planner_tree(g, multipliers, 4, settings.denominator, out, 6);
+    planner_reply said = planner_tree(g, multipliers, 4, settings.denominator, out, 6);
     if (said.number != 0) return 1;
     printf("tree %lld:", (long long)said.value);
     for (int k = 0; k < 6; k++) printf(" %d", out[k]);

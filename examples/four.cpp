@@ -17,7 +17,7 @@ int main() {
     const std::array<std::int32_t, 4> multipliers = {};
     Bytes out = {};
 
-    planner_said said = planner_tree(g, multipliers.data(), multipliers.size(), settings.denominator, out.data(), out.size());
+    planner_reply said = planner_tree(g, multipliers.data(), multipliers.size(), settings.denominator, out.data(), out.size());
     if (said.number != 0) return 1;
     std::cout << "tree " << said.value << ':';
     print(out);

@@ -1,7 +1,7 @@
 /* The route planner for C and C++. `make` builds build/libplanner.a and build/libplanner.so; installed, `pkg-config --cflags --libs planner`
  * says how to compile and link.
  *
- * Every call takes any values, answers and ends. It answers a planner_said (planner_simulate a planner_sailed): `number` is 0 where the call is accepted, a code from 1000 on, or
+ * Every call takes any values, answers and ends. It answers a planner_reply (planner_simulate a planner_sailed): `number` is 0 where the call is accepted, a code from 1000 on, or
  * the number of a refusal with its `place`; `value` and `nodes` are what the call says they are. A field without a value is 0. A refusal
  * leaves everything lent as it was. What each call promises is proved: see crates/ffi/specs. The proofs take for granted what C cannot check:
  * no pointer is null, not even with length 0, each leads to as much memory as the call is told, and no two parts that are lent overlap.
@@ -53,7 +53,7 @@ typedef struct {
     uint64_t place;
     int64_t value;
     uint64_t nodes;
-} planner_said;
+} planner_reply;
 
 /* A graph: vertices 1 to n, edges 1 to m; edge k stands at place k - 1 and joins a and b. Marks: 0 free, 1 required, 2 excluded. What
  * stands past m counts for nothing. */
@@ -115,33 +115,33 @@ typedef struct {
 } planner_dispatcher;
 
 /* 0 where the graph keeps to the rules, else 15. */
-planner_said planner_check(planner_graph g);
+planner_reply planner_check(planner_graph g);
 
 /* The graph in the bytes of a chart file into *g, zero at the places past its edges; 0, or 1 to 10 with place. */
-planner_said planner_read(planner_graph *g, const uint8_t *bytes, size_t length);
+planner_reply planner_read(planner_graph *g, const uint8_t *bytes, size_t length);
 
 /* The chart file of a graph into out, of 8 + 12 * m bytes; 0, 15 or 11. */
-planner_said planner_write(planner_graph g, uint8_t *out, size_t length);
+planner_reply planner_write(planner_graph g, uint8_t *out, size_t length);
 
 /* The least 1-tree: 0 with its bound as value, in parts as the denominator says, and in out a byte for each edge, 1 in, 0 out; or PLANNER_NONE,
  * which leaves out as it was; 15, 11, 12 or 32. */
-planner_said planner_tree(planner_graph g, const int32_t *multipliers, size_t multipliers_length, uint64_t denominator, uint8_t *out,
+planner_reply planner_tree(planner_graph g, const int32_t *multipliers, size_t multipliers_length, uint64_t denominator, uint8_t *out,
                           size_t length);
 
 /* The least 1-tree of a copy of the graph in which the free edge (1 to m) has the mark 1 or 2, as planner_tree answers; 15, 11, 12, 32, 30 or
  * 31. */
-planner_said planner_preview(planner_graph g, const int32_t *multipliers, size_t multipliers_length, uint64_t denominator, size_t edge,
+planner_reply planner_preview(planner_graph g, const int32_t *multipliers, size_t multipliers_length, uint64_t denominator, size_t edge,
                              uint32_t mark, uint8_t *out, size_t length);
 
 /* The rulings: 0 with the bound as value, in parts as the denominator says, and in out a byte for each edge, 0 keep, 1 force, 2 bar, 3 already
  * required, 4 already excluded; or PLANNER_NONE, which leaves out as it was; 15, 11, 12, 13 or 32. */
-planner_said planner_rule(planner_graph g, const int32_t *multipliers, size_t multipliers_length, int64_t ceiling, uint64_t denominator,
+planner_reply planner_rule(planner_graph g, const int32_t *multipliers, size_t multipliers_length, int64_t ceiling, uint64_t denominator,
                           uint8_t *out, size_t length);
 
 /* Each edge's cost becomes the greatest of its last w times (1 to PLANNER_WINDOW) in a log, entry i of which is edges[i] (1 to m) with times[i]; an
  * edge with fewer times uses those it has, one with none keeps its cost. Nothing else in *g changes; 0, or 15, 11, 38, or 39 with the place of the
  * first entry that is refused, from 1. */
-planner_said planner_recent(planner_graph *g, size_t w, const size_t *edges, size_t edges_length, const int32_t *times, size_t times_length);
+planner_reply planner_recent(planner_graph *g, size_t w, const size_t *edges, size_t edges_length, const int32_t *times, size_t times_length);
 
 /* A tour sailed edge by edge: the n edges in sailing order from vertex 1, numbered from 1; a student number, and a spread of delays. Each edge's
  * time into times, of n numbers; 15, 11, 36 or 37. */
@@ -150,7 +150,7 @@ planner_sailed planner_simulate(planner_graph g, const size_t *edges, size_t edg
 
 /* A search without a record for each pair of sweeps and step, of 1 to 16 pairs, each with the whole budget: into report, of one number a pair, the
  * count with which it finishes, or 0 if it is still going on; 0, 15, 11, 12, 13, 14 or 32. */
-planner_said planner_compare(planner_graph g, const int32_t *multipliers, size_t multipliers_length, planner_terms terms,
+planner_reply planner_compare(planner_graph g, const int32_t *multipliers, size_t multipliers_length, planner_terms terms,
                              const uint32_t *sweeps, size_t sweeps_length, const uint32_t *steps, size_t steps_length, uint64_t *report,
                              size_t length);
 
@@ -158,46 +158,46 @@ planner_said planner_compare(planner_graph g, const int32_t *multipliers, size_t
 planner_search planner_fresh(void);
 
 /* Opens a search; 0, 24, 21, 15, 11, 12, 13, 14 or 32. */
-planner_said planner_open(planner_search *s, planner_graph g, const int32_t *multipliers, size_t multipliers_length,
+planner_reply planner_open(planner_search *s, planner_graph g, const int32_t *multipliers, size_t multipliers_length,
                           planner_settings settings);
 
 /* Opens at most budget nodes; PLANNER_GOING_ON or PLANNER_FINISHED with the count as nodes; 24 or 20. */
-planner_said planner_run(planner_search *s, uint64_t budget);
+planner_reply planner_run(planner_search *s, uint64_t budget);
 
 /* PLANNER_GOING_ON, PLANNER_NO_TOUR, or PLANNER_BEST with the cost as value; each with the count as nodes; 24 or 20. */
-planner_said planner_tell(planner_search *s);
+planner_reply planner_tell(planner_search *s);
 
 /* The best tour into out, a byte for each edge: of the cheapest the first, which of two is the one that lacks the highest-numbered edge in which
    they differ; 0, 24, 20, 22, 23 or 11. */
-planner_said planner_show(planner_search *s, uint8_t *out, size_t length);
+planner_reply planner_show(planner_search *s, uint8_t *out, size_t length);
 
 /* Makes the record fresh again; 0, 24 or 20. */
-planner_said planner_close(planner_search *s);
+planner_reply planner_close(planner_search *s);
 
 /* A shelf with nothing saved. */
 planner_shelf planner_fresh_shelf(void);
 
 /* The open search of *s under a name, in place of what stood there; *s is only read. 0, 24 (either record, any place), 20 or 33. */
-planner_said planner_save(planner_shelf *shelf, const planner_search *s, size_t name);
+planner_reply planner_save(planner_shelf *shelf, const planner_search *s, size_t name);
 
 /* The search under a name into *s, whatever *s held; the shelf is only read. 0, 24 (either record, any place), 33 or 34. */
-planner_said planner_back(planner_search *s, const planner_shelf *shelf, size_t name);
+planner_reply planner_back(planner_search *s, const planner_shelf *shelf, size_t name);
 
 /* A dispatcher that holds no search. */
 planner_dispatcher planner_fresh_dispatcher(void);
 
 /* Opens a search at the free place with the smallest number; 0 with that place; 24, 41, 15, 11, 12, 13, 14 or 32. */
-planner_said planner_add(planner_dispatcher *d, planner_graph g, const int32_t *multipliers, size_t multipliers_length,
+planner_reply planner_add(planner_dispatcher *d, planner_graph g, const int32_t *multipliers, size_t multipliers_length,
                          planner_settings settings);
 
 /* Opens at most p nodes of the next unfinished search after the place last served, in cyclic order; 0 with its place, or PLANNER_IDLE where
  * there is none and nothing changes; 24 or 40. */
-planner_said planner_turn(planner_dispatcher *d, uint64_t p);
+planner_reply planner_turn(planner_dispatcher *d, uint64_t p);
 
 /* As planner_tell, planner_show and planner_close, of the search at a place, 1 to 8; 24, 42, 20, and show also 22, 23 or 11. */
-planner_said planner_tell_at(planner_dispatcher *d, size_t place);
-planner_said planner_show_at(planner_dispatcher *d, size_t place, uint8_t *out, size_t length);
-planner_said planner_close_at(planner_dispatcher *d, size_t place);
+planner_reply planner_tell_at(planner_dispatcher *d, size_t place);
+planner_reply planner_show_at(planner_dispatcher *d, size_t place, uint8_t *out, size_t length);
+planner_reply planner_close_at(planner_dispatcher *d, size_t place);
 
 #ifdef __cplusplus
 }
@@ -225,8 +225,8 @@ PLANNER_ASSERT(offsetof(planner_search, open) == 4462 && offsetof(planner_search
 PLANNER_ASSERT(sizeof(planner_shelf) == PLANNER_PLACES * sizeof(planner_search));
 PLANNER_ASSERT(sizeof(planner_dispatcher) == sizeof(size_t) + PLANNER_PLACES * sizeof(planner_search));
 PLANNER_ASSERT(offsetof(planner_dispatcher, last) == 0 && offsetof(planner_dispatcher, places) == sizeof(size_t));
-PLANNER_ASSERT(sizeof(planner_said) == 32 && offsetof(planner_said, number) == 0 && offsetof(planner_said, place) == 8);
-PLANNER_ASSERT(offsetof(planner_said, value) == 16 && offsetof(planner_said, nodes) == 24);
+PLANNER_ASSERT(sizeof(planner_reply) == 32 && offsetof(planner_reply, number) == 0 && offsetof(planner_reply, place) == 8);
+PLANNER_ASSERT(offsetof(planner_reply, value) == 16 && offsetof(planner_reply, nodes) == 24);
 PLANNER_ASSERT(sizeof(planner_sailed) == 32 && offsetof(planner_sailed, number) == 0 && offsetof(planner_sailed, place) == 8);
 PLANNER_ASSERT(offsetof(planner_sailed, total) == 16 && offsetof(planner_sailed, state) == 24);
 PLANNER_ASSERT(sizeof(planner_terms) == 24 && offsetof(planner_terms, ceiling) == 0 && offsetof(planner_terms, budget) == 8);

@@ -3,7 +3,7 @@
 use crate::fast::Verdict;
 use crate::inputs::Graph;
 use crate::planner::{Job, Planner};
-use ::planner::raw::{self, Said};
+use ::planner::raw::{self, Reply};
 use ::planner::Settings;
 
 pub struct Ours(Box<raw::Record>);
@@ -16,7 +16,7 @@ impl Ours {
 }
 
 /// The bound; none is 'no tree' or 'dead'.
-fn bound(said: Said) -> Option<i64> {
+fn bound(said: Reply) -> Option<i64> {
     match said.number {
         raw::ACCEPTED => Some(said.value),
         raw::NONE => None,

@@ -138,7 +138,7 @@ class CDispatcher(ctypes.Structure):
     _fields_ = [("last", c_size_t), ("places", CSearch * PLACES)]
 
 
-Said = TypeVar("Said", CSaid, CSailed)
+Reply = TypeVar("Reply", CSaid, CSailed)
 
 for struct, size in ((CSaid, 32), (CGraph, 1_332), (CSettings, 24), (CSailed, 32), (CTerms, 24), (CSearch, 4_464)):
     assert ctypes.sizeof(struct) == size, f"{struct.__name__} is not as the library has it"
@@ -210,7 +210,7 @@ def library() -> ctypes.CDLL:
     return loaded
 
 
-def _accepted(said: Said) -> Said:
+def _accepted(said: Reply) -> Reply:
     """What was said, where that is no refusal."""
     if 0 < said.number < NONE:
         raise Refused(said.number, said.place)

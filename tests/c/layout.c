@@ -11,11 +11,11 @@
 #endif
 #define AT(kind, field, offset) CLAIM(offsetof(kind, field) == (offset))
 
-CLAIM(sizeof(planner_said) == 32);
-AT(planner_said, number, 0);
-AT(planner_said, place, 8);
-AT(planner_said, value, 16);
-AT(planner_said, nodes, 24);
+CLAIM(sizeof(planner_reply) == 32);
+AT(planner_reply, number, 0);
+AT(planner_reply, place, 8);
+AT(planner_reply, value, 16);
+AT(planner_reply, nodes, 24);
 
 CLAIM(sizeof(planner_graph) == 1332);
 AT(planner_graph, cost, 0);
@@ -68,7 +68,7 @@ static void expect(const char *what, int holds) {
     printf("layout: %s\n", what);
 }
 
-static void said_so(const char *what, planner_said said, uint32_t number, uint64_t place, int64_t value, uint64_t nodes) {
+static void said_so(const char *what, planner_reply said, uint32_t number, uint64_t place, int64_t value, uint64_t nodes) {
     expect(what, said.number == number && said.place == place && said.value == value && said.nodes == nodes);
 }
 
@@ -164,7 +164,7 @@ int main(void) {
     int32_t multipliers[N] = {0, 10, -20, 30, -40, 50, 60};
     planner_settings settings = {INT64_C(4900000000), 4, 370, 7}; /* a ceiling wider than 4 bytes */
     planner_graph g = sample(bytes), read;
-    planner_said said;
+    planner_reply said;
     uint64_t nodes = 0;
     int64_t cost = 0;
 

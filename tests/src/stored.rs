@@ -14,7 +14,7 @@ use crate::ffi::Reply;
 use crate::record::Dispatched;
 use crate::report::{hex, Hex};
 use crate::suites::shelves::Both;
-use planner::raw::Said;
+use planner::raw::Reply as Numbers;
 
 /// What the calls of a list are made on, and what its openings take.
 pub struct Desk {
@@ -166,7 +166,7 @@ pub fn sea_line(graph: &Graph) -> String {
 
 /// A call and its answer as a line.
 pub fn line(call: &str, reply: &Reply) -> String {
-    let Said {
+    let Numbers {
         number,
         place,
         value,
@@ -188,7 +188,7 @@ pub fn answered(line: &str) -> Option<Answered<'_>> {
             .collect()
     };
     let reply = Reply {
-        said: Said {
+        said: Numbers {
             number: read(words[0]) as u32,
             place: read(words[1]) as u64,
             value: read(words[2]) as i64,

@@ -26,8 +26,8 @@ pub record Form {m : Machine} (k : Codec m) : Type 1 where
   pub last : Record → ℕ
   pub places-made : (l : List (k .Record)) (n : ℕ) → places (make l n) ≡ l
   pub last-made : (l : List (k .Record)) (n : ℕ) → last (make l n) ≡ n
-  pub Said : Type 0
-  pub said : Response (m .Answer) → Said
+  pub Reply : Type 0
+  pub said : Response (m .Answer) → Reply
 
 module _ {m : Machine} (o : Searches m) (h : Calls m) (k : Codec m) (f : Form k) where
   unfoldable pub encodeAll : Dispatcher (m .State) → f .Record
@@ -77,7 +77,7 @@ module _ {m : Machine} (o : Searches m) (h : Calls m) (k : Codec m) (f : Form k)
     encode = encodeAll;
     decode = decodeAll;
     check = checkAll;
-    Said = f .Said;
+    Reply = f .Reply;
     said = f .said;
     Kept = KeptAll;
     begun = all-begun;

@@ -39,7 +39,7 @@ use Rattle.dispatcher.specs.Scanning.{any-default}
 use Rattle.dispatcher.specs.Steady.{steady}
 use Rattle.dispatcher.specs.declared.Dispatcher.{Dispatcher}
 use Rattle.dispatcher.specs.declared.Answer.{Answer}
-use Rattle.dispatcher.specs.declared.Answer.the-variants.{Placed, Served, Idle, Said}
+use Rattle.dispatcher.specs.declared.Answer.the-variants.{Placed, Served, Idle, OfSearch}
 use Rattle.dispatcher.specs.declared.Outcome.{Outcome}
 
 -- ---- one place
@@ -348,7 +348,7 @@ module _ (d : Dispatcher) (seen : List ℕ) (h : Surveyed d seen) where
 
     pub turn-40 : (p : ℕ) → p ≡ 0 → refuses d 40 ≡ reply d (turn p)
     turn-40 zero f =
-        sym (stays (turn 0) (Said (Refused 40 0)) (to-nowhere (turn 0) (unfold routed theory.turnRoute in refl)) (unfold dispatchAnswer theory.turnAnswer in refl))
+        sym (stays (turn 0) (OfSearch (Refused 40 0)) (to-nowhere (turn 0) (unfold routed theory.turnRoute in refl)) (unfold dispatchAnswer theory.turnAnswer in refl))
     turn-40 (suc p) f = absurd (let z : suc p ≡ 0 = f in omega arith)
 
     pub turn-idle : (p k : ℕ) → ¬ (p ≡ 0) → k ≡ firstAfter (isAt seen 2) 8 (d .last) → k ≡ 0
@@ -378,7 +378,7 @@ module _ (d : Dispatcher) (seen : List ℕ) (h : Surveyed d seen) where
 
     pub add-41 : (a : Opening) (k : ℕ) → k ≡ firstAfter (isAt seen 1) 8 0 → k ≡ 0 → refuses d 41 ≡ reply d (add a)
     add-41 a k g n =
-        sym (stays (add a) (Said (Refused 41 0)) (to-nowhere (add a) (unfold routed theory.addRoute in rw full))
+        sym (stays (add a) (OfSearch (Refused 41 0)) (to-nowhere (add a) (unfold routed theory.addRoute in rw full))
         (unfold dispatchAnswer theory.addAnswer in rw full))
       where
         full : freePlace machine held made state ≡ 0
@@ -394,10 +394,10 @@ module _ (d : Dispatcher) (seen : List ℕ) (h : Surveyed d seen) where
           sym (ap (λ x. calls.isAccepted (search.means x)) (answered (suc j) (omega arith) b (calls.opens a) z o w)
           ∙ ap calls.isAccepted (means-said (step (stateAt machine held made state (suc j)) (calls.opens a) .answer)))
 
-      refused-there : calls.isAccepted (search.means (o .answer)) ≡ false → record { dispatcher = d; answer = Said (o .answer) } ≡ reply d (add a)
+      refused-there : calls.isAccepted (search.means (o .answer)) ≡ false → record { dispatcher = d; answer = OfSearch (o .answer) } ≡ reply d (add a)
       refused-there f =
-          sym (stays (add a) (Said (o .answer)) (to-nowhere (add a) (unfold routed theory.addRoute in rw (free, taken, f)))
-          (unfold dispatchAnswer theory.addAnswer in rw (free, taken, f) (ap Said (sym (answered (suc j) (omega arith) b (calls.opens a) z o w)))))
+          sym (stays (add a) (OfSearch (o .answer)) (to-nowhere (add a) (unfold routed theory.addRoute in rw (free, taken, f)))
+          (unfold dispatchAnswer theory.addAnswer in rw (free, taken, f) (ap OfSearch (sym (answered (suc j) (omega arith) b (calls.opens a) z o w)))))
 
       placed-there : calls.isAccepted (search.means (o .answer)) ≡ true
           → record { dispatcher = record { last = d .last; places = set (d .places) (suc j - 1) (o .search) }; answer = Placed (suc j) } ≡ reply d (add a)
@@ -408,7 +408,7 @@ module _ (d : Dispatcher) (seen : List ℕ) (h : Surveyed d seen) where
 
     pub add-refused : (a : Opening) (k : ℕ) (z : Search) (o : search-outcome.Outcome) → k ≡ firstAfter (isAt seen 1) 8 0 → ¬ (k ≡ 0) → k ≤ 8
         → o ≡ search.reply (getD (d .places) (k - 1) z) (calls.opens a) → calls.isAccepted (search.means (o .answer)) ≡ false
-        → record { dispatcher = d; answer = Said (o .answer) } ≡ reply d (add a)
+        → record { dispatcher = d; answer = OfSearch (o .answer) } ≡ reply d (add a)
     add-refused a zero z o g n b w f = absurd (n refl)
     add-refused a (suc j) z o g n b w f = refused-there a j z o g b w f
 
@@ -427,17 +427,17 @@ module _ (d : Dispatcher) (seen : List ℕ) (h : Surveyed d seen) where
 
       pub tell-refused : refuses d (suc f) ≡ reply d (tellAt k)
       tell-refused =
-          sym (stays (tellAt k) (Said (Refused (suc f) 0)) (to-nowhere (tellAt k) (unfold routed theory.placeRoute in rw at-fault))
+          sym (stays (tellAt k) (OfSearch (Refused (suc f) 0)) (to-nowhere (tellAt k) (unfold routed theory.placeRoute in rw at-fault))
           (unfold dispatchAnswer theory.placeAnswer in rw at-fault))
 
       pub close-refused : refuses d (suc f) ≡ reply d (closeAt k)
       close-refused =
-          sym (stays (closeAt k) (Said (Refused (suc f) 0)) (to-nowhere (closeAt k) (unfold routed theory.placeRoute in rw at-fault))
+          sym (stays (closeAt k) (OfSearch (Refused (suc f) 0)) (to-nowhere (closeAt k) (unfold routed theory.placeRoute in rw at-fault))
           (unfold dispatchAnswer theory.placeAnswer in rw at-fault))
 
       pub show-refused : (l : List ℕ) → (refuses d (suc f) ≡ reply d (showAt k l)) × (l ≡ lent d (showAt k l))
       show-refused l = (
-        sym (stays (showAt k l) (Said (Refused (suc f) 0)) (to-nowhere (showAt k l) (unfold routed theory.placeRoute in rw at-fault))
+        sym (stays (showAt k l) (OfSearch (Refused (suc f) 0)) (to-nowhere (showAt k l) (unfold routed theory.placeRoute in rw at-fault))
             (unfold dispatchAnswer theory.placeAnswer in rw at-fault)),
         sym (lent-is (showAt k l) ∙ (unfold dispatchLent theory.lentBy theory.dispatchGiven routed theory.placeRoute in rw at-fault)),
       )
@@ -446,24 +446,24 @@ module _ (d : Dispatcher) (seen : List ℕ) (h : Surveyed d seen) where
       at-held : placeFault machine held made state k ≡ 0
       at-held = fault-is k ∙ g
 
-      pub tell-done : o ≡ search.reply (getD (d .places) (k - 1) z) tell → record { dispatcher = d; answer = Said (o .answer) } ≡ reply d (tellAt k)
+      pub tell-done : o ≡ search.reply (getD (d .places) (k - 1) z) tell → record { dispatcher = d; answer = OfSearch (o .answer) } ≡ reply d (tellAt k)
       tell-done w =
-          sym (stays (tellAt k) (Said (o .answer)) (still machine held made steady state (tellAt k) tt refl)
-          (unfold dispatchAnswer theory.placeAnswer in rw at-held (ap Said (sym (answered k a b tell z o w)))))
+          sym (stays (tellAt k) (OfSearch (o .answer)) (still machine held made steady state (tellAt k) tt refl)
+          (unfold dispatchAnswer theory.placeAnswer in rw at-held (ap OfSearch (sym (answered k a b tell z o w)))))
 
       pub show-done : (l : List ℕ) → o ≡ search.reply (getD (d .places) (k - 1) z) (calls.show l)
-          → (record { dispatcher = d; answer = Said (o .answer) } ≡ reply d (showAt k l))
+          → (record { dispatcher = d; answer = OfSearch (o .answer) } ≡ reply d (showAt k l))
           × (search.lent (getD (d .places) (k - 1) z) (calls.show l) ≡ lent d (showAt k l))
       show-done l w = (
-        sym (stays (showAt k l) (Said (o .answer)) (still machine held made steady state (showAt k l) tt refl)
-            (unfold dispatchAnswer theory.placeAnswer in rw at-held (ap Said (sym (answered k a b (calls.show l) z o w))))),
+        sym (stays (showAt k l) (OfSearch (o .answer)) (still machine held made steady state (showAt k l) tt refl)
+            (unfold dispatchAnswer theory.placeAnswer in rw at-held (ap OfSearch (sym (answered k a b (calls.show l) z o w))))),
         listed k a b (calls.show l) z o w
             ∙ sym (lent-is (showAt k l) ∙ (unfold dispatchLent theory.lentBy theory.dispatchGiven routed theory.placeRoute in rw at-held)),
       )
 
       pub close-done : o ≡ search.reply (getD (d .places) (k - 1) z) calls.close
-          → record { dispatcher = record { last = d .last; places = set (d .places) (k - 1) (o .search) }; answer = Said (o .answer) } ≡ reply d (closeAt k)
+          → record { dispatcher = record { last = d .last; places = set (d .places) (k - 1) (o .search) }; answer = OfSearch (o .answer) } ≡ reply d (closeAt k)
       unfolding lastBy
       close-done w =
-          sym (goes k a b calls.close z o w (closeAt k) (Said (o .answer)) (unfold routed theory.placeRoute in rw at-held)
-          (unfold dispatchAnswer theory.placeAnswer in rw at-held (ap Said (sym (answered k a b calls.close z o w)))))
+          sym (goes k a b calls.close z o w (closeAt k) (OfSearch (o .answer)) (unfold routed theory.placeRoute in rw at-held)
+          (unfold dispatchAnswer theory.placeAnswer in rw at-held (ap OfSearch (sym (answered k a b calls.close z o w)))))

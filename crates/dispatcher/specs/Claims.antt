@@ -85,7 +85,7 @@ pub record Dispatches (i : Interface dispatching) (places : i .Lent → List Sea
 abbrev pub callsSaid : {A : Type 0} → (Answer → A) → Interface dispatching
 callsSaid {A} f = record {
   Lent = Dispatcher;
-  Said = A;
+  Reply = A;
   fresh = encodeAll held made codec form (dispatching .begin);
   next = λ d c. reply d c .dispatcher;
   answer = λ d c. f (reply d c .answer);

@@ -17,7 +17,7 @@ use Rattle.dispatch_theory.specs.Records.{Form, dispatchCodec}
 use Rattle.dispatcher.specs.Searches.{machine, held, made, codec}
 use Rattle.dispatcher.specs.declared.Dispatcher.{Dispatcher}
 use Rattle.dispatcher.specs.declared.Answer.{Answer}
-use Rattle.dispatcher.specs.declared.Answer.the-variants.{Placed, Served, Idle, Said}
+use Rattle.dispatcher.specs.declared.Answer.the-variants.{Placed, Served, Idle, OfSearch}
 use Rattle.dispatcher.specs.declared.Outcome.{Outcome}
 
 -- add with the arguments of an opening, turn, and tell, show and close at a place
@@ -33,7 +33,7 @@ abbrev pub said : Response calls.Answer → Answer
 said (placed i) = Placed i
 said (served i) = Served i
 said idle = Idle
-said (theory.said a) = Said (search.said a)
+said (theory.said a) = OfSearch (search.said a)
 
 -- the record: eight search records, and the place last served
 abbrev pub form : Form codec
@@ -44,7 +44,7 @@ form = record {
   last = λ r. r .last;
   places-made = λ l n. refl;
   last-made = λ l n. refl;
-  Said = Answer;
+  Reply = Answer;
   said = λ a. said a;
 }
 
@@ -55,7 +55,7 @@ dispatchers = dispatchCodec held made codec form
 
 -- a refusal: the dispatcher as it was
 abbrev pub refuses : Dispatcher → ℕ → Outcome
-refuses d number = record { dispatcher = d; answer = Said (Refused number 0) }
+refuses d number = record { dispatcher = d; answer = OfSearch (Refused number 0) }
 
 -- 24, tested before all else, on all eight places and the place last served; else the dispatcher's call
 unfoldable pub reply : Dispatcher → Call → Outcome

@@ -36,7 +36,7 @@ pub enum Answer {
     Placed(usize),
     Served(usize),
     Idle,
-    Said(search::Answer),
+    OfSearch(search::Answer),
 }
 
 // The dispatcher that a call leaves, and its answer.
@@ -69,14 +69,14 @@ pub fn add_core(d: Dispatcher, g: Graph, multipliers: &[i32], settings: Settings
     if !sound(d.last, seen) {
         return Outcome {
             dispatcher: d,
-            answer: Answer::Said(search::Answer::Refused(24, 0)),
+            answer: Answer::OfSearch(search::Answer::Refused(24, 0)),
         };
     }
     let k = first_after(seen, 0, EMPTY);
     if k == 0 {
         return Outcome {
             dispatcher: d,
-            answer: Answer::Said(search::Answer::Refused(41, 0)),
+            answer: Answer::OfSearch(search::Answer::Refused(41, 0)),
         };
     }
     let at = k - 1;
@@ -86,7 +86,7 @@ pub fn add_core(d: Dispatcher, g: Graph, multipliers: &[i32], settings: Settings
     if !is_accepted(answer) {
         return Outcome {
             dispatcher: d,
-            answer: Answer::Said(answer),
+            answer: Answer::OfSearch(answer),
         };
     }
     let t = out.search;
@@ -107,13 +107,13 @@ pub fn turn_core(d: Dispatcher, p: u64) -> Outcome
     if !sound(d.last, seen) {
         return Outcome {
             dispatcher: d,
-            answer: Answer::Said(search::Answer::Refused(24, 0)),
+            answer: Answer::OfSearch(search::Answer::Refused(24, 0)),
         };
     }
     if p == 0 {
         return Outcome {
             dispatcher: d,
-            answer: Answer::Said(search::Answer::Refused(40, 0)),
+            answer: Answer::OfSearch(search::Answer::Refused(40, 0)),
         };
     }
     let k = first_after(seen, d.last, WAITING);
@@ -145,7 +145,7 @@ pub fn tell_core(d: Dispatcher, place: usize) -> Outcome
     if fault != 0 {
         return Outcome {
             dispatcher: d,
-            answer: Answer::Said(search::Answer::Refused(fault, 0)),
+            answer: Answer::OfSearch(search::Answer::Refused(fault, 0)),
         };
     }
     let at = place - 1;
@@ -154,7 +154,7 @@ pub fn tell_core(d: Dispatcher, place: usize) -> Outcome
     let answer = out.answer;
     Outcome {
         dispatcher: d,
-        answer: Answer::Said(answer),
+        answer: Answer::OfSearch(answer),
     }
 }
 
@@ -171,7 +171,7 @@ pub fn show_core(d: Dispatcher, place: usize, out: &mut [u8]) -> Outcome
     if fault != 0 {
         return Outcome {
             dispatcher: d,
-            answer: Answer::Said(search::Answer::Refused(fault, 0)),
+            answer: Answer::OfSearch(search::Answer::Refused(fault, 0)),
         };
     }
     let at = place - 1;
@@ -180,7 +180,7 @@ pub fn show_core(d: Dispatcher, place: usize, out: &mut [u8]) -> Outcome
     let answer = done.answer;
     Outcome {
         dispatcher: d,
-        answer: Answer::Said(answer),
+        answer: Answer::OfSearch(answer),
     }
 }
 
@@ -193,7 +193,7 @@ pub fn close_core(d: Dispatcher, place: usize) -> Outcome
     if fault != 0 {
         return Outcome {
             dispatcher: d,
-            answer: Answer::Said(search::Answer::Refused(fault, 0)),
+            answer: Answer::OfSearch(search::Answer::Refused(fault, 0)),
         };
     }
     let at = place - 1;
@@ -205,7 +205,7 @@ pub fn close_core(d: Dispatcher, place: usize) -> Outcome
     r.places[at] = t;
     Outcome {
         dispatcher: r,
-        answer: Answer::Said(answer),
+        answer: Answer::OfSearch(answer),
     }
 }
 

@@ -7,10 +7,10 @@ use Rattle.search.proofs.ThinTypes.{search}
 use Rattle.shelf.proofs.ThinTypes.{shelf}
 use Rattle.graph.proofs.Graph as G
 use Rattle.graph.proofs.Graph.Laws as G′
-use Rattle.ffi.proofs.Filled as F
-use Rattle.ffi.proofs.Filled.Laws as F′
-use Rattle.ffi.proofs.Said as B
-use Rattle.ffi.proofs.Said.Laws as B′
+use Rattle.ffi.proofs.GraphReply as F
+use Rattle.ffi.proofs.GraphReply.Laws as F′
+use Rattle.ffi.proofs.Reply as B
+use Rattle.ffi.proofs.Reply.Laws as B′
 use Rattle.dispatcher.proofs.ThinTypes.{dispatcher}
 use Rattle.ffi.proofs.dispatches.Dispatched as D
 use Rattle.ffi.proofs.dispatches.Dispatched.Laws as D′

@@ -10,27 +10,27 @@ use Rattle.dispatcher.specs.declared.Dispatcher.{Dispatcher}
 use Rattle.dispatcher.specs.declared.Outcome.{Outcome}
 use Rattle.dispatcher.specs.declared.Answer.{Answer}
 use Rattle.dispatcher.specs.declared.Answer.the-variants as at
-use Rattle.ffi.specs.declared.Said.{Said}
+use Rattle.ffi.specs.declared.Reply.{Reply}
 use Rattle.ffi.specs.declared.dispatches.Dispatched.{Dispatched}
 use Rattle.ffi.specs.Answers.{plain, saidOf}
 
 -- 0 and the place that was added or served; 1,005 for a turn that found none to serve; no refusal has it
-unfoldable pub saidAt : Answer → Said
+unfoldable pub saidAt : Answer → Reply
 unfolding saidOf
 saidAt (at.Placed k) = plain 0 k
 saidAt (at.Served k) = plain 0 k
 saidAt at.Idle = plain 1005 0
-saidAt (at.Said a) = saidOf a
+saidAt (at.OfSearch a) = saidOf a
 
 abbrev pub dispatched : Dispatcher → Call → Dispatched
 dispatched d c = record { dispatcher = reply d c .dispatcher; said = saidAt (reply d c .answer) }
 
 -- what a call promises of its answer and of the dispatcher that it leaves
-abbrev pub Leaves : Dispatcher → Call → Said → Dispatcher → Type 0
+abbrev pub Leaves : Dispatcher → Call → Reply → Dispatcher → Type 0
 Leaves d c said after = (said ≡ saidAt (reply d c .answer)) × (after ≡ reply d c .dispatcher)
 
 -- and of the list lent beside it
-abbrev pub LeavesList : Dispatcher → Call → Said → Dispatcher → List ℕ → Type 0
+abbrev pub LeavesList : Dispatcher → Call → Reply → Dispatcher → List ℕ → Type 0
 LeavesList d c said after l = (said ≡ saidAt (reply d c .answer)) × ((after ≡ reply d c .dispatcher) × (l ≡ lent d c))
 
 -- the exported calls

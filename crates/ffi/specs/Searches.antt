@@ -6,7 +6,7 @@ use Rattle.machine.specs.Calls.{Call}
 use Rattle.search.specs.Replies.{reply, lent}
 use Rattle.search.specs.declared.Search.{Search}
 use Rattle.search.specs.declared.Outcome.{Outcome}
-use Rattle.ffi.specs.declared.Said.{Said}
+use Rattle.ffi.specs.declared.Reply.{Reply}
 use Rattle.ffi.specs.declared.searches.Replied.{Replied}
 use Rattle.ffi.specs.Answers.{saidOf}
 
@@ -17,9 +17,9 @@ abbrev pub replied : Search → Call → Replied
 replied s c = inNumbers (reply s c)
 
 -- what a call promises of its answer and of the record that it leaves
-abbrev pub Leaves : Search → Call → Said → Search → Type 0
+abbrev pub Leaves : Search → Call → Reply → Search → Type 0
 Leaves s c said after = (said ≡ saidOf (reply s c .answer)) × (after ≡ reply s c .search)
 
 -- and of the list lent beside it
-abbrev pub LeavesList : Search → Call → Said → Search → List ℕ → Type 0
+abbrev pub LeavesList : Search → Call → Reply → Search → List ℕ → Type 0
 LeavesList s c said after l = (said ≡ saidOf (reply s c .answer)) × ((after ≡ reply s c .search) × (l ≡ lent s c))

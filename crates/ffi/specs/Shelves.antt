@@ -5,7 +5,7 @@ use Rattle.search.specs.declared.Search.{Search}
 use Rattle.shelf.specs.Replies.{saveReply, backReply}
 use Rattle.shelf.specs.declared.Shelf.{Shelf}
 use Rattle.shelf.specs.declared.Saved.{Saved}
-use Rattle.ffi.specs.declared.Said.{Said}
+use Rattle.ffi.specs.declared.Reply.{Reply}
 use Rattle.ffi.specs.declared.searches.Replied.{Replied}
 use Rattle.ffi.specs.declared.shelves.Stored.{Stored}
 use Rattle.ffi.specs.Answers.{saidOf}
@@ -21,9 +21,9 @@ abbrev pub broughtOf : Search → Shelf → ℕ → Replied
 broughtOf s h k = inNumbers (backReply s h k)
 
 -- what save promises of its answer and of the shelf that it leaves
-abbrev pub Saves : Search → Shelf → ℕ → Said → Shelf → Type 0
+abbrev pub Saves : Search → Shelf → ℕ → Reply → Shelf → Type 0
 Saves s h k said after = (said ≡ saidOf (saveReply s h k .answer)) × (after ≡ saveReply s h k .shelf)
 
 -- what back promises of its answer and of the record that it leaves
-abbrev pub Brings : Search → Shelf → ℕ → Said → Search → Type 0
+abbrev pub Brings : Search → Shelf → ℕ → Reply → Search → Type 0
 Brings s h k said after = (said ≡ saidOf (backReply s h k .answer)) × (after ≡ backReply s h k .search)

@@ -16,13 +16,13 @@ use Rattle.search.specs.Demand3.{callsSaid, calls}
 use Rattle.search.specs.Theorem.{calls-follow}
 use Rattle.shelf.specs.Demand3.{LeavesFinished, SaysAfter}
 use Rattle.shelf.specs.Theorem.{demand-3-said, demand-3}
-use Rattle.ffi.specs.declared.Said.{Said}
+use Rattle.ffi.specs.declared.Reply.{Reply}
 use Rattle.ffi.specs.Answers.{saidOf}
 use Rattle.ffi.specs.Demand3.{Exported}
 
 apart : (n : ℕ) → ¬ (saidOf (Refused (suc n) 0) ≡ saidOf Accepted)
 unfolding saidOf
-apart n e = let z : suc n ≡ 0 = ap (λ (s : Said). s .number) e in omega arith
+apart n e = let z : suc n ≡ 0 = ap (λ (s : Reply). s .number) e in omega arith
 
 pub demand-3-exported : Exported
 demand-3-exported = demand-3-said saidOf apart

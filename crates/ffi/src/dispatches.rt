@@ -7,7 +7,7 @@ ghost use Rattle.search.specs.Record.{openingOf};
 ghost use Rattle.dispatcher.specs.Replies.{dispatchers, lent};
 ghost use Rattle.ffi.specs.Dispatches.{saidAt, dispatched, Leaves, LeavesList};
 use crate::IDLE;
-use crate::Said;
+use crate::Reply;
 use crate::plain;
 use crate::searches::said_of;
 use dispatcher::Answer;
@@ -18,18 +18,18 @@ use machine::Settings;
 // The dispatcher that a call leaves, and its answer in numbers.
 pub(crate) struct Dispatched {
     pub dispatcher: Dispatcher,
-    pub said: Said,
+    pub said: Reply,
 }
 
 // The numbers of an answer.
-fn said_at(answer: Answer) -> Said
+fn said_at(answer: Answer) -> Reply
     ensures { λ r. ⌜ r ≡ saidAt answer ⌝ }
 {
     match answer {
         Answer::Placed(k) => plain(0, k as u64),
         Answer::Served(k) => plain(0, k as u64),
         Answer::Idle => plain(IDLE, 0),
-        Answer::Said(a) => said_of(a),
+        Answer::OfSearch(a) => said_of(a),
     }
 }
 
@@ -121,7 +121,7 @@ pub extern "C" fn planner_add(
     g: Graph,
     multipliers: &[i32],
     settings: Settings,
-) -> Said
+) -> Reply
     ensures { λ r. ⌜ Leaves (now (d .entry)) (Calls.add (openingOf g (now (multipliers .entry)) settings)) r (now (d .exit)) ⌝ }
 {
     let out = added(*d, g, multipliers, settings);
@@ -131,7 +131,7 @@ pub extern "C" fn planner_add(
 
 // A turn of p nodes. Ruled out: a place named that was not served; a dispatcher changed by an idle turn.
 #[no_mangle]
-pub extern "C" fn planner_turn(d: &mut Dispatcher, p: u64) -> Said
+pub extern "C" fn planner_turn(d: &mut Dispatcher, p: u64) -> Reply
     ensures { λ r. ⌜ Leaves (now (d .entry)) (Calls.turn p) r (now (d .exit)) ⌝ }
 {
     let out = turned(*d, p);
@@ -141,7 +141,7 @@ pub extern "C" fn planner_turn(d: &mut Dispatcher, p: u64) -> Said
 
 // Ruled out: the verdict of another place; a dispatcher changed.
 #[no_mangle]
-pub extern "C" fn planner_tell_at(d: &mut Dispatcher, place: usize) -> Said
+pub extern "C" fn planner_tell_at(d: &mut Dispatcher, place: usize) -> Reply
     ensures { λ r. ⌜ Leaves (now (d .entry)) (Calls.tellAt place) r (now (d .exit)) ⌝ }
 {
     let out = told_at(*d, place);
@@ -151,7 +151,7 @@ pub extern "C" fn planner_tell_at(d: &mut Dispatcher, place: usize) -> Said
 
 // Ruled out: a refusal with a byte of `out` changed; the tour of another place.
 #[no_mangle]
-pub extern "C" fn planner_show_at(d: &mut Dispatcher, place: usize, out: &mut [u8]) -> Said
+pub extern "C" fn planner_show_at(d: &mut Dispatcher, place: usize, out: &mut [u8]) -> Reply
     ensures { λ r. ⌜ LeavesList (now (d .entry)) (Calls.showAt place (now (out .entry))) r (now (d .exit)) (now (out .exit)) ⌝ }
 {
     let done = shown_at(*d, place, out);
@@ -161,7 +161,7 @@ pub extern "C" fn planner_show_at(d: &mut Dispatcher, place: usize, out: &mut [u
 
 // Ruled out: a byte of the search left in the place; another place changed.
 #[no_mangle]
-pub extern "C" fn planner_close_at(d: &mut Dispatcher, place: usize) -> Said
+pub extern "C" fn planner_close_at(d: &mut Dispatcher, place: usize) -> Reply
     ensures { λ r. ⌜ Leaves (now (d .entry)) (Calls.closeAt place) r (now (d .exit)) ⌝ }
 {
     let out = closed_at(*d, place);

@@ -34,7 +34,7 @@ pub(crate) const IDLE: u32 = 1005;
 
 // What a call answers.
 #[repr(C)]
-pub struct Said {
+pub struct Reply {
     pub number: u32,
     pub place: u64,
     pub value: i64,
@@ -42,16 +42,16 @@ pub struct Said {
 }
 
 // A lent graph as a call leaves it, and the answer.
-pub(crate) struct Filled {
+pub(crate) struct GraphReply {
     pub graph: Graph,
-    pub said: Said,
+    pub said: Reply,
 }
 
 // A number and a place alone.
-pub(crate) fn plain(number: u32, place: u64) -> Said
+pub(crate) fn plain(number: u32, place: u64) -> Reply
     ensures { λ r. ⌜ r ≡ plain number place ⌝ }
 {
-    Said {
+    Reply {
         number: number,
         place: place,
         value: 0,
@@ -61,7 +61,7 @@ pub(crate) fn plain(number: u32, place: u64) -> Said
 
 // Ruled out: 0 for a graph that breaks 'Legs and marks'; any number but 15 for it.
 #[no_mangle]
-pub extern "C" fn planner_check(g: Graph) -> Said
+pub extern "C" fn planner_check(g: Graph) -> Reply
     ensures { λ r. ⌜ r ≡ saidOutcome (checkOutcome g) ⌝ }
 {
     if graph::check(g) {
@@ -71,7 +71,7 @@ pub extern "C" fn planner_check(g: Graph) -> Said
 }
 
 // Reading, on a graph by value: where the bytes are refused the graph is as it was.
-fn read_into(g: Graph, bytes: &[u8]) -> Filled
+fn read_into(g: Graph, bytes: &[u8]) -> GraphReply
     ensures { λ r. ⌜ r ≡ filledBy g (reading (now (bytes .entry))) ⌝ }
 {
     let r = charts::read(bytes);
@@ -80,14 +80,14 @@ fn read_into(g: Graph, bytes: &[u8]) -> Filled
         ReadAnswer::Read => {
             let h = r.graph;
             let said = plain(0, 0);
-            Filled {
+            GraphReply {
                 graph: h,
                 said: said,
             }
         }
         ReadAnswer::Refused(number, at) => {
             let said = plain(number, at);
-            Filled {
+            GraphReply {
                 graph: g,
                 said: said,
             }
@@ -97,7 +97,7 @@ fn read_into(g: Graph, bytes: &[u8]) -> Filled
 
 // Ruled out: a graph changed by a refusal; a place left out.
 #[no_mangle]
-pub extern "C" fn planner_read(g: &mut Graph, bytes: &[u8]) -> Said
+pub extern "C" fn planner_read(g: &mut Graph, bytes: &[u8]) -> Reply
     ensures { λ r. ⌜ Fills (now (g .entry)) (reading (now (bytes .entry))) r (now (g .exit)) ⌝ }
 {
     let out = read_into(*g, bytes);
@@ -107,7 +107,7 @@ pub extern "C" fn planner_read(g: &mut Graph, bytes: &[u8]) -> Said
 
 // Ruled out: a byte written by a refusal; 11 for a graph that breaks 'Legs and marks'.
 #[no_mangle]
-pub extern "C" fn planner_write(g: Graph, out: &mut [u8]) -> Said
+pub extern "C" fn planner_write(g: Graph, out: &mut [u8]) -> Reply
     ensures { λ r.
         ⌜
         (r ≡ saidOutcome (writeOutcome g (length (now (out .entry)))))

@@ -10,7 +10,7 @@ use crate::BEST;
 use crate::FINISHED;
 use crate::GOING_ON;
 use crate::NO_TOUR;
-use crate::Said;
+use crate::Reply;
 use crate::plain;
 use graph::Graph;
 use machine::Settings;
@@ -21,41 +21,41 @@ use search::Search;
 // The record that a call leaves, and its answer in numbers.
 pub(crate) struct Replied {
     pub search: Search,
-    pub said: Said,
+    pub said: Reply,
 }
 
 // The numbers of an answer.
-pub(crate) fn said_of(answer: Answer) -> Said
+pub(crate) fn said_of(answer: Answer) -> Reply
     ensures { λ r. ⌜ r ≡ saidOf answer ⌝ }
 {
     match answer {
         Answer::Refused(number, at) => plain(number, at),
         Answer::Accepted => plain(0, 0),
-        Answer::GoingOn(k) => Said {
+        Answer::GoingOn(k) => Reply {
             number: GOING_ON,
             place: 0,
             value: 0,
             nodes: k,
         },
-        Answer::Finished(k) => Said {
+        Answer::Finished(k) => Reply {
             number: FINISHED,
             place: 0,
             value: 0,
             nodes: k,
         },
-        Answer::Searching(k) => Said {
+        Answer::Searching(k) => Reply {
             number: GOING_ON,
             place: 0,
             value: 0,
             nodes: k,
         },
-        Answer::NoTour(k) => Said {
+        Answer::NoTour(k) => Reply {
             number: NO_TOUR,
             place: 0,
             value: 0,
             nodes: k,
         },
-        Answer::Best(c, k) => Said {
+        Answer::Best(c, k) => Reply {
             number: BEST,
             place: 0,
             value: c,
@@ -130,7 +130,7 @@ pub extern "C" fn planner_open(
     g: Graph,
     multipliers: &[i32],
     settings: Settings,
-) -> Said
+) -> Reply
     ensures { λ r. ⌜ Leaves (now (s .entry)) (Calls.opens (openingOf g (now (multipliers .entry)) settings)) r (now (s .exit)) ⌝ }
 {
     let out = opened(*s, g, multipliers, settings);
@@ -140,7 +140,7 @@ pub extern "C" fn planner_open(
 
 // Running. Ruled out: a node opened beyond the budget; 'finished' while nodes wait.
 #[no_mangle]
-pub extern "C" fn planner_run(s: &mut Search, budget: u64) -> Said
+pub extern "C" fn planner_run(s: &mut Search, budget: u64) -> Reply
     ensures { λ r. ⌜ Leaves (now (s .entry)) (Calls.run budget) r (now (s .exit)) ⌝ }
 {
     let out = ran(*s, budget);
@@ -150,7 +150,7 @@ pub extern "C" fn planner_run(s: &mut Search, budget: u64) -> Said
 
 // Telling. Ruled out: a cost while nodes wait; a record changed.
 #[no_mangle]
-pub extern "C" fn planner_tell(s: &mut Search) -> Said
+pub extern "C" fn planner_tell(s: &mut Search) -> Reply
     ensures { λ r. ⌜ Leaves (now (s .entry)) Calls.tell r (now (s .exit)) ⌝ }
 {
     let out = told(*s);
@@ -160,7 +160,7 @@ pub extern "C" fn planner_tell(s: &mut Search) -> Said
 
 // Showing. Ruled out: a refusal with a byte of `out` changed; a tour after 'none'.
 #[no_mangle]
-pub extern "C" fn planner_show(s: &mut Search, out: &mut [u8]) -> Said
+pub extern "C" fn planner_show(s: &mut Search, out: &mut [u8]) -> Reply
     ensures { λ r. ⌜ LeavesList (now (s .entry)) (Calls.show (now (out .entry))) r (now (s .exit)) (now (out .exit)) ⌝ }
 {
     let done = shown(*s, out);
@@ -170,7 +170,7 @@ pub extern "C" fn planner_show(s: &mut Search, out: &mut [u8]) -> Said
 
 // Closing. Ruled out: a byte of the search left in the record; a record that fails its check made fresh.
 #[no_mangle]
-pub extern "C" fn planner_close(s: &mut Search) -> Said
+pub extern "C" fn planner_close(s: &mut Search) -> Reply
     ensures { λ r. ⌜ Leaves (now (s .entry)) Calls.close r (now (s .exit)) ⌝ }
 {
     let out = closed(*s);

@@ -3,7 +3,7 @@
 ghost use mathlib.Core.Path.{_≡_};
 ghost use Rattle.shelf.specs.Replies.{freshShelf};
 ghost use Rattle.ffi.specs.Shelves.{savedOf, broughtOf, Saves, Brings};
-use crate::Said;
+use crate::Reply;
 use crate::plain;
 use crate::searches::Replied;
 use crate::searches::in_numbers;
@@ -13,7 +13,7 @@ use shelf::Shelf;
 // The shelf that a save leaves, and its answer in numbers.
 pub(crate) struct Stored {
     pub shelf: Shelf,
-    pub said: Said,
+    pub said: Reply,
 }
 
 // The shelf is large, so it is stored into here and not in `save_core`: the stack then has one copy less.
@@ -53,7 +53,7 @@ pub extern "C" fn planner_fresh_shelf() -> Shelf
 
 // Saving. Ruled out: another place changed; a refused save that stores.
 #[no_mangle]
-pub extern "C" fn planner_save(shelf: &mut Shelf, s: &Search, name: usize) -> Said
+pub extern "C" fn planner_save(shelf: &mut Shelf, s: &Search, name: usize) -> Reply
     ensures { λ r. ⌜ Saves (now (s .entry)) (now (shelf .entry)) name r (now (shelf .exit)) ⌝ }
 {
     let out = saved(*shelf, *s, name);
@@ -63,7 +63,7 @@ pub extern "C" fn planner_save(shelf: &mut Shelf, s: &Search, name: usize) -> Sa
 
 // Bringing back. Ruled out: the search of another name; a record changed by a refusal.
 #[no_mangle]
-pub extern "C" fn planner_back(s: &mut Search, shelf: &Shelf, name: usize) -> Said
+pub extern "C" fn planner_back(s: &mut Search, shelf: &Shelf, name: usize) -> Reply
     ensures { λ r. ⌜ Brings (now (s .entry)) (now (shelf .entry)) name r (now (s .exit)) ⌝ }
 {
     let out = brought(*s, *shelf, name);

@@ -4,7 +4,7 @@ ghost use lib.ListN.{length};
 ghost use Rattle.sailing.specs.Simulation.{simulationReply, simulationLeaves};
 ghost use Rattle.compare.specs.Comparison.{compareReply, compareLeaves};
 ghost use Rattle.ffi.specs.Answers.{saidOf, saidSailing};
-use crate::Said;
+use crate::Reply;
 use crate::searches::said_of;
 use compare::Terms;
 use graph::Graph;
@@ -60,7 +60,7 @@ pub extern "C" fn planner_compare(
     sweeps: &[u32],
     steps: &[u32],
     report: &mut [u64],
-) -> Said
+) -> Reply
     ensures { λ r.
         ⌜
         (r ≡ saidOf (compareReply g (now (multipliers .entry)) terms (now (sweeps .entry)) (now (steps .entry)) (length (now (report .entry)))))

@@ -6,16 +6,16 @@ ghost use Rattle.onetree.specs.Answers.{treeReply, treeLeaves, ruleReply, ruleL
 ghost use Rattle.preview.specs.Preview.{previewReply, previewLeaves};
 ghost use Rattle.ffi.specs.Answers.{bound, saidReply};
 use crate::NONE;
-use crate::Said;
+use crate::Reply;
 use crate::plain;
 use graph::Graph;
 use onetree::RuleAnswer;
 use onetree::TreeAnswer;
 
-fn bound(value: i64) -> Said
+fn bound(value: i64) -> Reply
     ensures { λ r. ⌜ r ≡ bound value ⌝ }
 {
-    Said {
+    Reply {
         number: 0,
         place: 0,
         value: value,
@@ -30,7 +30,7 @@ pub extern "C" fn planner_tree(
     multipliers: &[i32],
     denominator: u64,
     out: &mut [u8],
-) -> Said
+) -> Reply
     ensures { λ r.
         ⌜
         (r ≡ saidReply (treeReply g (now (multipliers .entry)) denominator (length (now (out .entry)))))
@@ -54,7 +54,7 @@ pub extern "C" fn planner_preview(
     edge: usize,
     mark: u32,
     out: &mut [u8],
-) -> Said
+) -> Reply
     ensures { λ r.
         ⌜
         (r ≡ saidReply (previewReply g (now (multipliers .entry)) denominator edge mark (length (now (out .entry)))))
@@ -77,7 +77,7 @@ pub extern "C" fn planner_rule(
     ceiling: i64,
     denominator: u64,
     out: &mut [u8],
-) -> Said
+) -> Reply
     ensures { λ r.
         ⌜
         (r ≡ saidReply (ruleReply g (now (multipliers .entry)) ceiling denominator (length (now (out .entry)))))

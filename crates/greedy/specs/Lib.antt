@@ -10,7 +10,6 @@ pub mod Fits
 -- the array of charges, and the bound that a sum of them stands for
 pub mod Charging
 -- the order of the edges: keys, made from a hint or without, and sorted
-pub mod Sorting
 pub mod Falling
 pub mod Keys
 pub mod Making

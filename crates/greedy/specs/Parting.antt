@@ -11,7 +11,7 @@ use lib.ListN.{getD}
 use borrow.Author.Tests.{not-true}
 use Rattle.greedy.specs.Charged.{maxCharge}
 use Rattle.greedy.specs.Fits.{near-below}
-use Rattle.greedy.specs.Sorting.{Ascending}
+use Rattle.lists.specs.Sorting.{Ascending}
 use Rattle.greedy.specs.Keys.{keyAt, keyCharge, charge-most, key-parts, farCharge, farKeys, nearAt, farAt, partedAt, parted-near, parted-far, AllKeyed, Keyed}
 
 -- r is the first place of those from `from` to before `to` whose key is at least `least`, or `to`

@@ -25,7 +25,7 @@ use Rattle.tree_theory.specs.Valid.{isExcluded, needed, isNear, near, far, dist
 use Rattle.tree_theory.specs.Optimal.Weight.{oneWeight, oneWeight-le}
 use Rattle.tree_theory.specs.Optimal.Minimum.{Order}
 use Rattle.tree_theory.specs.Arrays.{entry, network-m, edge-in, in-edge, needed-at, excluded-at}
-use Rattle.greedy.specs.Sorting.{Ascending}
+use Rattle.lists.specs.Sorting.{Ascending}
 use Rattle.greedy.specs.Falling.{Falls, GoesWith, falls-select, falls-distinct, falls-split, falls-desc}
 use Rattle.greedy.specs.Keys.{keyAt, key-low, key-required, key-free, Kind, nearAt, farAt, Keyed, queued, queued-in, in-queued, queued-falls, queued-length}
 

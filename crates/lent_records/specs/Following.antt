@@ -62,8 +62,8 @@ module _ {m : Machine} (k : Codec m) where
     begun = k .begun;
     goesOn = k .goesOn;
     starts = refl;
-    next = λ s h c. ap (λ (x : Outcome (k .Record) (k .Said)). x .left) (reply-is s h c);
-    answer = λ s h c. ap (λ (x : Outcome (k .Record) (k .Said)). x .answer) (reply-is s h c);
+    next = λ s h c. ap (λ (x : Outcome (k .Record) (k .Reply)). x .left) (reply-is s h c);
+    answer = λ s h c. ap (λ (x : Outcome (k .Record) (k .Reply)). x .answer) (reply-is s h c);
     list = lent-is;
     back = k .returns;
     sound = k .passes;

@@ -17,14 +17,14 @@ use Rattle.lent_records.specs.Machine.{Machine, leaves}
 pub record Interface (m : Machine) : Type 1 where
   -- what the caller lends, and what a call answers
   pub Lent : Type 0
-  pub Said : Type 0
+  pub Reply : Type 0
   pub fresh : Lent
   -- a call: what it leaves of the lent records, its answer, and the lent list as it leaves it
   pub next : Lent → m .Call → Lent
-  pub answer : Lent → m .Call → Said
+  pub answer : Lent → m .Call → Reply
   pub list : Lent → m .Call → List ℕ
   -- how an answer of the machine's is said
-  pub said : m .Answer → Said
+  pub said : m .Answer → Reply
   -- the state that the records hold, the records of a state, and their own check
   pub holds : Lent → m .State
   pub made : m .State → Lent
@@ -63,8 +63,8 @@ pub record Codec (m : Machine) : Type 1 where
   -- what 24 tests
   pub check : Record → Bool
   -- an answer as the code gives it
-  pub Said : Type 0
-  pub said : m .Answer → Said
+  pub Reply : Type 0
+  pub said : m .Answer → Reply
   -- the states that a record can hold: the first one, and with a state the next
   pub Kept : m .State → Type 0
   pub begun : Kept (m .begin)
@@ -79,7 +79,7 @@ pub record Outcome (R A : Type 0) : Type 0 where
 
 module _ {m : Machine} (k : Codec m) where
   -- 24, tested before all else; or the machine's call on the state that the record holds
-  unfoldable pub reply : k .Record → m .Call → Outcome (k .Record) (k .Said)
+  unfoldable pub reply : k .Record → m .Call → Outcome (k .Record) (k .Reply)
   reply r c =
       cond (k .check r)
       (record { left = k .encode (m .next (k .decode r) c); answer = k .said (m .answer (k .decode r) c) })
@@ -92,7 +92,7 @@ module _ {m : Machine} (k : Codec m) where
   abbrev pub replies : Interface m
   replies = record {
     Lent = k .Record;
-    Said = k .Said;
+    Reply = k .Reply;
     fresh = k .encode (m .begin);
     next = λ r c. reply r c .left;
     answer = λ r c. reply r c .answer;

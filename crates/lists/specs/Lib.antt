@@ -12,3 +12,4 @@ pub mod FilledFrom
 pub mod Hits
 pub mod Sets
 pub mod Filling
+pub mod Sorting

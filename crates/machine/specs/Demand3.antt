@@ -77,15 +77,15 @@ ShowAlike next list next′ list′ = (l : List ℕ) → (next (show l) ≡ next
 pub record Interface : Type 1 where
   -- what the caller lends, and what a call answers
   pub Lent : Type 0
-  pub Said : Type 0
+  pub Reply : Type 0
   -- "a fresh record"
   pub fresh : Lent
   -- a call: the record that it leaves, its answer, and the lent list as it leaves it
   pub next : Lent → Call → Lent
-  pub answer : Lent → Call → Said
+  pub answer : Lent → Call → Reply
   pub list : Lent → Call → List ℕ
   -- how an answer of the machine's is said
-  pub said : Answer → Said
+  pub said : Answer → Reply
   -- the state that a record holds, the record of a state, and the record's own check
   pub holds : Lent → State
   pub made : State → Lent

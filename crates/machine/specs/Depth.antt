@@ -74,7 +74,7 @@ branch-shallow n d y l = by-cases (ltb (firstFree y) (length y)) some (λ e. rw 
 
 module _ (g : Network) (vg : Valid g) (upper : ℤ) where
   -- what a pass leaves of the node x: it unmarks no required edge, and its tree of n edges has each that is required now
-  record Left (x : Marks) (t : Edges) (y : Marks) : Type 0 where
+  record Unclosed (x : Marks) (t : Edges) (y : Marks) : Type 0 where
     long : length y ≡ g .m
     more : requireds x ≤ requireds y
     size : length (select t (upTo (g .m))) ≡ g .n
@@ -83,7 +83,7 @@ module _ (g : Network) (vg : Valid g) (upper : ℤ) where
   abbrev Passed : Marks → Pass → Type 0
   Passed x shut = Unit {0}
   Passed x (found t) = Unit {0}
-  Passed x (unclosed t y) = Left x t y
+  Passed x (unclosed t y) = Unclosed x t y
 
   pass-shallow : (d : ℕ → ℤ) (x : Marks) → length x ≡ g .m → Passed x (pass (withMarks g x) d upper)
   unfolding pass passBy
@@ -106,7 +106,7 @@ module _ (g : Network) (vg : Valid g) (upper : ℤ) where
           }
 
   concluded-shallow : (x : Marks) (p : Pass) → Passed x p → (otherwise : Edges → Marks → Opened)
-      → ((t : Edges) (y : Marks) → Left x t y → Shallow (g .n) y (otherwise t y)) → Shallow (g .n) x (concluded (g .m) p otherwise)
+      → ((t : Edges) (y : Marks) → Unclosed x t y → Shallow (g .n) y (otherwise t y)) → Shallow (g .n) x (concluded (g .m) p otherwise)
   concluded-shallow x shut h otherwise later = tt
   concluded-shallow x (found t) h otherwise later = tt
   concluded-shallow x (unclosed t y) h otherwise later = fewer (g .n) x y (h .more) (otherwise t y) (later t y h)

@@ -8,7 +8,7 @@ use Rattle.machine.specs.Calls.{Call, step, stateAfter, leaves, answers}
 use Rattle.machine.specs.Demand3.{Interface, after, Demand3}
 
 -- what an interface answers down a list, and the lists that were lent as each call leaves its own; and the machine's lists
-unfoldable pub saids : (i : Interface) → i .Lent → List Call → List (i .Said)
+unfoldable pub saids : (i : Interface) → i .Lent → List Call → List (i .Reply)
 saids i r [] = []
 saids i r (c ∷ cs) = i .answer r c ∷ saids i (i .next r c) cs
 

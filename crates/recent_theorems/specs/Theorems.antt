@@ -288,11 +288,11 @@ one-self : (o : Opening) → OneNetwork (network (o .graph)) (network (o .graph)
 one-self o = record { n = refl; m = refl; there = λ k i. (k, i, record { a = refl; b = refl; cost = refl; mark = refl }) }
 
 -- of any calls whose finished searches agree
-pub searched : {L : Type 0} (Left : L → Opening → Type 0) (Says : L → Opening → Verdict → Type 0)
-    → ((cs ds : L) (o p : Opening) → Left cs o → Left ds p → OneNetwork (network (o .graph)) (network (p .graph))
+pub searched : {L : Type 0} (Leaves : L → Opening → Type 0) (Says : L → Opening → Verdict → Type 0)
+    → ((cs ds : L) (o p : Opening) → Leaves cs o → Leaves ds p → OneNetwork (network (o .graph)) (network (p .graph))
     → o .settings .ceiling ≡ p .settings .ceiling → (v : Verdict) × Says cs o v × Says ds p v)
-    → Searched Left Says
-searched Left Says agree g w edges times full e =
+    → Searched Leaves Says
+searched Leaves Says agree g w edges times full e =
     let p = accepted-knows g w edges times e in
     let log = logOf edges times in
     rw (leaves-made g w edges times e) (record {

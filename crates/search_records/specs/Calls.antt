@@ -11,7 +11,7 @@ use Rattle.search_records.specs.Searching.{searchMachine}
 abbrev pub searchCalls : {A : Type 0} → (Answer → A) → Interface searchMachine
 searchCalls {A} f = record {
   Lent = Search;
-  Said = A;
+  Reply = A;
   fresh = fresh;
   next = λ s c. reply s c .search;
   answer = λ s c. f (reply s c .answer);

@@ -35,7 +35,7 @@ module _ {m : Machine} (o : Searches m) (j : Interface m) where
   nextOn r (save k) = saves r k (isNone (saveFaultOn r k))
   nextOn r (back k) = brings (j .fresh) r k (isNone (backFaultOn r k))
 
-  unfoldable pub answerOn : Shelved (j .Lent) → ShelfCall (m .Call) → j .Said
+  unfoldable pub answerOn : Shelved (j .Lent) → ShelfCall (m .Call) → j .Reply
   unfolding saveFaultOn backFaultOn answerBy
   answerOn r (plain c) = j .answer (r .current) c
   answerOn r (save k) = j .said (answerBy m o (saveFaultOn r k))
@@ -49,7 +49,7 @@ module _ {m : Machine} (o : Searches m) (j : Interface m) where
   abbrev pub shelfCalls : Interface (shelved m o)
   shelfCalls = record {
     Lent = Shelved (j .Lent);
-    Said = j .Said;
+    Reply = j .Reply;
     fresh = cleared (j .fresh);
     next = nextOn;
     answer = answerOn;

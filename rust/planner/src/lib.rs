@@ -19,7 +19,7 @@ pub mod raw;
 
 pub use raw::{Graph, Places, Record, Settings, Terms, Turns};
 
-use raw::{Said, EDGES};
+use raw::{Reply, EDGES};
 use std::fmt;
 
 /// Document 01's answer to a wrong call: a number and a place, which is 0 but in reading and in a log.
@@ -79,7 +79,7 @@ impl fmt::Display for Refusal {
 
 impl std::error::Error for Refusal {}
 
-impl Said {
+impl Reply {
     fn refusal(self) -> Refusal {
         Refusal {
             number: self.number,
@@ -88,7 +88,7 @@ impl Said {
     }
 
     /// The answer of a call that is accepted by 0 alone.
-    fn accepted(self) -> Result<Said, Refusal> {
+    fn accepted(self) -> Result<Reply, Refusal> {
         match self.number {
             raw::ACCEPTED => Ok(self),
             _ => Err(self.refusal()),
@@ -206,7 +206,7 @@ pub enum Tree {
 }
 
 impl Tree {
-    fn of(said: Said, out: &[u8]) -> Result<Tree, Refusal> {
+    fn of(said: Reply, out: &[u8]) -> Result<Tree, Refusal> {
         if said.number == raw::NONE {
             return Ok(Tree::None);
         }
@@ -462,7 +462,7 @@ pub struct Told {
 }
 
 impl Told {
-    fn of(said: Said) -> Result<Told, Refusal> {
+    fn of(said: Reply) -> Result<Told, Refusal> {
         let verdict = match said.number {
             raw::GOING_ON => Verdict::GoingOn,
             raw::NO_TOUR => Verdict::NoTour,

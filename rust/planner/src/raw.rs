@@ -40,7 +40,7 @@ pub const IDLE: u32 = 1005;
 /// What a call answers. A field without a value is 0.
 #[repr(C)]
 #[derive(Clone, Copy, PartialEq, Eq, Debug)]
-pub struct Said {
+pub struct Reply {
     pub number: u32,
     pub place: u64,
     pub value: i64,
@@ -131,7 +131,7 @@ macro_rules! layout {
     };
 }
 
-layout!(Said, 32, number at 0, place at 8, value at 16, nodes at 24);
+layout!(Reply, 32, number at 0, place at 8, value at 16, nodes at 24);
 layout!(Graph, 1_332, cost at 0, a at 760, b at 950, mark at 1_140, n at 1_330, m at 1_331);
 layout!(Settings, 24, ceiling at 0, sweeps at 8, step at 12, denominator at 16);
 layout!(Sailed, 32, number at 0, place at 8, total at 16, state at 24);
@@ -147,9 +147,9 @@ layout!(Turns, 8 + PLACES * std::mem::size_of::<Record>(), last at 0, places at 
 
 // A pointer must lead to as much memory as the call is told, also where the length is 0, and no two that are lent may overlap.
 extern "C" {
-    pub fn planner_check(g: Graph) -> Said;
-    pub fn planner_read(g: *mut Graph, bytes: *const u8, length: usize) -> Said;
-    pub fn planner_write(g: Graph, out: *mut u8, length: usize) -> Said;
+    pub fn planner_check(g: Graph) -> Reply;
+    pub fn planner_read(g: *mut Graph, bytes: *const u8, length: usize) -> Reply;
+    pub fn planner_write(g: Graph, out: *mut u8, length: usize) -> Reply;
     pub fn planner_tree(
         g: Graph,
         multipliers: *const i32,
@@ -157,7 +157,7 @@ extern "C" {
         denominator: u64,
         out: *mut u8,
         length: usize,
-    ) -> Said;
+    ) -> Reply;
     pub fn planner_preview(
         g: Graph,
         multipliers: *const i32,
@@ -167,7 +167,7 @@ extern "C" {
         mark: u32,
         out: *mut u8,
         length: usize,
-    ) -> Said;
+    ) -> Reply;
     pub fn planner_rule(
         g: Graph,
         multipliers: *const i32,
@@ -176,7 +176,7 @@ extern "C" {
         denominator: u64,
         out: *mut u8,
         length: usize,
-    ) -> Said;
+    ) -> Reply;
     pub fn planner_recent(
         g: *mut Graph,
         w: usize,
@@ -184,7 +184,7 @@ extern "C" {
         edges_length: usize,
         times: *const i32,
         times_length: usize,
-    ) -> Said;
+    ) -> Reply;
     pub fn planner_simulate(
         g: Graph,
         edges: *const usize,
@@ -205,7 +205,7 @@ extern "C" {
         steps_length: usize,
         report: *mut u64,
         length: usize,
-    ) -> Said;
+    ) -> Reply;
     pub fn planner_fresh() -> Record;
     pub fn planner_open(
         s: *mut Record,
@@ -213,14 +213,14 @@ extern "C" {
         multipliers: *const i32,
         multipliers_length: usize,
         settings: Settings,
-    ) -> Said;
-    pub fn planner_run(s: *mut Record, budget: u64) -> Said;
-    pub fn planner_tell(s: *mut Record) -> Said;
-    pub fn planner_show(s: *mut Record, out: *mut u8, length: usize) -> Said;
-    pub fn planner_close(s: *mut Record) -> Said;
+    ) -> Reply;
+    pub fn planner_run(s: *mut Record, budget: u64) -> Reply;
+    pub fn planner_tell(s: *mut Record) -> Reply;
+    pub fn planner_show(s: *mut Record, out: *mut u8, length: usize) -> Reply;
+    pub fn planner_close(s: *mut Record) -> Reply;
     pub fn planner_fresh_shelf() -> Places;
-    pub fn planner_save(shelf: *mut Places, s: *const Record, name: usize) -> Said;
-    pub fn planner_back(s: *mut Record, shelf: *const Places, name: usize) -> Said;
+    pub fn planner_save(shelf: *mut Places, s: *const Record, name: usize) -> Reply;
+    pub fn planner_back(s: *mut Record, shelf: *const Places, name: usize) -> Reply;
     pub fn planner_fresh_dispatcher() -> Turns;
     pub fn planner_add(
         d: *mut Turns,
@@ -228,9 +228,9 @@ extern "C" {
         multipliers: *const i32,
         multipliers_length: usize,
         settings: Settings,
-    ) -> Said;
-    pub fn planner_turn(d: *mut Turns, p: u64) -> Said;
-    pub fn planner_tell_at(d: *mut Turns, place: usize) -> Said;
-    pub fn planner_show_at(d: *mut Turns, place: usize, out: *mut u8, length: usize) -> Said;
-    pub fn planner_close_at(d: *mut Turns, place: usize) -> Said;
+    ) -> Reply;
+    pub fn planner_turn(d: *mut Turns, p: u64) -> Reply;
+    pub fn planner_tell_at(d: *mut Turns, place: usize) -> Reply;
+    pub fn planner_show_at(d: *mut Turns, place: usize, out: *mut u8, length: usize) -> Reply;
+    pub fn planner_close_at(d: *mut Turns, place: usize) -> Reply;
 }

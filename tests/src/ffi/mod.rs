@@ -8,7 +8,9 @@ use crate::document::Refusal;
 use crate::record::{graph_bytes, graph_of, GRAPH};
 use crate::report::Hex;
 use lent::Lent;
-use planner::raw::{self, planner_check, planner_read, planner_recent, planner_write, Said};
+use planner::raw::{
+    self, planner_check, planner_read, planner_recent, planner_write, Reply as Numbers,
+};
 
 pub mod dispatches;
 pub mod lent;
@@ -29,15 +31,15 @@ use call;
 /// What a call answers, and what became of the lent list.
 #[derive(PartialEq, Eq, Debug)]
 pub struct Reply {
-    pub said: Said,
+    pub said: Numbers,
     /// none if no byte of the list changed
     pub out: Option<Hex>,
     pub margins_kept: bool,
 }
 
 /// An answer of a number alone.
-pub fn only(number: u32) -> Said {
-    Said {
+pub fn only(number: u32) -> Numbers {
+    Numbers {
         number,
         place: 0,
         value: 0,
@@ -46,16 +48,16 @@ pub fn only(number: u32) -> Said {
 }
 
 /// A refusal's number and place.
-pub fn refused(refusal: Refusal) -> Said {
-    Said {
+pub fn refused(refusal: Refusal) -> Numbers {
+    Numbers {
         place: refusal.place,
         ..only(refusal.number)
     }
 }
 
 /// Accepted, with a bound.
-pub fn bound(value: i64) -> Said {
-    Said {
+pub fn bound(value: i64) -> Numbers {
+    Numbers {
         value,
         ..only(raw::ACCEPTED)
     }
@@ -99,7 +101,7 @@ pub fn check(graph: &Graph) -> Reply {
 
 #[derive(PartialEq, Eq, Debug)]
 pub struct ReadReply {
-    pub said: Said,
+    pub said: Numbers,
     /// none if no byte of the lent graph changed
     pub graph: Option<Graph>,
     pub margins_kept: bool,
@@ -120,7 +122,7 @@ pub fn read(bytes: &[u8]) -> ReadReply {
 /// What the call on a lent graph answers, and the graph after it, to the byte.
 #[derive(PartialEq, Eq, Debug)]
 pub struct RecentReply {
-    pub said: Said,
+    pub said: Numbers,
     pub graph: Graph,
     pub margins_kept: bool,
 }

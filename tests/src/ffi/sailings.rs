@@ -4,7 +4,7 @@ use super::lent::Lent;
 use super::{by_value, call};
 use crate::document::graph::Graph;
 use crate::document::sailing::{Asked, Trial};
-use planner::raw::{planner_compare, planner_simulate, Said, Sailed, Terms};
+use planner::raw::{planner_compare, planner_simulate, Reply as Numbers, Sailed, Terms};
 
 /// What a simulation answers, and what became of the lent times.
 #[derive(PartialEq, Eq, Debug)]
@@ -48,7 +48,7 @@ pub fn simulate(graph: &Graph, asked: &Asked) -> SailedReply {
 /// What a comparison answers, and what became of the lent report.
 #[derive(PartialEq, Eq, Debug)]
 pub struct ComparedReply {
-    pub said: Said,
+    pub said: Numbers,
     /// none if no byte changed
     pub report: Option<Vec<u64>>,
     pub margins_kept: bool,

@@ -5,7 +5,7 @@ use super::{call, Reply};
 use crate::document::shelf::PLACES;
 use crate::record::{Record, SIZE};
 use crate::stack;
-use planner::raw::{self, planner_back, planner_fresh_shelf, planner_save, Said};
+use planner::raw::{self, planner_back, planner_fresh_shelf, planner_save, Reply as Numbers};
 
 /// A shelf as the records at its places.
 #[derive(Clone, PartialEq, Eq, Debug)]
@@ -66,7 +66,7 @@ impl Record {
 }
 
 /// An answer beside which no list is lent.
-fn plain(said: Said, margins_kept: bool) -> Reply {
+fn plain(said: Numbers, margins_kept: bool) -> Reply {
     Reply {
         said,
         out: None,

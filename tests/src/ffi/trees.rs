@@ -4,13 +4,13 @@ use super::lent::Lent;
 use super::{by_value, call, Reply};
 use crate::document::graph::Graph;
 use crate::report::Hex;
-use planner::raw::{planner_preview, planner_rule, planner_tree, Said};
+use planner::raw::{planner_preview, planner_rule, planner_tree, Reply as Numbers};
 
 /// Makes a call with multipliers and a list lent.
 fn lending(
     multipliers: &[i32],
     length: usize,
-    call: impl FnOnce(*const i32, *mut u8) -> Said,
+    call: impl FnOnce(*const i32, *mut u8) -> Numbers,
 ) -> Reply {
     let mut given = Lent::numbers(multipliers);
     let mut out = Lent::new(length);

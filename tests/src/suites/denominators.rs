@@ -19,7 +19,7 @@ use crate::generate::{self, Spread, MAX_CEILING, MAX_MULTIPLIER};
 use crate::random::Random;
 use crate::record::Record;
 use crate::report::{Hex, Mismatch, Outcome, Suite, Tally};
-use planner::raw::{Said, BEST, FINISHED, NONE, NO_TOUR};
+use planner::raw::{Reply as Numbers, BEST, FINISHED, NONE, NO_TOUR};
 use rule::Arguments;
 
 pub const SUITE: Suite = Suite {
@@ -66,7 +66,7 @@ fn run(law: &Law, tally: &mut Tally) -> Outcome {
     Ok(())
 }
 
-fn said(said: Said, out: Option<&[u8]>) -> Reply {
+fn said(said: Numbers, out: Option<&[u8]>) -> Reply {
     Reply {
         said,
         out: out.map(|bytes| Hex(bytes.to_vec())),

@@ -13,7 +13,7 @@ use crate::generate;
 use crate::random::Random;
 use crate::record::{Dispatched, Record};
 use crate::report::{Outcome, Suite, Tally};
-use planner::raw::{Said, ACCEPTED, IDLE};
+use planner::raw::{Reply as Numbers, ACCEPTED, IDLE};
 
 pub const SUITE: Suite = Suite {
     name: "dispatcher",
@@ -39,12 +39,12 @@ pub const SUITE: Suite = Suite {
 
 /// What the library says where the dispatcher answers so.
 pub fn said(answer: &Answer) -> Reply {
-    let plain = |said: Said| Reply {
+    let plain = |said: Numbers| Reply {
         said,
         out: None,
         margins_kept: true,
     };
-    let at = |place: usize| Said {
+    let at = |place: usize| Numbers {
         place: place as u64,
         ..only(ACCEPTED)
     };
@@ -188,7 +188,7 @@ struct Seen {
 
 impl Seen {
     /// Notes a call by what the library said of it, `before` being the dispatcher before it.
-    fn note(&mut self, call: &Call, said: &Said, before: &Dispatched) -> bool {
+    fn note(&mut self, call: &Call, said: &Numbers, before: &Dispatched) -> bool {
         let held =
             |place: usize| (1..=PLACES).contains(&place) && before.places[place - 1].open == 1;
         let mut own = |place: usize, call| self.own[place - 1].push(call);

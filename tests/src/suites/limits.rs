@@ -246,7 +246,7 @@ fn shown(sea: &Sea, ceiling: Option<i64>) -> String {
 }
 
 /// A reply that changes the whole list, or nothing.
-fn said(said: planner::raw::Said, out: Option<Vec<u8>>) -> Reply {
+fn said(said: planner::raw::Reply, out: Option<Vec<u8>>) -> Reply {
     Reply {
         said,
         out: out.map(Hex),

@@ -11,7 +11,7 @@ use crate::generate;
 use crate::random::Random;
 use crate::record::Record;
 use crate::report::{Hex, Outcome, Suite, Tally};
-use planner::raw::{Said, ACCEPTED, BEST, FINISHED, GOING_ON, NO_TOUR};
+use planner::raw::{Reply as Numbers, ACCEPTED, BEST, FINISHED, GOING_ON, NO_TOUR};
 
 pub const SUITE: Suite = Suite {
     name: "records",
@@ -53,7 +53,7 @@ pub const SUITE: Suite = Suite {
 
 /// What the library says where the machine answers so.
 pub fn reply(answer: &Answer) -> Reply {
-    let counted = |number: u32, value: i64, nodes: u64| Said {
+    let counted = |number: u32, value: i64, nodes: u64| Numbers {
         value,
         nodes,
         ..only(number)

@@ -84,12 +84,12 @@ module _ (o : Opening) (rows top tour : List ℕ) (last : List ℤ) where
       -- the words of the marks of all edges
       pub left-unclosed : (w : List ℕ) (told : List ℤ) (p : Pending (left (o .graph) .m) (outcome (leftIn o)) w told) (l : List ℕ)
           → l ≡ rowsOf (spreadMarks (kept (o .graph .mark)) (o .graph .m) (p .marks))
-          → openedAs (branch (p .dues) (marksInRows (o .graph .m) l)) ≡ opens o rows top tour last
+          → openedAs (branch (p .multipliers) (marksInRows (o .graph .m) l)) ≡ opens o rows top tour last
       left-unclosed w told p l e =
-          ap (λ (x : Marks). openedAs (branch (p .dues) x))
+          ap (λ (x : Marks). openedAs (branch (p .multipliers) x))
           (ap (marksInRows (o .graph .m)) e ∙ rows-back (o .graph .m) _ few (spread-size (kept (o .graph .mark)) (o .graph .m) _ _ (p .marks)))
-          ∙ ap openedAs (branch-spread (kept (o .graph .mark)) (o .graph .m) (p .marks) (p .long) (p .dues))
-          ∙ left-opens (branch (p .dues) (p .marks)) (p .comes)
+          ∙ ap openedAs (branch-spread (kept (o .graph .mark)) (o .graph .m) (p .marks) (p .long) (p .multipliers))
+          ∙ left-opens (branch (p .multipliers) (p .marks)) (p .comes)
 
 -- the words of marks are those of the marks that they hold
 pub canonical : (m : ℕ) (y : Marks) (l : List ℕ) → m ≤ maxEdges → length y ≡ m → l ≡ rowsOf y → l ≡ rowsOf (marksInRows m l)

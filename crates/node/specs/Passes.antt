@@ -84,11 +84,11 @@ pub record FoundIn (out : M.Opened) (w : List ℕ) : Type 0 where
 -- the node is unclosed after the last pass: w has the bytes of its marks, and `last` the multipliers of that pass
 pub record Pending (m : ℕ) (out : M.Opened) (w : List ℕ) (last : List ℤ) : Type 0 where
   pub marks : Marks
-  pub dues : List ℤ
+  pub multipliers : List ℤ
   pub long : length marks ≡ m
-  pub comes : out ≡ branch dues marks
+  pub comes : out ≡ branch multipliers marks
   pub bytes : w ≡ bytesOf marks
-  pub told : last ≡ places dues
+  pub told : last ≡ places multipliers
 
 -- ---- a turn of the machine's passes
 
@@ -181,7 +181,7 @@ module _ (den : ℕ) (g : Graph) (valid : Valid g) (step : ℕ) (upper : ℤ) (o
     pub turn-last : left ≡ 0 → (last : List ℤ) → last ≡ places (fit (g .n) (pos 0) d) → Pending (g .m) out w last
     turn-last z last e = record {
       marks = r .marks;
-      dues = fit (g .n) (pos 0) d;
+      multipliers = fit (g .n) (pos 0) d;
       long = r .long;
       comes = goes-on ∙ ap (λ (i : ℕ). later (scaledBy den (network g)) step upper i (fit (g .n) (pos 0) d) (r .tree) (r .marks)) z;
       bytes = r .bytes;

@@ -81,7 +81,7 @@ fn settle<'a>(
 }
 
 // The words of the nodes once node p was opened: `rows` at its place, and where it splits `top` at its upper half's.
-fn pile<'a>(
+fn push<'a>(
     fate: Fate,
     p: usize,
     rows: &'a [u64; NODE_WORDS],
@@ -167,7 +167,7 @@ pub(crate) fn run_frame(
             &mut tour,
             &mut last,
         );
-        pile(fate, at, &rows, &top, stack);
+        push(fate, at, &rows, &top, stack);
         carry(fate, at, &last, carried);
         t = settle(m, &g.cost, t, fate, &tour, best);
         left = left - 1;

@@ -140,7 +140,8 @@ close-requires c κs = search needs
 
 returns-4 : tie.Need-returns-4
 returns-4 c =
-    let told = c .before .before .before .before .before in
+    let there = c .before .before in
+    let told = there .before .before .before in
     let o = told .before .before in
     let v = ended o ending.Shut (told .enum-told .given .1) in
     c .close .ensures ∙ left-shut (opening (begun o)) _ _ _ _ (few (listed (all o))) (v .0) (v .1)
@@ -208,7 +209,8 @@ packed k =
 
 split-requires : tie.Need-split-requires
 split-requires c κs =
-    let k = c .before .before .before .before in
+    let there = c .before .before in
+    let k = there .before .before in
     let o = opened-at k in
     let s = begun o in
     let p = pending k .1 in (
@@ -219,11 +221,12 @@ split-requires c κs =
 
 returns-6 : tie.Need-returns-6
 returns-6 c =
-    let k = c .before .before .before .before .before in
+    let there = c .before .before in
+    let k = there .before .before .before in
     let o = opened-at k in
     let s = begun o in
     let v = pending k in
-    c .split .ensures (v .1 .dues) (v .1 .told)
+    c .split .ensures (v .1 .multipliers) (v .1 .told)
     ∙ left-unclosed (opening s) _ _ _ _ (few (listed (all o))) (v .0) _ _ (v .1) _ (packed k)
 
 pub open-spec : {M : Type 1} → statement M

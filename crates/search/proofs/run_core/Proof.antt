@@ -111,7 +111,8 @@ cast-r c = fits-under _ _ 23 (omega (arith, holds-deep _ _ _ _ _ (ran (c .before
 
 returns-3 : tie.Need-returns-3
 returns-3 c =
-    let k = c .before .before .before .before in
+    let there = c .before .before in
+    let k = there .before .before in
     let b = k .before in
     rw (back64 (k .run-frame .result .upper) (holds-mag _ _ _ _ _ (ran k .holds)))
     (run-finished (given b) (typed (begin b)) (passed (at-check b)) (eq-eqb _ 1 (at-open b .if2 .left)) (begin b .args .budget)
@@ -119,7 +120,8 @@ returns-3 c =
 
 returns-4 : tie.Need-returns-4
 returns-4 c =
-    let k = c .before .before .before .before in
+    let there = c .before .before in
+    let k = there .before .before in
     let b = k .before in
     rw (back64 (k .run-frame .result .upper) (holds-mag _ _ _ _ _ (ran k .holds)))
     (run-going (given b) (typed (begin b)) (passed (at-check b)) (eq-eqb _ 1 (at-open b .if2 .left)) (begin b .args .budget)

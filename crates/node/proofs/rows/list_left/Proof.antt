@@ -39,7 +39,8 @@ loop-less c = search needs
 
 loop-again : tie.Need-loop-again Inv-loop μ-loop
 loop-again c =
-    let at = c .before .before .before .before in
+    let there = c .before .before in
+    let at = there .before .before in
     let l = at .loop in
     let a = at .before .args in
     let e : cut (a .m) (l .w) 64 ≡ cut (a .m) (l .w + 1) 0 = omega arith in

@@ -31,8 +31,9 @@ loop-less c = search needs
 
 loop-again : tie.Need-loop-again Inv-loop μ-loop
 loop-again c =
-    let l = c .before .before .before .before .loop in
-    let a = c .before .before .before .before .before .args in
+    let there = c .before .before in
+    let l = there .before .before .loop in
+    let a = there .before .before .before .args in
     let e : cut (a .m) (l .w) 64 ≡ cut (a .m) (l .w + 1) 0 = omega arith in
     let r = c .pack-word .ensures in
     (l .inv .0, omega arith, r .0 ∙ ap (rank (keptIn (a .m) (a .rows .now))) e, packed-more _ _ _ _ _ (l .inv .3) (r .1))

@@ -50,7 +50,7 @@ sub-rest c = search needs
 
 -- a turn of the loop, and where the function starts
 abbrev start : tie.In-loop Inv-loop μ-loop → tie.Start Inv-loop μ-loop
-start c = c .before .before .before .before
+start c = let there = c .before .before in there .before .before
 
 some : (c : tie.In-loop Inv-loop μ-loop) → c .before .loop .x ≢ 0
 some c = omega arith
@@ -131,7 +131,8 @@ element-write-r-2 c = search needs
 returns : tie.Need-returns Inv-loop μ-loop
 returns c =
     let l = c .before .loop in
-    let a = c .before .before .before .before .args in
+    let there = c .before .before in
+    let a = there .before .before .args in
     let e : l .x ≡ 0 = omega arith in (
       walk-last _ _ _ _ (l .inv .3) _ _ (l .inv .4 .0) e,
       packed-set _ _ _ _ _ _ (l .inv .2) (l .inv .1)

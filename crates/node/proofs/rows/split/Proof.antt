@@ -17,7 +17,8 @@ close-requires c κs = search needs
 
 returns : tie.Need-returns
 returns c =
-    let none = c .before .before .before .before .before in
+    let there = c .before .before in
+    let none = there .before .before .before in
     let free = none .before in
     let s = free .before .before in
     λ d e. c .close .ensures ∙ sym (branch-closes _ _ (s .pre .0) _ (free .first-free .ensures) d (none .if1 .taken))

@@ -39,7 +39,8 @@ loop-less c = search needs
 loop-again : tie.Need-loop-again Inv-loop μ-loop
 loop-again c =
     let l = c .before .before .before .loop in
-    let rows = c .before .before .before .before .args .rows .now in (
+    let there = c .before .before in
+    let rows = there .before .before .args .rows .now in (
       omega arith,
       omega (arith, l .inv .1, c .set-bits .ensures .0, ones-more rows (l .i)),
       omega (arith, l .inv .2, c .set-bits .ensures .1),

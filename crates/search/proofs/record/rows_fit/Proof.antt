@@ -39,7 +39,8 @@ element-copy-out-y c = omega arith
 
 returns : tie.Need-returns Inv-loop μ-loop
 returns c =
-    let at-loop = c .before .before .before .before in
+    let there = c .before .before in
+    let at-loop = there .before .before in
     λ w. c .if1 .taken (w (at-loop .loop .i) (omega arith) .0)
 
 edges-from-requires : tie.Need-edges-from-requires Inv-loop μ-loop
@@ -53,7 +54,7 @@ abbrev at-from : tie.After-clear-from Inv-loop μ-loop → tie.After-edges-from 
 at-from c = c .before
 
 abbrev turn : tie.After-edges-from Inv-loop μ-loop → tie.At-loop Inv-loop μ-loop
-turn c = c .before .before .before .before .before
+turn c = let there = c .before .before in there .before .before .before
 
 -- what the test of a word says, of the bits that the word has for edges
 told : (c : tie.After-edges-from Inv-loop μ-loop) (b : Bool) (x : ℕ) → Says b (x < 2 ^ c .edges-from .result)

@@ -22,7 +22,7 @@ returns : tie.Need-returns
 returns c = sym (check-no (c .before .before .args .s) (λ h. omega (arith, h .flags .«open», c .if1 .taken)))
 
 returns-2 : tie.Need-returns-2
-returns-2 c = sym (check-no (c .before .before .before .before .args .s) (λ h. omega (arith, h .flags .best, c .if2 .taken)))
+returns-2 c = let there = c .before .before in sym (check-no (there .before .before .args .s) (λ h. omega (arith, h .flags .best, c .if2 .taken)))
 
 -- where m is taken out of the graph, where the flags are known, and the record
 abbrev at-flags : tie.After-wide → tie.Else2
@@ -64,7 +64,7 @@ stack-zeros-requires c κs = search needs
 
 -- where the fields are known to be tidy
 abbrev at-fields : tie.After-stack-zeros → tie.Else3
-at-fields c = c .before .before .before .before
+at-fields c = let there = c .before .before in there .before .before
 
 abbrev at-wide : tie.Else3 → tie.After-wide
 at-wide c = c .before .before .before

@@ -144,7 +144,8 @@ came c =
 -- where the node's multipliers are read, and its marks, from where it is opened
 abbrev numbers : tie.After-open Inv-loop μ-loop → tie.After-get-carried Inv-loop μ-loop
 numbers c =
-    let arguments = c .before .before .before .before in
+    let there = c .before .before in
+    let arguments = there .before .before in
     let ends = arguments .before .before .before in
     ends .before .before .before
 
@@ -219,21 +220,21 @@ opens c q r =
     }
 
 -- there is room for the node's halves
-pile-requires : tie.Need-pile-requires Inv-loop μ-loop
-pile-requires c κs =
+push-requires : tie.Need-push-requires Inv-loop μ-loop
+push-requires c κs =
     let o = c .before .before .before in
     let k = held (turn-of (read o)) in
     let t = opens o (k .0) (k .1) in
     (top-high _ _ _ _ _ _ t, holds-size _ _ _ _ _ (k .1 .holds), split-room _ _ _ _ _ _ t)
 
 -- where the node is opened, from where its halves' words are stored
-abbrev before-pile : tie.After-pile Inv-loop μ-loop → tie.After-open Inv-loop μ-loop
-before-pile c = c .before .before .before .before
+abbrev before-push : tie.After-push Inv-loop μ-loop → tie.After-open Inv-loop μ-loop
+before-push c = let there = c .before .before in there .before .before
 
 -- and for what they carry
 carry-requires : tie.Need-carry-requires Inv-loop μ-loop
 carry-requires c κs =
-    let o = before-pile (c .before .before) in
+    let o = before-push (c .before .before) in
     let k = held (turn-of (read o)) in
     let t = opens o (k .0) (k .1) in (
       top-high _ _ _ _ _ _ t,
@@ -242,12 +243,13 @@ carry-requires c κs =
     )
 
 -- where the words are stored, from where the multipliers are
-abbrev piled : tie.After-carry Inv-loop μ-loop → tie.After-pile Inv-loop μ-loop
-piled c = c .before .before .before
+abbrev pushed : tie.After-carry Inv-loop μ-loop → tie.After-push Inv-loop μ-loop
+pushed c = c .before .before .before
 
 settle-requires : tie.Need-settle-requires Inv-loop μ-loop
 settle-requires c κs =
-    let o = before-pile (piled (c .before .before .before .before)) in
+    let there = c .before .before in
+    let o = before-push (pushed (there .before .before)) in
     let at = turn-of (read o) in
     let k = held at in
     (at .loop .stack, came o .rows, came o .top, came o .last, opens o (k .0) (k .1))
@@ -263,7 +265,7 @@ carried c =
     lent .before .before
 
 abbrev opening : tie.After-settle Inv-loop μ-loop → tie.After-open Inv-loop μ-loop
-opening c = before-pile (piled (carried c))
+opening c = before-push (pushed (carried c))
 
 sub-left : tie.Need-sub-left Inv-loop μ-loop
 sub-left c = omega (arith, left (waits (going (read (opening c)))))
@@ -281,7 +283,7 @@ loop-again c =
     run-turn _ _ _ _ _ _ _ _ (l .inv q r) (l .left - 1) (omega (arith, left (waits e))) (deep e) (omega (arith, e .if2 .left)) _ _ _ _
     (λ p h.
     let s = opens o p h in
-    runs-next _ _ _ _ _ _ _ h (s .top) _ _ _ _ (c .settle .ensures _ _ _ _ _ s (piled (carried c) .pile .ensures))
+    runs-next _ _ _ _ _ _ _ h (s .top) _ _ _ _ (c .settle .ensures _ _ _ _ _ s (pushed (carried c) .push .ensures))
     (next-carried _ _ _ _ _ _ s _ _ (h .carried) (carried c .carry .ensures)))
 
 returns-3 : tie.Need-returns-3 Inv-loop μ-loop
@@ -302,7 +304,7 @@ run-frame-spec =
     get-requires
     get-carried-requires
     open-requires
-    pile-requires
+    push-requires
     carry-requires
     settle-requires
     sub-left

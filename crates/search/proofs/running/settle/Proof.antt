@@ -34,7 +34,7 @@ enum-told c = search needs
 -- the machine's opening of a node refuses nothing
 returns : tie.Need-returns
 returns c =
-    λ l l′ y u d t piled.
+    λ l l′ y u d t pushed.
     absurd (never-refused (openNode (t .search .opening) (t .search .upper) (t .top .node)) _
     (sym (ap (λ (o : Opened). o .fate) (t .is)) ∙ c .enum-told .given .1))
 
@@ -68,26 +68,26 @@ returns-2 : tie.Need-returns-2
 returns-2 c =
     let told = c .before in
     let is = told .enum-told2 .given .1 in
-    λ l l′ y u d t piled.
+    λ l l′ y u d t pushed.
     rw (back64 (closing told .args .f .upper) (holds-mag _ _ _ _ _ (t .holds)))
-    (next-closes _ _ _ _ _ _ t l′ is (by-fate _ _ is _ y u l l′ piled))
+    (next-closes _ _ _ _ _ _ t l′ is (by-fate _ _ is _ y u l l′ pushed))
 
 returns-3 : tie.Need-returns-3
 returns-3 c =
     let k = c .keep in
     let told = c .before .before in
     let is = told .enum-told3 .given .1 in
-    λ l l′ y u d t piled.
+    λ l l′ y u d t pushed.
     let kept = k .ensures (t .graph) (holds-valid _ _ _ _ _ (t .holds)) (t .many) (t .costs-are) in
     rw (back64 (k .result) (k .ok))
-    (next-finds _ _ _ _ _ _ t l′ _ _ is (kept .0) (kept .1) (by-fate _ _ is _ y u l l′ piled))
+    (next-finds _ _ _ _ _ _ t l′ _ _ is (kept .0) (kept .1) (by-fate _ _ is _ y u l l′ pushed))
 
 returns-4 : tie.Need-returns-4
 returns-4 c =
     let told = c .before in
     let is = told .enum-told4 .given .1 in
-    λ l l′ y u d t piled.
-    let puts = by-fate _ _ is _ y u l l′ piled in
+    λ l l′ y u d t pushed.
+    let puts = by-fate _ _ is _ y u l l′ pushed in
     rw (back64 (splitting told .args .f .upper) (holds-mag _ _ _ _ _ (t .holds)))
     (next-splits _ _ _ _ _ _ t (puts .0) l′ is (puts .1) (puts .2))
 

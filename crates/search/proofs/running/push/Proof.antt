@@ -6,8 +6,8 @@ use native.Mathlib.Omega.{arith}
 use borrow.Author.Needs.{needs}
 use Rattle.node.specs.declared.Fate.{Fate}
 use Rattle.search.specs.Runs.Frames.{PiledBy}
-use Rattle.search.proofs.running.pile.Statement.{statement}
-use Rattle.search.proofs.running.pile.Tie as tie
+use Rattle.search.proofs.running.push.Statement.{statement}
+use Rattle.search.proofs.running.push.Tie as tie
 
 put-requires : tie.Need-put-requires
 put-requires c κs = let s = c .before in (s .pre .0, s .pre .1)
@@ -65,8 +65,8 @@ returns-4 c =
     let put = written told in
     by-fate _ _ (told .enum-told4 .given .1) _ _ _ _ _ (_, put .put .ensures, c .put2 .ensures)
 
-pub pile-spec : {M : Type 1} → statement M
-pile-spec =
+pub push-spec : {M : Type 1} → statement M
+push-spec =
     tie.close
     (tie.spec
     put-requires

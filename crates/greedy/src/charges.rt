@@ -56,7 +56,7 @@ fn multiplier_at(d: &[i32], v: u8) -> i32
 }
 
 // Every edge's charge, into c.
-pub(crate) fn charges<'a>(
+fn charge_each<'a>(
     a: &'a [u8; MAX_EDGES],
     b: &'a [u8; MAX_EDGES],
     cost: &'a [i32; MAX_EDGES],
@@ -76,6 +76,29 @@ pub(crate) fn charges<'a>(
         c[k] = charge(q, cost[k], multiplier_at(d, a[k]), multiplier_at(d, b[k]));
         k = k + 1;
     }
+}
+
+// The same. Multipliers mostly count in minutes: with the number 1 itself the compiler leaves the product out.
+pub(crate) fn charges<'a>(
+    a: &'a [u8; MAX_EDGES],
+    b: &'a [u8; MAX_EDGES],
+    cost: &'a [i32; MAX_EDGES],
+    m: usize,
+    q: u64,
+    d: &'a [i32],
+    c: &mut [u64; MAX_EDGES],
+)
+    requires { ⌜ Ranged (now d) × (m ≤ maxEdges)
+        × ((k : ℕ) → k < m → Chargeable (length (now d)) (getD (now a) k 0) (getD (now b) k 0) (getD (now cost) k (pos 0)))
+        × (length (now c) ≡ maxEdges) × (q ≤ maxDenominator) ⌝ }
+    ensures { λ _. ⌜ ChargesOf q (now (a .entry)) (now (b .entry)) (now (cost .entry)) (now (d .entry)) (now (c .exit)) m
+        × ((k : ℕ) → m ≤ k → getD (now (c .exit)) k 0 ≡ getD (now (c .entry)) k 0) × (length (now (c .exit)) ≡ maxEdges) ⌝ }
+{
+    if q == 1 {
+        charge_each(a, b, cost, m, 1, d, c);
+        return;
+    }
+    charge_each(a, b, cost, m, q, d, c);
 }
 
 // The sum of the multipliers, each moved up by its limit.

@@ -21,6 +21,7 @@ use Rattle.tree_theory.specs.OneTree.{OneTree, bound, Barred, Forced}
 use Rattle.tree_theory.specs.Enumeration.{ruling}
 use Rattle.tree_theory.specs.Rulings.{rules-out, rules-in, rules-nothing}
 use Rattle.tree_theory.specs.Optimal.Criteria.{MaySwap}
+use Rattle.tree_theory.specs.Optimal.Exchange.{least-minimal}
 use Rattle.tree_theory.specs.Scaled.{scaledBy}
 use Rattle.tree_theory.specs.Scaling.{valid-scaled, tree-scaled, swap-scaled}
 use Rattle.tree_theory.specs.Inputs.{multiplier}
@@ -95,13 +96,14 @@ module _ (den : ℕ) (g : Graph) (v : value.Valid g) (w c rep : List ℕ) (r : R
     barred : Barred (scaledBy den (network g)) (multiplier d) z (suc k) ↔ ((e : ℕ) → e ∈ upTo (g .m) → bytes w e ≡ true
         → MaySwap (scaledBy den (network g)) (bytes w) e (suc k) → slack + entry c e < entry c (suc k))
     unfolding network
-    barred = barred-slack (scaledBy den (network g)) (valid-scaled den (network g) (network-valid g v)) (multiplier d) offset (entry c) (offs den g d c (j .charged)) (bytes w) (j .least)
+    barred = barred-slack (scaledBy den (network g)) (valid-scaled den (network g) (network-valid g v)) (multiplier d) offset (entry c) (offs den g d c (j .charged)) (bytes w)
+        (least-minimal (j .least))
         z slack (j .within) (suc k) mk (out wk)
 
     not-forced : ¬ Forced (scaledBy den (network g)) (multiplier d) z (suc k)
     unfolding network
     not-forced = not-forced-out (scaledBy den (network g)) (valid-scaled den (network g) (network-valid g v)) (multiplier d) offset (entry c) (offs den g d c (j .charged)) (bytes w)
-        (j .least)
+        (least-minimal (j .least))
         z slack (j .within) (suc k) mk (out wk)
 
     -- OUTSIDE THE TREE
@@ -158,13 +160,14 @@ module _ (den : ℕ) (g : Graph) (v : value.Valid g) (w c rep : List ℕ) (r : R
     forced : Forced (scaledBy den (network g)) (multiplier d) z (suc k) ↔ ((e : ℕ) → e ∈ upTo (g .m) → bytes w e ≡ false
         → MaySwap (scaledBy den (network g)) (bytes w) (suc k) e → slack + entry c (suc k) < entry c e)
     unfolding network
-    forced = forced-slack (scaledBy den (network g)) (valid-scaled den (network g) (network-valid g v)) (multiplier d) offset (entry c) (offs den g d c (j .charged)) (bytes w) (j .least)
+    forced = forced-slack (scaledBy den (network g)) (valid-scaled den (network g) (network-valid g v)) (multiplier d) offset (entry c) (offs den g d c (j .charged)) (bytes w)
+        (least-minimal (j .least))
         z slack (j .within) (suc k) mk in-tree
 
     not-barred : ¬ Barred (scaledBy den (network g)) (multiplier d) z (suc k)
     unfolding network
     not-barred = not-barred-in (scaledBy den (network g)) (valid-scaled den (network g) (network-valid g v)) (multiplier d) offset (entry c) (offs den g d c (j .charged)) (bytes w)
-        (j .least)
+        (least-minimal (j .least))
         z slack (j .within) (suc k) mk in-tree
 
     -- IN THE TREE

@@ -13,18 +13,18 @@ use Rattle.lists.specs.Numbers.{upTo}
 use Rattle.lists.specs.Weights.{weight}
 use Rattle.integers.specs.Parts.{IsDiff, up, dn, diff-self, lt-parts}
 use Rattle.graph.specs.Network.{Network}
-use Rattle.tree_theory.specs.OneTree.{Edges, Least, bound, Barred, Forced}
+use Rattle.tree_theory.specs.OneTree.{Edges, bound, Barred, Forced}
 use Rattle.tree_theory.specs.Valid.{Valid}
 use Rattle.tree_theory.specs.Optimal.Link.{to-parts}
 use Rattle.tree_theory.specs.Optimal.Bound.{Shifted, twiceAll, bound-diff}
-use Rattle.tree_theory.specs.Optimal.Exchange.{barred-in, forced-out}
+use Rattle.tree_theory.specs.Optimal.Exchange.{Minimal, barred-in, forced-out}
 use Rattle.tree_theory.specs.Optimal.Criteria.{MaySwap, SwapAbove, barred-number, forced-number}
 
 -- the ceiling is the slack above the bound
 abbrev pub SlackIs : ℤ → ℤ → ℕ → Type 0
 SlackIs ceiling b slack = (up ceiling + dn b ≡ slack + up b + dn ceiling)
 
-module _ (g : Network) (vg : Valid g) (d : ℕ → ℤ) (K : ℕ) (c : ℕ → ℕ) (off : Shifted g d K c) (s : Edges) (least : Least g d s) (z : ℤ)
+module _ (g : Network) (vg : Valid g) (d : ℕ → ℤ) (K : ℕ) (c : ℕ → ℕ) (off : Shifted g d K c) (s : Edges) (least : Minimal g d s) (z : ℤ)
     (slack : ℕ) (within : SlackIs z (bound g d s) slack) (e : ℕ) (me : e ∈ upTo (g .m)) where
   level : IsDiff (bound g d s) (weight c (select s (upTo (g .m))) + dn (twiceAll g d)) (K * g .n + up (twiceAll g d))
   level = bound-diff g d K c off s (to-parts g vg s (least .tree))
@@ -46,7 +46,7 @@ module _ (g : Network) (vg : Valid g) (d : ℕ → ℤ) (K : ℕ) (c : ℕ → �
   not-over : z <ℤ bound g d s → ⊥
   not-over l = omega (arith, lt-parts z (bound g d s) l)
 
-  -- the least 1-tree itself is within the ceiling: so no edge of it is barred, and none outside it is forced
+  -- the minimal 1-tree itself is within the ceiling: so no edge of it is barred, and none outside it is forced
   pub not-barred-in : s e ≡ true → ¬ Barred g d z e
   not-barred-in i b = not-over (barred-in g vg d K c off s least z e i .0 b)
 

@@ -1,5 +1,5 @@
 -- What a program compares. Which swaps of a 1-tree are 1-trees is told by labels; and bars and forces are told by sums of natural
--- numbers, over these swaps of the least 1-tree alone.
+-- numbers, over these swaps of a minimal 1-tree alone.
 use mathlib.Core.Path.{_≡_, refl, sym, ap, _∙_}
 use mathlib.Core.Logic.{_≢_, _↔_, _⊎_, inl, inr}
 use mathlib.Core.Bool.{Bool, true, false, true≢false}
@@ -20,11 +20,11 @@ use Rattle.graph.specs.Network.{Network}
 use Rattle.spanning.specs.Walks.{label}
 use Rattle.spanning.specs.Forests.{forest-joins}
 use Rattle.spanning.specs.Trees.{swap-tree, forest-plus}
-use Rattle.tree_theory.specs.OneTree.{Edges, OneTree, Least, bound, Barred, Forced}
+use Rattle.tree_theory.specs.OneTree.{Edges, OneTree, bound, Barred, Forced}
 use Rattle.tree_theory.specs.Valid.{Valid, isExcluded, needed, isNear, near, far, distinct-near, distinct-far, near-in, in-near, in-far}
 use Rattle.tree_theory.specs.Optimal.Link.{Parts, to-parts, of-parts, in-allowed, out-loose}
 use Rattle.tree_theory.specs.Optimal.Bound.{Shifted, twiceAll, bound-above}
-use Rattle.tree_theory.specs.Optimal.Exchange.{swap-far, swap-near, barred-iff, forced-iff}
+use Rattle.tree_theory.specs.Optimal.Exchange.{Minimal, swap-far, swap-near, barred-iff, forced-iff}
 
 -- ---- which swaps are 1-trees
 
@@ -117,8 +117,8 @@ module _ (g : Network) (d : ℕ → ℤ) (K : ℕ) (c : ℕ → ℕ) (off : Shif
       let w = swapped-weight (upTo (g .m)) (distinct-upTo (g .m)) s a b ma mb sa sb c in
       ((λ l. omega (arith, w, i .0 l)), λ l. i .1 (omega (arith, w)))
 
--- s is the least 1-tree
-module _ (g : Network) (vg : Valid g) (d : ℕ → ℤ) (K : ℕ) (c : ℕ → ℕ) (off : Shifted g d K c) (s : Edges) (least : Least g d s)
+-- s is a minimal 1-tree
+module _ (g : Network) (vg : Valid g) (d : ℕ → ℤ) (K : ℕ) (c : ℕ → ℕ) (off : Shifted g d K c) (s : Edges) (least : Minimal g d s)
     (z : ℤ) (u v : ℕ) (ceiling : IsDiff z u v) where
   -- a swap is above the ceiling as a 1-tree exactly when it is in numbers
   one-swap : (a b : ℕ) → a ∈ upTo (g .m) → b ∈ upTo (g .m) → s a ≡ true → s b ≡ false

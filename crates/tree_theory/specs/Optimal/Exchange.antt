@@ -1,6 +1,6 @@
 -- One swap suffices. Of two 1-trees, one with an edge and one without, an edge of the other may change places with it, and both stay
--- 1-trees. So an edge outside the least 1-tree is barred exactly when every swap that brings it in is above the ceiling, and an edge of
--- it is forced exactly when every swap that takes it out is.
+-- 1-trees. So an edge outside a minimal 1-tree is barred exactly when every swap that brings it in is above the ceiling, and an edge of
+-- it is forced exactly when every swap that takes it out is. Which of several minimal 1-trees it is does not matter.
 use mathlib.Core.Path.{_≡_, sym, ap, _∙_}
 use mathlib.Core.Logic.{_↔_}
 use mathlib.Core.Bool.{true, false, true≢false}
@@ -117,13 +117,21 @@ module _ (g : Network) (s t : Edges) (os : Parts g s) (ot : Parts g t) (e : ℕ)
   pub exchanged : Exchanged g s t e
   exchanged = by-cases (isNear g e) exchanged-near exchanged-far
 
--- ---- one swap of the least 1-tree suffices
+-- ---- one swap of a minimal 1-tree suffices
+
+-- none has a smaller bound; the least 1-tree is one such, and the first
+pub record Minimal (g : Network) (d : ℕ → ℤ) (t : Edges) : Type 0 where
+  pub tree : OneTree g t
+  pub least : (s : Edges) → OneTree g s → bound g d t ≤ℤ bound g d s
+
+pub least-minimal : {g : Network} {d : ℕ → ℤ} {t : Edges} → Least g d t → Minimal g d t
+least-minimal l = record { tree = l .tree; least = l .least }
 
 -- r is a 1-tree, and its bound no greater than t's
 abbrev NoWorse : Network → (ℕ → ℤ) → Edges → Edges → Type 0
 NoWorse g d r t = OneTree g r × (bound g d r ≤ℤ bound g d t)
 
-module _ (g : Network) (vg : Valid g) (d : ℕ → ℤ) (K : ℕ) (c : ℕ → ℕ) (off : Shifted g d K c) (s : Edges) (least : Least g d s) where
+module _ (g : Network) (vg : Valid g) (d : ℕ → ℤ) (K : ℕ) (c : ℕ → ℕ) (off : Shifted g d K c) (s : Edges) (least : Minimal g d s) where
   os : Parts g s
   os = to-parts g vg s (least .tree)
 
@@ -157,7 +165,7 @@ module _ (g : Network) (vg : Valid g) (d : ℕ → ℤ) (K : ℕ) (c : ℕ → �
       let x : Exchanged g t s e = exchanged g t s ot os e me te se in
       (x .f, x .listed, x .other, no-worse t ot e (x .f) me (x .listed) se (x .other) (x .mine) te (x .one′) (x .one))
 
-  -- BARRED, outside the least 1-tree: no swap that brings the edge in stays within the ceiling
+  -- BARRED, outside the minimal 1-tree: no swap that brings the edge in stays within the ceiling
   pub barred-iff : (ceiling : ℤ) (e : ℕ) → e ∈ upTo (g .m) → s e ≡ false
       → Barred g d ceiling e
       ↔ ((f : ℕ) → f ∈ upTo (g .m) → s f ≡ true → OneTree g (s ⊖ f ⊕ e) → ceiling <ℤ bound g d (s ⊖ f ⊕ e))
@@ -167,7 +175,7 @@ module _ (g : Network) (vg : Valid g) (d : ℕ → ℤ) (K : ℕ) (c : ℕ → �
     λ h t o te. let r = with-edge e me se t o te in <ℤ-≤ℤ-trans (h (r .0) (r .1) (r .2) (r .3 .0)) (r .3 .1),
   )
 
-  -- FORCED, in the least 1-tree: no swap that takes the edge out stays within the ceiling
+  -- FORCED, in the minimal 1-tree: no swap that takes the edge out stays within the ceiling
   pub forced-iff : (ceiling : ℤ) (e : ℕ) → e ∈ upTo (g .m) → s e ≡ true
       → Forced g d ceiling e
       ↔ ((f : ℕ) → f ∈ upTo (g .m) → s f ≡ false → OneTree g (s ⊖ e ⊕ f) → ceiling <ℤ bound g d (s ⊖ e ⊕ f))
@@ -177,7 +185,7 @@ module _ (g : Network) (vg : Valid g) (d : ℕ → ℤ) (K : ℕ) (c : ℕ → �
     λ h t o te. let r = without-edge e me se t o te in <ℤ-≤ℤ-trans (h (r .0) (r .1) (r .2) (r .3 .0)) (r .3 .1),
   )
 
-  -- an edge of the least 1-tree is barred, and one outside it forced, exactly when the ceiling is below the least bound
+  -- an edge of the minimal 1-tree is barred, and one outside it forced, exactly when the ceiling is below the least bound
   pub barred-in : (ceiling : ℤ) (e : ℕ) → s e ≡ true → Barred g d ceiling e ↔ (ceiling <ℤ bound g d s)
   unfolding Barred
   barred-in ceiling e se = ((λ b. b s (least .tree) se), λ h t o te. <ℤ-≤ℤ-trans h (least .least t o))

@@ -1,0 +1,1 @@
+// This crate has definitions and laws and no code: see specs/.

@@ -14,7 +14,7 @@ use Rattle.compaction.specs.Ranks.{rank, nth, nth-in, down}
 use Rattle.compaction.specs.Thinned.{thin, spread, RestExcluded, tree-only, tree-down, bound-thin, spread-down, spread-tree, spread-bound}
 
 -- tests that pass alike are one
-same-test : (x y : Bool) → (x ≡ true → y ≡ true) → (y ≡ true → x ≡ true) → x ≡ y
+pub same-test : (x y : Bool) → (x ≡ true → y ≡ true) → (y ≡ true → x ≡ true) → x ≡ y
 same-test true y h k = sym (h refl)
 same-test false true h k = k refl
 same-test false false h k = refl

@@ -7,7 +7,7 @@ use mathlib.Core.List.{List, [], _∷_, map}
 use Prim.Native.Nat.{ℕ, _≤_}
 use native.Mathlib.Omega.{arith}
 use native.Mathlib.Decide.{decLe}
-use lib.ListN.{length-map}
+use lib.ListN.{length, length-map}
 use lib.IntN.{ℤ}
 use Rattle.lists.specs.Bools.{by-cases}
 use Rattle.lists.specs.Members.{_∈_, in-map, of-map}
@@ -34,7 +34,7 @@ listed? m k = go (decLe 1 k) (decLe k m)
     go (no i) j = no (λ h. i (in-upTo m k h .0))
     go (yes i) (no j) = no (λ h. j (in-upTo m k h .1))
 
-distinct-map : (f : ℕ → ℕ) (xs : List ℕ) → ((x y : ℕ) → x ∈ xs → y ∈ xs → f x ≡ f y → x ≡ y) → Distinct xs → Distinct (map f xs)
+pub distinct-map : (f : ℕ → ℕ) (xs : List ℕ) → ((x y : ℕ) → x ∈ xs → y ∈ xs → f x ≡ f y → x ≡ y) → Distinct xs → Distinct (map f xs)
 distinct-map f [] inj d = tt
 distinct-map f (x ∷ xs) inj d = ((λ i. go (of-map f (f x) xs i)), distinct-map f xs (λ y z i j. inj y z (inr i) (inr j)) (d .1))
   where
@@ -128,7 +128,11 @@ module _ (g h : Network) (o : OneNetwork g h) (simple : Simple g) where
         place : (j : ℕ) → (k : ℕ) × (k ∈ upTo (g .m)) × (t k ≡ true) × (j ≡ number k) → j ∈ upTo (h .m)
         place j r = rw (r .3) (right (r .0) (r .1) .0)
 
-    cost-same : cost h renumbered ≡ cost g t
+    pub size-same : length (select renumbered (upTo (h .m))) ≡ length (select t (upTo (g .m)))
+    unfolding taken
+    size-same = edges .size ∙ length-map taken number
+
+    pub cost-same : cost h renumbered ≡ cost g t
     unfolding cost taken
     cost-same =
         edges .sum (h .cost)
@@ -147,14 +151,14 @@ module _ (g h : Network) (o : OneNetwork g h) (simple : Simple g) where
       ends = ends-same (j .edge) u v (j .listed) (j .ends);
     }
 
-    trip-same : (u : ℕ) (vs : List ℕ) (w : ℕ) → Trip g t u vs w → Trip h renumbered u vs w
+    pub trip-same : (u : ℕ) (vs : List ℕ) (w : ℕ) → Trip g t u vs w → Trip h renumbered u vs w
     trip-same u [] w j = joined-same u w j
     trip-same u (v ∷ vs) w j = (joined-same u v (j .0), trip-same v vs w (j .1))
 
     tour-same : Tour g t → Tour h renumbered
     unfolding taken
     tour-same q = record {
-      number = edges .size ∙ length-map taken number ∙ q .number ∙ sym (o .n);
+      number = size-same ∙ q .number ∙ sym (o .n);
       order = q .order;
       once = q .once;
       calls = λ v. ((λ i. there v (q .calls v .0 i)), λ i. q .calls v .1 (back-to v i));
@@ -167,7 +171,7 @@ module _ (g h : Network) (o : OneNetwork g h) (simple : Simple g) where
         back-to : (v : ℕ) → v ∈ others h → v ∈ others g
         back-to v i = let r = others-in h v i in in-others g v (r .0) (omega (arith, r .1, o .n))
 
-    allowed-same : Allowed g t → Allowed h renumbered
+    pub allowed-same : Allowed g t → Allowed h renumbered
     unfolding renumbered
     allowed-same al = record { keeps = λ j i e. keep j e (back j i); avoids = λ j i e. avoid j e }
       where

@@ -69,7 +69,7 @@ module _ (g : Network) (t : Edges) where
   is-joined u v j =
       in-someOf (λ k. t k && isEnds u v k) (upTo (g .m)) (j .edge) (j .listed) (rw (j .taken) (is-ends (j .edge) u v (j .ends)))
 
-  trip-is : (u : ℕ) (vs : List ℕ) (w : ℕ) → isTrip g t u vs w ≡ true → Trip g t u vs w
+  pub trip-is : (u : ℕ) (vs : List ℕ) (w : ℕ) → isTrip g t u vs w ≡ true → Trip g t u vs w
   unfolding isTrip
   trip-is u [] w h = joined-is u w h
   trip-is u (v ∷ vs) w h = go (isJoined g t u v) refl h (trip-is v vs w)
@@ -79,7 +79,7 @@ module _ (g : Network) (t : Edges) where
       go true e i below = (joined-is u v e, below i)
       go false e i below = absurd (false≢true i)
 
-  is-trip : (u : ℕ) (vs : List ℕ) (w : ℕ) → Trip g t u vs w → isTrip g t u vs w ≡ true
+  pub is-trip : (u : ℕ) (vs : List ℕ) (w : ℕ) → Trip g t u vs w → isTrip g t u vs w ≡ true
   unfolding isTrip
   is-trip u [] w j = is-joined u w j
   is-trip u (v ∷ vs) w j = rw (is-joined u v (j .0), isTrip) (is-trip v vs w (j .1))

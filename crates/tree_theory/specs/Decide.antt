@@ -24,17 +24,17 @@ use Rattle.tree_theory.specs.Subsets.{covers}
 
 -- ---- the test for a 1-tree
 
-marked-is : (x : Mark) (b : Bool) → marked x b ≡ true → (x ≡ required → b ≡ true) × (x ≡ excluded → b ≡ false)
+pub marked-is : (x : Mark) (b : Bool) → marked x b ≡ true → (x ≡ required → b ≡ true) × (x ≡ excluded → b ≡ false)
 marked-is free b h = ((λ e. cc), λ e. cc)
 marked-is required b h = ((λ e. h), λ e. cc)
 marked-is excluded b h = ((λ e. cc), λ e. not-true b h)
 
-is-marked : (x : Mark) (b : Bool) → (x ≡ required → b ≡ true) → (x ≡ excluded → b ≡ false) → marked x b ≡ true
+pub is-marked : (x : Mark) (b : Bool) → (x ≡ required → b ≡ true) → (x ≡ excluded → b ≡ false) → marked x b ≡ true
 is-marked free b h k = refl
 is-marked required b h k = h refl
 is-marked excluded b h k = ap not (k refl)
 
-alike-same : (L : ℕ → ℕ) (vs : List ℕ) → alike L vs ≡ true → (u v : ℕ) → u ∈ vs → v ∈ vs → L u ≡ L v
+pub alike-same : (L : ℕ → ℕ) (vs : List ℕ) → alike L vs ≡ true → (u v : ℕ) → u ∈ vs → v ∈ vs → L u ≡ L v
 unfolding alike
 alike-same L [] h u v i j = absurd i
 alike-same L (w ∷ vs) h u v i j = to u i ∙ sym (to v j)
@@ -43,7 +43,7 @@ alike-same L (w ∷ vs) h u v i j = to u i ∙ sym (to v j)
     to x (inl e) = ap L e
     to x (inr m) = eqb-true (L x) (L w) (everyOf-in (λ y. eqb (L y) (L w)) vs h x m)
 
-same-alike : (L : ℕ → ℕ) (vs : List ℕ) → ((u v : ℕ) → u ∈ vs → v ∈ vs → L u ≡ L v) → alike L vs ≡ true
+pub same-alike : (L : ℕ → ℕ) (vs : List ℕ) → ((u v : ℕ) → u ∈ vs → v ∈ vs → L u ≡ L v) → alike L vs ≡ true
 unfolding alike
 same-alike L [] h = refl
 same-alike L (w ∷ vs) h = in-everyOf (λ y. eqb (L y) (L w)) vs (λ u m. eq-eqb (L u) (L w) (h u w (inr m) (inl refl)))

@@ -87,7 +87,7 @@ class Refused(Exception):
 # The library's structs, as include/planner.h has them
 
 
-class CSaid(ctypes.Structure):
+class CReply(ctypes.Structure):
     _fields_ = [("number", c_uint32), ("place", c_uint64), ("value", c_int64), ("nodes", c_uint64)]
 
 
@@ -138,39 +138,39 @@ class CDispatcher(ctypes.Structure):
     _fields_ = [("last", c_size_t), ("places", CSearch * PLACES)]
 
 
-Reply = TypeVar("Reply", CSaid, CSailed)
+Reply = TypeVar("Reply", CReply, CSailed)
 
-for struct, size in ((CSaid, 32), (CGraph, 1_332), (CSettings, 24), (CSailed, 32), (CTerms, 24), (CSearch, 4_464)):
+for struct, size in ((CReply, 32), (CGraph, 1_332), (CSettings, 24), (CSailed, 32), (CTerms, 24), (CSearch, 4_464)):
     assert ctypes.sizeof(struct) == size, f"{struct.__name__} is not as the library has it"
 
 _BYTES, _RECORD, _SHELF, _DISPATCHER = POINTER(c_uint8), POINTER(CSearch), POINTER(CShelf), POINTER(CDispatcher)
 _DUES = (POINTER(c_int32), c_size_t)
 _PAIR = (POINTER(c_uint32), c_size_t)
 _CALLS = {
-    "planner_check": (CSaid, (CGraph,)),
-    "planner_read": (CSaid, (POINTER(CGraph), _BYTES, c_size_t)),
-    "planner_write": (CSaid, (CGraph, _BYTES, c_size_t)),
-    "planner_tree": (CSaid, (CGraph, *_DUES, c_uint64, _BYTES, c_size_t)),
-    "planner_preview": (CSaid, (CGraph, *_DUES, c_uint64, c_size_t, c_uint32, _BYTES, c_size_t)),
-    "planner_rule": (CSaid, (CGraph, *_DUES, c_int64, c_uint64, _BYTES, c_size_t)),
-    "planner_recent": (CSaid, (POINTER(CGraph), c_size_t, POINTER(c_size_t), c_size_t, POINTER(c_int32), c_size_t)),
+    "planner_check": (CReply, (CGraph,)),
+    "planner_read": (CReply, (POINTER(CGraph), _BYTES, c_size_t)),
+    "planner_write": (CReply, (CGraph, _BYTES, c_size_t)),
+    "planner_tree": (CReply, (CGraph, *_DUES, c_uint64, _BYTES, c_size_t)),
+    "planner_preview": (CReply, (CGraph, *_DUES, c_uint64, c_size_t, c_uint32, _BYTES, c_size_t)),
+    "planner_rule": (CReply, (CGraph, *_DUES, c_int64, c_uint64, _BYTES, c_size_t)),
+    "planner_recent": (CReply, (POINTER(CGraph), c_size_t, POINTER(c_size_t), c_size_t, POINTER(c_int32), c_size_t)),
     "planner_simulate": (CSailed, (CGraph, POINTER(c_size_t), c_size_t, c_uint64, c_uint64, POINTER(c_int64), c_size_t)),
-    "planner_compare": (CSaid, (CGraph, *_DUES, CTerms, *_PAIR, *_PAIR, POINTER(c_uint64), c_size_t)),
+    "planner_compare": (CReply, (CGraph, *_DUES, CTerms, *_PAIR, *_PAIR, POINTER(c_uint64), c_size_t)),
     "planner_fresh": (CSearch, ()),
-    "planner_open": (CSaid, (_RECORD, CGraph, *_DUES, CSettings)),
-    "planner_run": (CSaid, (_RECORD, c_uint64)),
-    "planner_tell": (CSaid, (_RECORD,)),
-    "planner_show": (CSaid, (_RECORD, _BYTES, c_size_t)),
-    "planner_close": (CSaid, (_RECORD,)),
+    "planner_open": (CReply, (_RECORD, CGraph, *_DUES, CSettings)),
+    "planner_run": (CReply, (_RECORD, c_uint64)),
+    "planner_tell": (CReply, (_RECORD,)),
+    "planner_show": (CReply, (_RECORD, _BYTES, c_size_t)),
+    "planner_close": (CReply, (_RECORD,)),
     "planner_fresh_shelf": (CShelf, ()),
-    "planner_save": (CSaid, (_SHELF, _RECORD, c_size_t)),
-    "planner_back": (CSaid, (_RECORD, _SHELF, c_size_t)),
+    "planner_save": (CReply, (_SHELF, _RECORD, c_size_t)),
+    "planner_back": (CReply, (_RECORD, _SHELF, c_size_t)),
     "planner_fresh_dispatcher": (CDispatcher, ()),
-    "planner_add": (CSaid, (_DISPATCHER, CGraph, *_DUES, CSettings)),
-    "planner_turn": (CSaid, (_DISPATCHER, c_uint64)),
-    "planner_tell_at": (CSaid, (_DISPATCHER, c_size_t)),
-    "planner_show_at": (CSaid, (_DISPATCHER, c_size_t, _BYTES, c_size_t)),
-    "planner_close_at": (CSaid, (_DISPATCHER, c_size_t)),
+    "planner_add": (CReply, (_DISPATCHER, CGraph, *_DUES, CSettings)),
+    "planner_turn": (CReply, (_DISPATCHER, c_uint64)),
+    "planner_tell_at": (CReply, (_DISPATCHER, c_size_t)),
+    "planner_show_at": (CReply, (_DISPATCHER, c_size_t, _BYTES, c_size_t)),
+    "planner_close_at": (CReply, (_DISPATCHER, c_size_t)),
 }
 
 
@@ -434,7 +434,7 @@ class Told(NamedTuple):
     cost: int | None = None
 
 
-def _told(said: CSaid) -> Told:
+def _told(said: CReply) -> Told:
     """What a tell says."""
     _accepted(said)
     if said.number == BEST:

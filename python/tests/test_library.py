@@ -195,13 +195,13 @@ class Calls(unittest.TestCase):
     def test_sizes(self):
         """The structs are those of the header, compiled."""
         with tempfile.TemporaryDirectory() as folder:
-            lines = "".join(f'printf("%zu\\n", sizeof(planner_{name}));' for name in ("said", "graph", "settings", "terms", "search", "shelf"))
+            lines = "".join(f'printf("%zu\\n", sizeof(planner_{name}));' for name in ("reply", "graph", "settings", "terms", "search", "shelf"))
             Path(folder, "s.c").write_text('#include <stdio.h>\n#include "planner.h"\nint main(void){' + lines + "}")
             if not shutil.which("cc"):
                 self.skipTest("no C compiler")
             subprocess.run(["cc", f"-I{ROOT}/include", f"{folder}/s.c", "-o", f"{folder}/s"], check=True)
             said = subprocess.run([f"{folder}/s"], stdout=subprocess.PIPE, check=True).stdout.split()
-        structs = (library.CSaid, library.CGraph, library.CSettings, library.CTerms, library.CSearch, library.CShelf)
+        structs = (library.CReply, library.CGraph, library.CSettings, library.CTerms, library.CSearch, library.CShelf)
         self.assertEqual([int(size) for size in said], [ctypes.sizeof(struct) for struct in structs])
 
 

@@ -143,6 +143,7 @@ def main():
         return
     pure, lemmas, walks, code, edits = texts()
     fields = set(re.findall(r"\.([^\s(){}\[\].;,@\"«»:|]+)", "\n".join(re.sub(r"--.*", "", read(path)) for path in pure)))
+    in_code = {old: to for old, to in new.items() if old not in GIVING_WAY}
     for path in pure + lemmas + walks + code + edits:
         text = read(path)
         if path.endswith(".antt"):
@@ -150,11 +151,11 @@ def main():
         elif path.endswith(".rt"):
             pieces, last = [], 0
             for string in STRING.finditer(text):
-                pieces += [turn(text[last:string.start()], new, "//"), string[0]]
+                pieces += [turn(text[last:string.start()], in_code, "//"), string[0]]
                 last = string.end()
-            turned = "".join(pieces) + turn(text[last:], new, "//")
+            turned = "".join(pieces) + turn(text[last:], in_code, "//")
         else:
-            turned = turn(text, new, "#")
+            turned = turn(text, in_code, "#")
         if turned != text:
             with open(path, "w", encoding="utf-8") as file:
                 file.write(turned)

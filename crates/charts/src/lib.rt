@@ -1,4 +1,6 @@
 // Document 01's 'The chart as bytes': a graph read from bytes and written to them.
+#![tactic(auto)]
+
 use graph::Graph;
 
 mod bytes;
@@ -22,20 +24,20 @@ pub const MAX_SIZE: usize = HEADER_SIZE + RECORD_SIZE * MAX_RECORDS;
 
 // What a reading answers: specs/Answers.antt has the number and the place of each case. An enum may hold no array, so the graph
 // stands beside it.
-#[derive(Drop)]
+#[derive(Clone, Copy)]
 pub enum ReadAnswer {
     Read,
     Refused(u32, u64),
 }
 
-#[derive(Drop)]
+#[derive(Clone, Copy)]
 pub struct Reading {
     pub graph: Graph,
     pub answer: ReadAnswer,
 }
 
 // What a writing answers.
-#[derive(Drop)]
+#[derive(Clone, Copy)]
 pub enum WriteAnswer {
     Written,
     Refused(u32, u64),

@@ -1,5 +1,7 @@
 // Document 02's C-21: up to 16 pairs of sweeps and step, and the count of nodes with which a search with each finishes. (Its words: hunt for
 // search, dues for multipliers, allowance for budget.)
+#![tactic(auto)]
+
 ghost use Rattle.std.specs.Prelude.{◌≡◌, leb, length};
 ghost use Rattle.lists.specs.All.{every_of};
 ghost use Rattle.search.specs.Record.{opening_of};
@@ -16,7 +18,7 @@ pub const MAX_PAIRS: usize = 16;
 
 // What all pairs have alike.
 #[repr(C)]
-#[derive(Drop)]
+#[derive(Clone, Copy)]
 pub struct Terms {
     pub ceiling: i64,
     pub budget: u64,

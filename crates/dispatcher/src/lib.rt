@@ -1,5 +1,7 @@
 // Document 02's C-24: a dispatcher of eight searches that take turns, in a record that the caller lends, and the calls on it. (Its words: hunt
 // for search, dues for multipliers.)
+#![tactic(auto)]
+
 ghost use Rattle.std.specs.Prelude.{◌≡◌};
 ghost use Rattle.dispatch_theory.specs.Dispatcher as Calls;
 ghost use Rattle.lent_records.specs.Records.{replies};
@@ -19,7 +21,7 @@ pub const PLACES: usize = 8;
 // The dispatcher: the place last served, 1 to 8, or 0 where none was yet; and a search record for each place. docs/RECORD.md states the
 // check that every call makes of all of it.
 #[repr(C)]
-#[derive(Drop)]
+#[derive(Clone, Copy)]
 pub struct Dispatcher {
     pub last: usize,
     pub places: [Search; PLACES],
@@ -27,7 +29,7 @@ pub struct Dispatcher {
 
 // What a call answers: the place of an added search, or the one that a turn served; that a turn found none to serve; or a refusal or what
 // the search at a place answers.
-#[derive(Drop)]
+#[derive(Clone, Copy)]
 pub enum Answer {
     Placed(usize),
     Served(usize),
@@ -36,7 +38,7 @@ pub enum Answer {
 }
 
 // The dispatcher that a call leaves, and its answer.
-#[derive(Drop)]
+#[derive(Clone, Copy)]
 pub struct Outcome {
     pub dispatcher: Dispatcher,
     pub answer: Answer,

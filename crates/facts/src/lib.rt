@@ -1,1 +1,2 @@
 // This crate has theorems and no code: see specs/.
+#![tactic(auto)]

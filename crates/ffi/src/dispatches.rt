@@ -14,7 +14,7 @@ use graph::Graph;
 use machine::Settings;
 
 // The dispatcher that a call leaves, and its answer in numbers.
-#[derive(Drop)]
+#[derive(Clone, Copy)]
 pub(crate) struct Dispatched {
     pub dispatcher: Dispatcher,
     pub said: Reply,

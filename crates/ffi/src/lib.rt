@@ -1,6 +1,8 @@
 // The calls for C, C++, Rust and Python. A graph goes in by value, a record or a graph to be filled is lent, and each call answers with the
 // same four numbers: document 01's number, 0 where the call is accepted, and the place, the value and the count of nodes, 0 where the answer
 // has none.
+#![tactic(auto)]
+
 ghost use Rattle.std.specs.Prelude.{◌≡◌, length};
 ghost use Rattle.charts.specs.Chart.{reading, write_outcome, write_leaves};
 ghost use Rattle.ffi.specs.Answers.{plain, said_outcome, check_outcome, filled_by, Fills};
@@ -32,7 +34,7 @@ pub(crate) const IDLE: u32 = 1005;
 
 // What a call answers.
 #[repr(C)]
-#[derive(Drop)]
+#[derive(Clone, Copy)]
 pub struct Reply {
     pub number: u32,
     pub place: u64,
@@ -41,7 +43,7 @@ pub struct Reply {
 }
 
 // A lent graph as a call leaves it, and the answer.
-#[derive(Drop)]
+#[derive(Clone, Copy)]
 pub(crate) struct GraphReply {
     pub graph: Graph,
     pub said: Reply,

@@ -13,7 +13,7 @@ use machine::Settings;
 use search::{Answer, Outcome, Search};
 
 // The record that a call leaves, and its answer in numbers.
-#[derive(Drop)]
+#[derive(Clone, Copy)]
 pub(crate) struct Replied {
     pub search: Search,
     pub said: Reply,

@@ -10,7 +10,7 @@ use search::Search;
 use shelf::Shelf;
 
 // The shelf that a save leaves, and its answer in numbers.
-#[derive(Drop)]
+#[derive(Clone, Copy)]
 pub(crate) struct Stored {
     pub shelf: Shelf,
     pub said: Reply,

@@ -12,7 +12,7 @@ use simulation::SimulationAnswer;
 
 // What a simulation answers: 0, the total and the last state; or a refusal's number and place, and 0 for the others.
 #[repr(C)]
-#[derive(Drop)]
+#[derive(Clone, Copy)]
 pub struct Sailed {
     pub number: u32,
     pub place: u64,

@@ -1,4 +1,6 @@
 // Document 01's 'Legs and marks'. Our words: graph for chart or sea, vertex for buoy, edge for leg.
+#![tactic(auto)]
+
 ghost use Rattle.std.specs.Prelude.{◌≡◌, ◌<◌};
 ghost use Rattle.graph.specs.Edgeless.{edgeless};
 
@@ -25,7 +27,7 @@ pub const EXCLUDED: u8 = 2;
 // A graph by value, with any contents: vertices 1 to n, edges 1 to m. Edge k stands at place k - 1 of the arrays and joins a and b;
 // what stands past m counts for nothing. The fields stand widest first, so that no byte lies between them.
 #[repr(C)]
-#[derive(Drop)]
+#[derive(Clone, Copy)]
 pub struct Graph {
     pub cost: [i32; MAX_EDGES],
     pub a: [u8; MAX_EDGES],

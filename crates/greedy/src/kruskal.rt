@@ -13,7 +13,7 @@ use crate::order::place;
 use graph::{MAX_EDGES, wide};
 
 // What the greedy choice among the edges away from vertex 1 came to: the turn that is next, how many it took, and the sum of their charges.
-#[derive(Drop)]
+#[derive(Clone, Copy)]
 pub(crate) struct Grown {
     pub next: usize,
     pub far: usize,

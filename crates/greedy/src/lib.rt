@@ -1,4 +1,6 @@
 // The least 1-tree by the greedy choice, for every input; document 01's 'The 1-tree'.
+#![tactic(auto)]
+
 ghost use Rattle.std.specs.Prelude.{◌≡◌, ◌≤◌, length};
 ghost use Rattle.graph.specs.Limits.{max_denominator};
 ghost use Rattle.graph.specs.Network.{network};
@@ -32,7 +34,7 @@ pub const MAX_DENOMINATOR: u64 = 1_000;
 pub const MAX_LABELS: usize = MAX_VERTICES + 1;
 
 // How many vertices and edges there are, how long the list is that a call is lent for its answer, and how many units of the multipliers a minute has.
-#[derive(Drop)]
+#[derive(Clone, Copy)]
 pub struct Sizes {
     pub n: usize,
     pub m: usize,
@@ -42,7 +44,7 @@ pub struct Sizes {
 
 // The fault of an input, 0 where there is none; whether there is a 1-tree, and then the bound of the least and how many edges the order
 // lists.
-#[derive(Drop)]
+#[derive(Clone, Copy)]
 pub struct Found {
     pub fault: u32,
     pub any: bool,
@@ -51,7 +53,7 @@ pub struct Found {
 }
 
 // What was found, and at how many free edges the loop looked that joins the vertices other than vertex 1 (document 02, C-12).
-#[derive(Drop)]
+#[derive(Clone, Copy)]
 pub(crate) struct Outcome {
     pub found: Found,
     pub looked: usize,

@@ -1,5 +1,7 @@
 // Program 'hunt': reads a ceiling and a chart from standard input, and prints what one run with zero multipliers finds. What it prints is
 // computed by reports::search_text; here stand only the calls that read and write.
+#![tactic(auto)]
+
 ghost use Rattle.std.specs.Prelude.{◌≡◌, length};
 ghost use Rattle.reports.specs.Longest.{enough};
 

@@ -1,4 +1,6 @@
 // The opening of a node: document 01's passes, made on the edges that the node does not exclude. One call, `open`.
+#![tactic(auto)]
+
 ghost use Rattle.std.specs.Prelude.{◌≡◌};
 ghost use Rattle.graph.specs.Valid.{graph_of};
 ghost use Rattle.mark_rows.specs.MarkRows.{marks_in_rows};
@@ -22,7 +24,7 @@ pub const MAX_STEP: u32 = 10_000;
 
 // What the opening of a node takes by value; the ends and costs of its m edges are lent beside it, since the language lends no struct. The
 // ceiling of the settings is the upper bound.
-#[derive(Drop)]
+#[derive(Clone, Copy)]
 pub struct Subproblem {
     pub n: usize,
     pub m: usize,
@@ -37,7 +39,7 @@ pub const NODE_WORDS: usize = 6;
 // What the opening of a node comes to. With it go, of the two nodes of a split, the lower one in `rows`, with the edge excluded, and the upper
 // one in `top`, with the edge required; a found tour in `tour`, a byte for each edge; and in `last` the multipliers of both nodes, which are those
 // of the last pass. Zero where there is nothing to tell. Refused, with the number of what does not fit, all are left as they were.
-#[derive(Drop)]
+#[derive(Clone, Copy)]
 pub enum Fate {
     Refused(u32),
     Closes,

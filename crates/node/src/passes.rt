@@ -138,7 +138,7 @@ fn hand_on(d: [i32; MAX_VERTICES], n: usize, last: &mut [i32; MAX_VERTICES])
 
 // What a pass makes of a node: it is refused, with a number; it is shut; a tour is found; or the rulings are applied, and a hint for the
 // next pass is so long.
-#[derive(Drop)]
+#[derive(Clone, Copy)]
 pub(crate) enum Verdict {
     Refused(u32),
     Shut,
@@ -255,7 +255,7 @@ fn judge<'a>(
 }
 
 // What the passes of a node come to: it is refused, with a number; it is shut; a tour is found; or it is unclosed after the last of them.
-#[derive(Drop)]
+#[derive(Clone, Copy)]
 pub(crate) enum Ending {
     Refused(u32),
     Shut,

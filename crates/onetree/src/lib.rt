@@ -1,5 +1,7 @@
 // Document 01's 'The 1-tree' and 'Rulings'. Our words: multipliers for dues, infeasible for dead. Multipliers and bounds count in parts of a minute, as
 // many as the denominator says; ceilings are in minutes (document 02, C-17).
+#![tactic(auto)]
+
 ghost use Rattle.std.specs.Prelude.{◌≡◌, ◌<◌, ◌≤◌, length};
 ghost use Rattle.lists.specs.Rows.{row};
 ghost use Rattle.graph.specs.Limits.{max_edges};
@@ -21,7 +23,7 @@ use greedy::{MAX_LABELS, Sizes, least};
 pub use rulings::{BAR, FORCE, KEEP, WAS_EXCLUDED, WAS_REQUIRED};
 
 // What the tree call answers: specs/Answers.antt has the meaning of each case.
-#[derive(Drop)]
+#[derive(Clone, Copy)]
 pub enum TreeAnswer {
     NoTree,
     Bound(i64),
@@ -29,7 +31,7 @@ pub enum TreeAnswer {
 }
 
 // What the rule call answers.
-#[derive(Drop)]
+#[derive(Clone, Copy)]
 pub enum RuleAnswer {
     Infeasible,
     Bound(i64),
@@ -37,7 +39,7 @@ pub enum RuleAnswer {
 }
 
 // What a pass answers, and in how many bytes of its order it hands on a hint.
-#[derive(Drop)]
+#[derive(Clone, Copy)]
 pub struct Passed {
     pub answer: RuleAnswer,
     pub live: usize,

@@ -44,7 +44,7 @@ const MAX_SLACK: u64 = MAX_DENOMINATOR * MAX_CEILING as u64
 const NONE: u64 = MAX_CHARGE + MAX_SLACK + 1;
 
 // At vertex 1: the dearest free edge of the tree (0: there is none) and the cheapest free edge outside it.
-#[derive(Drop)]
+#[derive(Clone, Copy)]
 pub(crate) struct Near {
     pub dearest: u64,
     pub cheapest: u64,
@@ -143,7 +143,7 @@ fn force(low: u64, c: u64, slack: u64) -> u8
 }
 
 // A free edge at vertex 1: in the tree against the cheapest that may come in, outside it against the dearest that may give way.
-fn at_one_lem(w: u8, dearest: u64, near: u64, c: u64, slack: u64) -> u8
+fn at_one(w: u8, dearest: u64, near: u64, c: u64, slack: u64) -> u8
     ensures { result ≡ near_byte w dearest near c slack }
 {
     if w == 1 {
@@ -181,7 +181,7 @@ fn judge_outside<'a>(
     for k in 0..m {
         if mark[k] == FREE {
             if a[k] == 1 {
-                res[k] = at_one_lem(w[k], dearest, near, c[k], slack);
+                res[k] = at_one(w[k], dearest, near, c[k], slack);
             } else if w[k] != 1 {
                 let top = climb(
                     parent,

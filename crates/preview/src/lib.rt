@@ -1,4 +1,6 @@
 // Document 02's C-11: what requiring or excluding one free edge would do to the least 1-tree. (Its words: leg for edge, struck for excluded.)
+#![tactic(auto)]
+
 ghost use Rattle.std.specs.Prelude.{◌≡◌, length};
 ghost use Rattle.onetree.specs.Answers.{tree_meaning};
 ghost use Rattle.preview.specs.Preview.{can_be_marked, preview_fault, preview_reply, preview_leaves};

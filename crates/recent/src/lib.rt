@@ -1,4 +1,6 @@
 // Document 02's C-22: costs from the last times of a log. (Its words: leg for edge, chart for graph, the season's log.)
+#![tactic(auto)]
+
 ghost use Rattle.std.specs.Prelude.{◌≡◌, ◌≤◌, ◌<◌, min, length, pos};
 ghost use Rattle.graph.specs.Limits.{max_edges};
 ghost use Rattle.recent.specs.Costs.{larger, greatest_or, log_of};
@@ -14,14 +16,14 @@ pub const MAX_WINDOW: usize = 32;
 const PLACES: usize = MAX_WINDOW * MAX_EDGES;
 
 // What the call answers: specs/Answers.antt has the number and the place of each case.
-#[derive(Drop)]
+#[derive(Clone, Copy)]
 pub enum Answer {
     Made,
     Refused(u32, u64),
 }
 
 // The graph that the call gives, and the answer.
-#[derive(Drop)]
+#[derive(Clone, Copy)]
 pub struct Updated {
     pub graph: Graph,
     pub answer: Answer,

@@ -1,4 +1,6 @@
 // What the programs of document 01 print, byte for byte, as functions on slices: a program only reads and writes.
+#![tactic(auto)]
+
 mod input;
 mod lines;
 mod rulings;

@@ -1,5 +1,7 @@
 // Program 'rulings': reads a ceiling and a chart from standard input, and prints the rulings with zero multipliers. What it prints is computed by
 // reports::rulings_text; here stand only the calls that read and write.
+#![tactic(auto)]
+
 ghost use Rattle.std.specs.Prelude.{◌≡◌, length};
 ghost use Rattle.reports.specs.Longest.{enough};
 

@@ -1,5 +1,7 @@
 // Document 01's 'The hunt': the record that the caller lends, and the calls on it. Our words: search for hunt, stack for pile, incumbent
 // for best round, multipliers for dues, upper bound for the present ceiling U, budget for allowance.
+#![tactic(auto)]
+
 ghost use Rattle.std.specs.Prelude.{◌≡◌};
 ghost use Rattle.machine.specs.Calls as Calls;
 ghost use Rattle.search.specs.Record.{fresh, opening_of};
@@ -38,7 +40,7 @@ pub const CARRIED_SIZE: usize = MAX_VERTICES * MAX_NODES;
 // `has_best` are bytes, 1 yes and 0 no. The fields stand by width, so that no byte lies between them. docs/RECORD.md states the check that
 // every call makes of it.
 #[repr(C)]
-#[derive(Drop)]
+#[derive(Clone, Copy)]
 pub struct Search {
     pub settings: Settings,
     pub upper: i64,
@@ -54,7 +56,7 @@ pub struct Search {
 }
 
 // What a call answers: specs/Replies.antt says what each case means in document 01.
-#[derive(Drop)]
+#[derive(Clone, Copy)]
 pub enum Answer {
     // the number and the place
     Refused(u32, u64),
@@ -69,7 +71,7 @@ pub enum Answer {
 }
 
 // The record that a call leaves, and its answer.
-#[derive(Drop)]
+#[derive(Clone, Copy)]
 pub struct Outcome {
     pub search: Search,
     pub answer: Answer,

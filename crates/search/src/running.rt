@@ -16,7 +16,7 @@ use machine::Settings;
 use node::{Fate, NODE_WORDS, Subproblem};
 
 // What changes of a search while it runs, but for the stack and the best tour.
-#[derive(Drop)]
+#[derive(Clone, Copy)]
 pub(crate) struct Frame {
     pub upper: i64,
     pub depth: usize,

@@ -1,5 +1,7 @@
 // Document 02, C-18: a shelf of eight places, with the names 1 to 8, that the caller lends beside the search record: a search is saved under a
 // name, and brought back.
+#![tactic(auto)]
+
 ghost use Rattle.std.specs.Prelude.{◌≡◌};
 ghost use Rattle.lists.specs.All.{every_of};
 ghost use Rattle.lent_records.specs.Places.{is_name};
@@ -14,13 +16,13 @@ pub const PLACES: usize = 8;
 // The shelf's record: the place of name k is places[k - 1], a search record, fresh where nothing is saved. docs/RECORD.md states the check that
 // save and back make of it.
 #[repr(C)]
-#[derive(Drop)]
+#[derive(Clone, Copy)]
 pub struct Shelf {
     pub places: [Search; PLACES],
 }
 
 // The shelf that a save leaves, and its answer.
-#[derive(Drop)]
+#[derive(Clone, Copy)]
 pub struct Saved {
     pub shelf: Shelf,
     pub answer: Answer,

@@ -1,5 +1,7 @@
 // Document 02's C-21: a given tour sailed edge by edge, with delays of each student's own. (Its words: leg for edge, buoy for vertex, round for
 // tour, e for the spread.) Crate `sailing` says what a simulation is.
+#![tactic(auto)]
+
 ghost use Rattle.std.specs.Prelude.{◌≡◌, ◌≤◌, ◌<◌, ◌+◌, length, ◌+ℤ◌};
 ghost use Rattle.integers.specs.Range.{InRange};
 ghost use Rattle.graph.specs.Limits.{max_cost};
@@ -32,7 +34,7 @@ const LOW: u64 = 65_536;
 const FLAGS: usize = MAX_VERTICES + 1;
 
 // What a simulation answers: specs/Answers.antt says what each case means in document 02.
-#[derive(Drop)]
+#[derive(Clone, Copy)]
 pub enum SimulationAnswer {
     // the total and the last state
     Sailed(i64, u64),
@@ -41,7 +43,7 @@ pub enum SimulationAnswer {
 }
 
 // The end of a sailing.
-#[derive(Drop)]
+#[derive(Clone, Copy)]
 struct Sailing {
     total: i64,
     state: u64,

@@ -1,1 +1,2 @@
 // Tours of a network, as definitions and laws (specs/). No code.
+#![tactic(auto)]

@@ -1,1 +1,2 @@
 // This crate has definitions and laws, and no code: see specs/.
+#![tactic(auto)]

@@ -30,6 +30,7 @@ beyond zero t i k h = go (unfold edge_sets in i)
   where
     go : (t ≡ (λ j. false)) ⊎ ⊥ → t k ≡ false
     go (inl e) = ap (λ (s : Edges). s k) e
+    go (inr x3) = elim x3 [ ]
 beyond (suc m) t i k h = go (edge_sets_in m t i) (λ s j. beyond m s j k (omega arith))
   where
     go : (t ∈ edge_sets m) ⊎ Added m t → ((s : Edges) → s ∈ edge_sets m → s k ≡ false) → t k ≡ false

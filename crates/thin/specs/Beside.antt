@@ -5,8 +5,8 @@
 use Rattle.std.specs.Prelude.{◌≡◌, refl, ℕ, [], ◌∷◌, List}
 use Rattle.std.proofs.Common.{ap}
 use seplogic.Ra.Ura.{Ura}
-use seplogic.Ra.TreeShare.{full_share}
-use mir.Syntax.{named, imm, Name, ty_ref, Fn, local, value_local, place, deref, field, copy, rv_opd, seq, assign, call, return}
+use base.Fraction.{full_share}
+use mir.Syntax.{named, imm, Callee, ty_ref, Fn, local, value_local, place, deref, field, copy, rv_opd, seq, assign, call, return}
 use mir.Val.{Val, vptr}
 use base.Logic.{SProp, ent, sep, emp, id⊢}
 use base.Fml.{GName, Lft, Share, ftrue, flft, fobs, fbor, fat}
@@ -25,7 +25,7 @@ use sound.WpLaws.{FmC, fm_of, WpFn-mono}
 use denote.RattleType.{owns}
 use denote.Laws.{Is, shows}
 use denote.Memory.{mem, pointee}
-use denote.Ref.{MutBor, MutRef, ShrRef, shr_vals, mut_Tells, shr_Tells}
+use denote.Ref.{Bor, MutBor, MutRef, ShrRef, mut_vals, shr_vals, mut_Tells, shr_Tells}
 use denote.Signature.{plain, mut_ref_to, shr_ref_to}
 use denote.Steps.{only, opens, closes, looks, shuts, owned, peeks, heard, nothing}
 use denote.Struct.Steps.{spelt}
@@ -63,10 +63,12 @@ module _ (Θ Ψ : Lent) (Φ : Ans) (Π : Pair Θ Φ) (P : Arg) where
     kept = (yes, (yes, (yes, tt)));
   }
 
-  abbrev fn : Name → Fn
+  abbrev fn : Callee → Fn
   fn f = record {
     lifetimes = 2;
     outlives = [];
+    ty_params = [];
+    givens = 0;
     params = 3;
     locals = local Φ.B-ty value_local ∷ local (lent_ty Θ) value_local ∷ local (ty_ref (named 1) imm (pointee (S_row Ψ).written)) value_local ∷
         local P.ty value_local ∷ local (R_ty Θ Φ Π) value_local ∷ local (S_ty Θ) value_local ∷ local (S_ty Ψ) value_local ∷ [];
@@ -106,10 +108,10 @@ module _ (Θ Ψ : Lent) (Φ : Ans) (Π : Pair Θ Φ) (P : Arg) where
     abbrev Core_at : Contract 𝓤
     Core_at = triple_of 𝓛 Core.signature (closing 𝓛 Core core)
 
-    module _ (κ : Lft) (q : Share) (b o : ℕ) (γ : GName) (h : Θ.S.D) (κ' : Lft) (q' : Share) (b' o' : ℕ) (γ' : GName) (t : Ψ.S.D)
+    module _ (κ : Lft) (q : Share) (b o : ℕ) (γ : GName) (h : Θ.S.D) (κ' : Lft) (q' : Share) (b' o' : ℕ) (t : Ψ.S.D)
         (n : P.row.Denot) (is_n : Is P.row n (P.val n ∷ [])) where
-      abbrev x : MutBor Θ.S.D × (MutBor Ψ.S.D × (P.row.Denot × Unit {0}))
-      x = (record { ref_ptr = (b, o); ghost_name = γ; now = h }, (record { ref_ptr = (b', o'); ghost_name = γ'; now = t }, (n, tt)))
+      abbrev x : MutBor Θ.S.D × (Bor Ψ.S.D × (P.row.Denot × Unit {0}))
+      x = (record { ref_ptr = (b, o); ghost_name = γ; now = h }, (record { ref_ptr = (b', o'); now = t }, (n, tt)))
 
       abbrev at : List Val × (List Val × (List Val × Unit {0}))
       at = (vptr b o ∷ [], (vptr b' o' ∷ [], (P.val n ∷ [], tt)))
@@ -143,7 +145,7 @@ module _ (Θ Ψ : Lent) (Φ : Ans) (Π : Pair Θ Φ) (P : Arg) where
           owned ! (S_row Ψ) (Is (S_row Ψ)) (S-has Ψ 𝓛) t _ is_t $ fjoin ! $
           owned ! (S_row Θ) (Is (S_row Θ)) (S-has Θ 𝓛) h _ is $ fjoin ! $ move ! (2 ∷ 0 ∷ []) $ join ! $ join ! $ done !
 
-      module _ (C : Calls 𝓤 H) (Λ : Loops 𝓤 H) (fm : FmC 𝓤 H 𝓛.laws C) (f : Name) (known : Triple 𝓤 (C f) Core_at) where
+      module _ (C : Calls 𝓤 H) (Λ : Loops 𝓤 H) (fm : FmC 𝓤 H 𝓛.laws C) (f : Callee) (known : Triple 𝓤 (C f) Core_at) where
         walk : ent 𝓤 (sep 𝓤 (on_entry 𝓛 Thin.signature (κ, (κ', tt)) (q, (q', tt)) x at) (req h t n))
             (WpFn 𝓤 H C Λ (fn f) (vptr b o ∷ vptr b' o' ∷ P.val n ∷ []) Post)
         walk =
@@ -196,7 +198,7 @@ module _ (Θ Ψ : Lent) (Φ : Ans) (Π : Pair Θ Φ) (P : Arg) where
             free1 ! $ move ! (10 ∷ 11 ∷ []) $ free1 ! $ move ! (8 ∷ 9 ∷ []) $ free1 ! $ move ! (6 ∷ 7 ∷ []) $ free1 ! $ free0 ! $
             keep ! (0 ∷ 1 ∷ 2 ∷ 3 ∷ 4 ∷ 5 ∷ []) $ by ! (exits r ws e (Π.B-is r _ is))))))))))))))))))
 
-    pub meets : (𝓣 : Tables 𝓤 H) (f : Name) → Triple 𝓤 (𝓣.C f) Core_at → Meets 𝓛 Thin.signature (WpFn 𝓤 H 𝓣.C 𝓣.Λ (fn f))
+    pub meets : (𝓣 : Tables 𝓤 H) (f : Callee) → Triple 𝓤 (𝓣.C f) Core_at → Meets 𝓛 Thin.signature (WpFn 𝓤 H 𝓣.C 𝓣.Λ (fn f))
         (closing 𝓛 Thin thin)
     meets 𝓣 f known =
         walk_Meets 𝓛 Thin stayed (
@@ -207,14 +209,14 @@ module _ (Θ Ψ : Lent) (Φ : Ans) (Π : Pair Θ Φ) (P : Arg) where
           ),
         ) thin (WpFn 𝓤 H 𝓣.C 𝓣.Λ (fn f))
         (WpFn-mono 𝓤 H 𝓛.laws 𝓣 (fn f))
-        (walked 𝓛 Thin stayed thin (WpFn 𝓤 H 𝓣.C 𝓣.Λ (fn f)) (λ κs. (shr_vals, (shr_vals, ((λ y. P.val y ∷ []), tt))))
+        (walked 𝓛 Thin stayed thin (WpFn 𝓤 H 𝓣.C 𝓣.Λ (fn f)) (λ κs. (mut_vals, (shr_vals, ((λ y. P.val y ∷ []), tt))))
         (λ κs. (mut_Tells (named 0) κs.0 (S_row Θ), (shr_Tells (named 1) κs.1.0 (S_row Ψ), (P.tells, tt))))
         (λ κs qs bounds a _ are. walk κs.0 qs.0 a.0.ref_ptr.0 a.0.ref_ptr.1 a.0.ghost_name a.0.now
-        κs.1.0 qs.1.0 a.1.0.ref_ptr.0 a.1.0.ref_ptr.1 a.1.0.ghost_name a.1.0.now a.1.1.0 are.1.1.0 𝓣.C
+        κs.1.0 qs.1.0 a.1.0.ref_ptr.0 a.1.0.ref_ptr.1 a.1.0.now a.1.1.0 are.1.1.0 𝓣.C
         𝓣.Λ (fm_of 𝓤 H 𝓛.laws 𝓣) f known))
 
   -- the function itself, from core's theorem
-  module _ {M : Type 1} {𝓤 : Ura M} (𝓛 : Logic 𝓤) (𝓜 : Model 𝓤 𝓛.H) (𝓡 : Running 𝓤 𝓛.H 𝓜) (env : Env) (key f : Name)
+  module _ {M : Type 1} {𝓤 : Ura M} (𝓛 : Logic 𝓤) (𝓜 : Model 𝓤 𝓛.H) (𝓡 : Running 𝓤 𝓛.H 𝓜) (env : Env) (key f : Callee)
       (routine : Routine) (unfolded : Closed 𝓤 𝓛.H (tables 𝓤 𝓛.H 𝓜 𝓡 env).C (tables 𝓤 𝓛.H 𝓜 𝓡 env).Λ key (fn f)) (calls : env f ≡ routine)
     where
       open 𝓛 use {H}

@@ -5,8 +5,8 @@
 use Rattle.std.specs.Prelude.{◌≡◌, refl, ℕ, [], ◌∷◌, List, length}
 use Rattle.std.proofs.Common.{ap}
 use seplogic.Ra.Ura.{Ura}
-use seplogic.Ra.TreeShare.{full_share}
-use mir.Syntax.{named, mut, imm, Name, ty_ref, ty_int, w8, Fn, local, value_local, place, deref, field, copy, rv_opd, seq, assign, call, return}
+use base.Fraction.{full_share}
+use mir.Syntax.{named, mut, imm, Callee, ty_ref, ty_int, w8, Fn, local, value_local, place, deref, field, copy, rv_opd, seq, assign, call, return}
 use mir.Val.{Val, vptr}
 use base.Logic.{SProp, ent, sep, emp, id⊢}
 use base.Fml.{GName, Lft, Share, ftrue, flft, fobs, fbor, fat}
@@ -49,10 +49,12 @@ module _ (Θ : Lent) (Φ : Ans) (Π : Pair Θ Φ) where
   abbrev Thin : Ended
   Thin = record { signature = record { lifetimes = 2; outlives = []; params = mut_ref_to (0 ∷ []) tt (plain (λ _. S_row Θ)) ∷ shr_slice_of (1 ∷ []) tt (plain (λ _. u8)) ∷ []; result = plain (λ _. Φ.B) }; kept = (yes, (yes, tt)) }
 
-  abbrev fn : Name → Fn
+  abbrev fn : Callee → Fn
   fn f = record {
     lifetimes = 2;
     outlives = [];
+    ty_params = [];
+    givens = 0;
     params = 2;
     locals = local Φ.B-ty value_local ∷ local (lent_ty Θ) value_local ∷ local (slice_ty (ty_ref (named 1) imm (ty_int w8))) value_local ∷ local (R_ty Θ Φ Π) value_local ∷ local (S_ty Θ) value_local ∷ [];
     body = seq (assign (place 4 []) (rv_opd (copy (place 1 (deref (S_ty Θ) ∷ [])))))
@@ -77,16 +79,16 @@ module _ (Θ : Lent) (Φ : Ans) (Π : Pair Θ Φ) where
     abbrev Core_at : Contract 𝓤
     Core_at = triple_of 𝓛 Core.signature (closing 𝓛 Core core)
 
-    module _ (κ : Lft) (q : Share) (b o : ℕ) (γ : GName) (h : Θ.S.D) (κ0 : Lft) (q0 : Share) (b0 o0 : ℕ) (γ0 : GName) (n0 : List ℕ) (room0 : Room u8 (length n0)) where
-      abbrev x : MutBor Θ.S.D × (MutBor (List ℕ) × (Unit {0}))
-      x = (record { ref_ptr = (b, o); ghost_name = γ; now = h }, (record { ref_ptr = (b0, o0); ghost_name = γ0; now = n0 }, tt))
+    module _ (κ : Lft) (q : Share) (b o : ℕ) (γ : GName) (h : Θ.S.D) (κ0 : Lft) (q0 : Share) (b0 o0 : ℕ) (n0 : List ℕ) (room0 : Room u8 (length n0)) where
+      abbrev x : MutBor Θ.S.D × (Bor (List ℕ) × (Unit {0}))
+      x = (record { ref_ptr = (b, o); ghost_name = γ; now = h }, (record { ref_ptr = (b0, o0); now = n0 }, tt))
 
       abbrev at : List Val × (List Val × (Unit {0}))
       at = (vptr b o ∷ [], (slice_val (b0, o0) (length n0) ∷ [], tt))
 
       -- what core is passed beside the record
       abbrev cx : Bor (List ℕ) × (Unit {0})
-      cx = (record { ref_ptr = (b0, o0); ghost_name = γ0; now = n0 }, tt)
+      cx = (record { ref_ptr = (b0, o0); now = n0 }, tt)
 
       abbrev cat : List Val × (Unit {0})
       cat = (slice_val (b0, o0) (length n0) ∷ [], tt)
@@ -108,7 +110,7 @@ module _ (Θ : Lent) (Φ : Ans) (Π : Pair Θ Φ) where
       goes_core : Is (S_row Θ) h (S_vals Θ h) → ent 𝓤 (⋆ 𝓛 (raw (req h n0) ∷ ‵ (owns (ShrSlice (named 1) κ0 u8 ∷ []) (cx) (cat)) ∷ (‵ (flft κ0 q0) ⊛ ‵ ftrue) ∷ [])) (Core_at.pre to_core)
       goes_core is = qed 𝓛 (raw (req h n0) ∷ ‵ (owns (ShrSlice (named 1) κ0 u8 ∷ []) (cx) (cat)) ∷ (‵ (flft κ0 q0) ⊛ ‵ ftrue) ∷ []) ∵ move ! (1 ∷ []) $ owned ! (S_row Θ) (Is (S_row Θ)) (S-has Θ 𝓛) h _ is $ fjoin ! $ move ! (2 ∷ 0 ∷ []) $ join ! $ join ! $ done !
 
-      module _ (C : Calls 𝓤 H) (Λ : Loops 𝓤 H) (fm : FmC 𝓤 H 𝓛.laws C) (f : Name) (known : Triple 𝓤 (C f) Core_at) where
+      module _ (C : Calls 𝓤 H) (Λ : Loops 𝓤 H) (fm : FmC 𝓤 H 𝓛.laws C) (f : Callee) (known : Triple 𝓤 (C f) Core_at) where
         walk : ent 𝓤 (sep 𝓤 (on_entry 𝓛 Thin.signature (κ, (κ0, tt)) (q, (q0, tt)) x at) (req h n0)) (WpFn 𝓤 H C Λ (fn f) (vptr b o ∷ slice_val (b0, o0) (length n0) ∷ []) Post)
         walk =
             qed 𝓛 (((‵ (flft κ q) ⊛ ‵ (flft κ0 q0) ⊛ ‵ ftrue) ⊛ ‵ (owns (MutRef (named 0) κ (S_row Θ) ∷ ShrSlice (named 1) κ0 u8 ∷ []) x at)) ∷ raw (req h n0) ∷ []) ∵ split ! $ enter ! C Λ (fn f) (vptr b o ∷ slice_val (b0, o0) (length n0) ∷ []) _ $
@@ -133,14 +135,14 @@ module _ (Θ : Lent) (Φ : Ans) (Π : Pair Θ Φ) where
             move ! (13 ∷ 14 ∷ []) $ free1 ! $ move ! (11 ∷ 12 ∷ []) $ free1 ! $ move ! (9 ∷ 10 ∷ []) $ free1 ! $ move ! (7 ∷ 8 ∷ []) $ free1 ! $ move ! (5 ∷ 6 ∷ []) $ free1 ! $ free0 ! $
             keep ! (0 ∷ 1 ∷ 2 ∷ 3 ∷ 4 ∷ []) $ by ! (exits r ws e (Π.B-is r _ is))))))))))))))
 
-    pub meets : (𝓣 : Tables 𝓤 H) (f : Name) → Triple 𝓤 (𝓣.C f) Core_at → Meets 𝓛 Thin.signature (WpFn 𝓤 H 𝓣.C 𝓣.Λ (fn f)) (closing 𝓛 Thin thin)
+    pub meets : (𝓣 : Tables 𝓤 H) (f : Callee) → Triple 𝓤 (𝓣.C f) Core_at → Meets 𝓛 Thin.signature (WpFn 𝓤 H 𝓣.C 𝓣.Λ (fn f)) (closing 𝓛 Thin thin)
     meets 𝓣 f known =
         walk_Meets 𝓛 Thin stayed (Goes-ref 𝓛 2 0 tt (plain (λ _. S_row Θ)), (goes_passed 𝓛 2 (shr_slice_of (1 ∷ []) tt (plain (λ _. u8))) yes, tt)) thin (WpFn 𝓤 H 𝓣.C 𝓣.Λ (fn f)) (WpFn-mono 𝓤 H 𝓛.laws 𝓣 (fn f))
         (walked 𝓛 Thin stayed thin (WpFn 𝓤 H 𝓣.C 𝓣.Λ (fn f)) (λ κs. (mut_vals, (shr_slice_vals, tt))) (λ κs. (mut_Tells (named 0) κs.0 (S_row Θ), (shr_slice_Tells (named 1) κs.1.0 u8, tt)))
-        (λ κs qs bounds a _ are. walk κs.0 qs.0 a.0.ref_ptr.0 a.0.ref_ptr.1 a.0.ghost_name a.0.now κs.1.0 qs.1.0 a.1.0.ref_ptr.0 a.1.0.ref_ptr.1 a.1.0.ghost_name a.1.0.now are.1.0.0.1 𝓣.C 𝓣.Λ (fm_of 𝓤 H 𝓛.laws 𝓣) f known))
+        (λ κs qs bounds a _ are. walk κs.0 qs.0 a.0.ref_ptr.0 a.0.ref_ptr.1 a.0.ghost_name a.0.now κs.1.0 qs.1.0 a.1.0.ref_ptr.0 a.1.0.ref_ptr.1 a.1.0.now are.1.0.0.1 𝓣.C 𝓣.Λ (fm_of 𝓤 H 𝓛.laws 𝓣) f known))
 
   -- the function itself, from core's theorem
-  module _ {M : Type 1} {𝓤 : Ura M} (𝓛 : Logic 𝓤) (𝓜 : Model 𝓤 𝓛.H) (𝓡 : Running 𝓤 𝓛.H 𝓜) (env : Env) (key f : Name) (routine : Routine) (unfolded : Closed 𝓤 𝓛.H (tables 𝓤 𝓛.H 𝓜 𝓡 env).C (tables 𝓤 𝓛.H 𝓜 𝓡 env).Λ key (fn f)) (calls : env f ≡ routine) where
+  module _ {M : Type 1} {𝓤 : Ura M} (𝓛 : Logic 𝓤) (𝓜 : Model 𝓤 𝓛.H) (𝓡 : Running 𝓤 𝓛.H 𝓜) (env : Env) (key f : Callee) (routine : Routine) (unfolded : Closed 𝓤 𝓛.H (tables 𝓤 𝓛.H 𝓜 𝓡 env).C (tables 𝓤 𝓛.H 𝓜 𝓡 env).Λ key (fn f)) (calls : env f ≡ routine) where
     open 𝓛 use {H}
 
     pub spec : (req : Θ.S.D → List ℕ → SProp 𝓤) (ens : Θ.S.D → List ℕ → Π.R.Denot → Type 0) (told : Θ.S.D → List ℕ → Φ.B.Denot → Θ.S.D → Type 0)

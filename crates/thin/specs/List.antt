@@ -5,8 +5,8 @@
 use Rattle.std.specs.Prelude.{◌≡◌, refl, ℕ, [], ◌∷◌, List, length}
 use Rattle.std.proofs.Common.{ap}
 use seplogic.Ra.Ura.{Ura}
-use seplogic.Ra.TreeShare.{full_share}
-use mir.Syntax.{named, erased, mut, Name, ty_ref, ty_int, w8, Fn, local, value_local, place, deref, field, copy, rv_opd, aggregate, addr_of, seq, assign, call, return}
+use base.Fraction.{full_share}
+use mir.Syntax.{named, erased, mut, Callee, ty_ref, ty_int, w8, Fn, local, value_local, place, deref, field, copy, rv_opd, aggregate, addr_of, seq, assign, call, return}
 use mir.Val.{Val, vptr}
 use base.Logic.{SProp, ent, sep, emp, id⊢}
 use base.Fml.{GName, Lft, Share, ftrue, flft, fobs, fbor, fat}
@@ -67,10 +67,12 @@ module _ (Θ : Lent) (Φ : Ans) (Π : Pair Θ Φ) where
     kept = (yes, (yes, tt));
   }
 
-  abbrev fn : Name → Fn
+  abbrev fn : Callee → Fn
   fn f = record {
     lifetimes = 2;
     outlives = [];
+    ty_params = [];
+    givens = 0;
     params = 2;
     locals = local Φ.B-ty value_local ∷ local (lent_ty Θ) value_local ∷ local (slice_ty (ty_ref (named 1) mut (ty_int w8))) value_local ∷
         local (R_ty Θ Φ Π) value_local ∷ local (S_ty Θ) value_local ∷ local (ty_ref erased mut (ty_int w8)) value_local ∷ local
@@ -145,7 +147,7 @@ module _ (Θ : Lent) (Φ : Ans) (Π : Pair Θ Φ) where
           move ! (1 ∷ []) $ owned ! (S_row Θ) (Is (S_row Θ)) (S-has Θ 𝓛) h _ is $ fjoin ! $ move ! (2 ∷ 0 ∷ []) $ join ! $ join ! $
           done !
 
-      module _ (C : Calls 𝓤 H) (Λ : Loops 𝓤 H) (fm : FmC 𝓤 H 𝓛.laws C) (f : Name) (known : Triple 𝓤 (C f) Core_at) where
+      module _ (C : Calls 𝓤 H) (Λ : Loops 𝓤 H) (fm : FmC 𝓤 H 𝓛.laws C) (f : Callee) (known : Triple 𝓤 (C f) Core_at) where
         walk : ent 𝓤 (sep 𝓤 (on_entry 𝓛 Thin.signature (κ, (κ0, tt)) (q, (q0, tt)) x at) (req h n0))
             (WpFn 𝓤 H C Λ (fn f) (vptr b o ∷ slice_val (b0, o0) (length n0) ∷ []) Post)
         walk =
@@ -194,7 +196,7 @@ module _ (Θ : Lent) (Φ : Ans) (Π : Pair Θ Φ) where
             free1 ! $ move ! (9 ∷ 10 ∷ []) $ free1 ! $ move ! (7 ∷ 8 ∷ []) $ free1 ! $ move ! (5 ∷ 6 ∷ []) $ free1 ! $ free0 ! $
             keep ! (0 ∷ 1 ∷ 2 ∷ 3 ∷ 4 ∷ []) $ by ! (exits r ws e (Π.B-is r _ is))))))))))))))))
 
-    pub meets : (𝓣 : Tables 𝓤 H) (f : Name) → Triple 𝓤 (𝓣.C f) Core_at → Meets 𝓛 Thin.signature (WpFn 𝓤 H 𝓣.C 𝓣.Λ (fn f))
+    pub meets : (𝓣 : Tables 𝓤 H) (f : Callee) → Triple 𝓤 (𝓣.C f) Core_at → Meets 𝓛 Thin.signature (WpFn 𝓤 H 𝓣.C 𝓣.Λ (fn f))
         (closing 𝓛 Thin thin)
     meets 𝓣 f known =
         walk_Meets 𝓛 Thin stayed (
@@ -209,7 +211,7 @@ module _ (Θ : Lent) (Φ : Ans) (Π : Pair Θ Φ) where
         known))
 
   -- the function itself, from core's theorem
-  module _ {M : Type 1} {𝓤 : Ura M} (𝓛 : Logic 𝓤) (𝓜 : Model 𝓤 𝓛.H) (𝓡 : Running 𝓤 𝓛.H 𝓜) (env : Env) (key f : Name)
+  module _ {M : Type 1} {𝓤 : Ura M} (𝓛 : Logic 𝓤) (𝓜 : Model 𝓤 𝓛.H) (𝓡 : Running 𝓤 𝓛.H 𝓜) (env : Env) (key f : Callee)
       (routine : Routine) (unfolded : Closed 𝓤 𝓛.H (tables 𝓤 𝓛.H 𝓜 𝓡 env).C (tables 𝓤 𝓛.H 𝓜 𝓡 env).Λ key (fn f)) (calls : env f ≡ routine)
     where
       open 𝓛 use {H}

@@ -5,8 +5,8 @@
 use Rattle.std.specs.Prelude.{◌≡◌, refl, ℕ, [], ◌∷◌, List}
 use Rattle.std.proofs.Common.{ap}
 use seplogic.Ra.Ura.{Ura}
-use seplogic.Ra.TreeShare.{full_share}
-use mir.Syntax.{named, Name, Fn, local, value_local, place, deref, field, copy, rv_opd, seq, assign, call, return}
+use base.Fraction.{full_share}
+use mir.Syntax.{named, Callee, Fn, local, value_local, place, deref, field, copy, rv_opd, seq, assign, call, return}
 use mir.Val.{Val, vptr}
 use base.Logic.{SProp, ent, sep, emp, id⊢}
 use base.Fml.{GName, Lft, Share, ftrue, flft, fobs, fbor, fat}
@@ -65,10 +65,12 @@ module _ (Θ : Lent) (Φ : Ans) (Π : Pair Θ Φ) (P0 : Arg) where
     kept = (yes, (yes, tt));
   }
 
-  abbrev fn : Name → Fn
+  abbrev fn : Callee → Fn
   fn f = record {
     lifetimes = 1;
     outlives = [];
+    ty_params = [];
+    givens = 0;
     params = 2;
     locals = local Φ.B-ty value_local ∷ local (lent_ty Θ) value_local ∷ local P0.ty value_local ∷ local (R_ty Θ Φ Π) value_local ∷
         local (S_ty Θ) value_local ∷ [];
@@ -131,7 +133,7 @@ module _ (Θ : Lent) (Φ : Ans) (Π : Pair Θ Φ) (P0 : Arg) where
         goes_core is = qed 𝓛 (raw (req h n0) ∷ ‵ (owns (P0.row ∷ []) x.1 at.1) ∷ ‵ ftrue ∷ []) ∵ move ! (1 ∷ []) $
             owned ! (S_row Θ) (Is (S_row Θ)) (S-has Θ 𝓛) h _ is $ fjoin ! $ move ! (2 ∷ 0 ∷ []) $ join ! $ join ! $ done !
 
-        module _ (C : Calls 𝓤 H) (Λ : Loops 𝓤 H) (fm : FmC 𝓤 H 𝓛.laws C) (f : Name) (known : Triple 𝓤 (C f) Core_at) where
+        module _ (C : Calls 𝓤 H) (Λ : Loops 𝓤 H) (fm : FmC 𝓤 H 𝓛.laws C) (f : Callee) (known : Triple 𝓤 (C f) Core_at) where
           walk : ent 𝓤 (sep 𝓤 (on_entry 𝓛 Thin.signature (κ, tt) (q, tt) x at) (req h n0))
               (WpFn 𝓤 H C Λ (fn f) (vptr b o ∷ P0.val n0 ∷ []) Post)
           walk =
@@ -171,7 +173,7 @@ module _ (Θ : Lent) (Φ : Ans) (Π : Pair Θ Φ) (P0 : Arg) where
               free1 ! $ move ! (5 ∷ 6 ∷ []) $ free1 ! $ free0 ! $
               keep ! (0 ∷ 1 ∷ 2 ∷ 3 ∷ 4 ∷ []) $ by ! (exits r ws e (Π.B-is r _ is))))))))))))))
 
-    pub meets : (𝓣 : Tables 𝓤 H) (f : Name) → Triple 𝓤 (𝓣.C f) Core_at → Meets 𝓛 Thin.signature (WpFn 𝓤 H 𝓣.C 𝓣.Λ (fn f))
+    pub meets : (𝓣 : Tables 𝓤 H) (f : Callee) → Triple 𝓤 (𝓣.C f) Core_at → Meets 𝓛 Thin.signature (WpFn 𝓤 H 𝓣.C 𝓣.Λ (fn f))
         (closing 𝓛 Thin thin)
     meets 𝓣 f known =
         walk_Meets 𝓛 Thin stayed (
@@ -185,7 +187,7 @@ module _ (Θ : Lent) (Φ : Ans) (Π : Pair Θ Φ) (P0 : Arg) where
         𝓣.Λ (fm_of 𝓤 H 𝓛.laws 𝓣) f known))
 
   -- the function itself, from core's theorem
-  module _ {M : Type 1} {𝓤 : Ura M} (𝓛 : Logic 𝓤) (𝓜 : Model 𝓤 𝓛.H) (𝓡 : Running 𝓤 𝓛.H 𝓜) (env : Env) (key f : Name)
+  module _ {M : Type 1} {𝓤 : Ura M} (𝓛 : Logic 𝓤) (𝓜 : Model 𝓤 𝓛.H) (𝓡 : Running 𝓤 𝓛.H 𝓜) (env : Env) (key f : Callee)
       (routine : Routine) (unfolded : Closed 𝓤 𝓛.H (tables 𝓤 𝓛.H 𝓜 𝓡 env).C (tables 𝓤 𝓛.H 𝓜 𝓡 env).Λ key (fn f)) (calls : env f ≡ routine)
     where
       open 𝓛 use {H}

@@ -163,14 +163,13 @@ module _ (Θ Ψ : Lent) (Φ : Ans) (Π : Pair Θ Φ) (P : Arg) where
             assigns ! (of_opd ! (load ! (from ! (hop ! (look ! 17 refl) (stop !))) (look_raw ! 0 refl))) (from ! (stop !))
             (init ! 9 refl ((LL.lawful Θ.S Θ.S-laws 𝓛).typed h _ was).0) $
             -- the second record: what is shared of it; its token; the others; the plain parameter's
-            move ! (6 ∷ []) $ fsplit ! $ fsplit3 ! $ drop ! $ move ! (8 ∷ []) $ split ! $ move ! (3 ∷ 0 ∷ 1 ∷ 4 ∷ []) $
-            looks ! tt (S_row Ψ) (Is (S_row Ψ)) (shows 𝓛 (S_row Ψ)) (S_vals Ψ) (LL.tells Ψ.S Ψ.S-laws)
-            (LL.copy Ψ.S Ψ.S-copy 𝓛) t b' o' (λ part vs'. spelt ! (S_row Ψ) (Is (S_row Ψ)) (shows 𝓛 (S_row Ψ)) (S_vals Ψ)
+            move ! (6 ∷ []) $ fsplit ! $ fsplit ! $ drop ! $ move ! (7 ∷ []) $ split ! $ move ! (2 ∷ 0 ∷ 1 ∷ 3 ∷ []) $
+            looks ! tt (S_row Ψ) (LL.copied Ψ.S Ψ.S-copy 𝓛).opens t b' o' (λ part vs'. spelt ! (S_row Ψ) (Is (S_row Ψ)) (shows 𝓛 (S_row Ψ)) (S_vals Ψ)
             (LL.tells Ψ.S Ψ.S-laws) part t vs' b' o' $
             move ! (1 ∷ []) $ peeks ! (S_row Ψ) (Is (S_row Ψ)) (shows 𝓛 (S_row Ψ)) t (S_vals Ψ t) (λ was_t. move ! (1 ∷ 0 ∷ []) $
-            assigns ! (of_opd ! (load ! (from ! (hop ! (look ! 20 refl) (stop !))) (look_raw ! 0 refl))) (from ! (stop !))
-            (init ! 12 refl ((LL.lawful Ψ.S Ψ.S-laws 𝓛).typed t _ was_t).0) $
-            shuts ! tt (S_row Ψ) part t (S_vals Ψ t) b' o' $ move ! (1 ∷ []) $ drop ! $ move ! (3 ∷ []) $ drop ! $
+            assigns ! (of_opd ! (load ! (from ! (hop ! (look ! 19 refl) (stop !))) (look_raw ! 0 refl))) (from ! (stop !))
+            (init ! 11 refl ((LL.lawful Ψ.S Ψ.S-laws 𝓛).typed t _ was_t).0) $
+            shuts ! tt (S_row Ψ) part t (S_vals Ψ t) b' o' $ move ! (1 ∷ []) $ drop ! $
             -- [its token; the others; the plain parameter's; the record's cell; what it owns; the open borrow; obs; auth; the last local; …]
             move ! (22 ∷ 2 ∷ 1 ∷ []) $ use3 𝓛 (raw (Core_at.pre to_core)) (goes_core was was_t) $
             calls_at ! fm Core_at known to_core (and_then ! (load ! (from ! (stop !)) (look ! 9 refl))

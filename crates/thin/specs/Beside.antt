@@ -71,12 +71,13 @@ module _ (Θ Ψ : Lent) (Φ : Ans) (Π : Pair Θ Φ) (P : Arg) where
     givens = 0;
     params = 3;
     locals = local Φ.B-ty value_local ∷ local (lent_ty Θ) value_local ∷ local (ty_ref (named 1) imm (pointee (S_row Ψ).written)) value_local ∷
-        local P.ty value_local ∷ local (R_ty Θ Φ Π) value_local ∷ local (S_ty Θ) value_local ∷ local (S_ty Ψ) value_local ∷ [];
+        local P.ty value_local ∷ local (R_ty Θ Φ Π) value_local ∷ local (S_ty Θ) value_local ∷ local (S_ty Ψ) value_local ∷ local (S_ty Θ) value_local ∷ [];
     body = seq (assign (place 5 []) (rv_opd (copy (place 1 (deref (S_ty Θ) ∷ [])))))
         (seq (assign (place 6 []) (rv_opd (copy (place 2 (deref (S_ty Ψ) ∷ [])))))
         (seq (call f (copy (place 5 []) ∷ copy (place 6 []) ∷ copy (place 3 []) ∷ []) (place 4 []))
-        (seq (assign (place 1 (deref (S_ty Θ) ∷ [])) (rv_opd (copy (place 4 (field 0 ∷ [])))))
-        (seq (assign (place 0 []) (rv_opd (copy (place 4 (field 1 ∷ []))))) return))));
+        (seq (assign (place 7 []) (rv_opd (copy (place 4 (field 0 ∷ [])))))
+        (seq (assign (place 1 (deref (S_ty Θ) ∷ [])) (rv_opd (copy (place 7 []))))
+        (seq (assign (place 0 []) (rv_opd (copy (place 4 (field 1 ∷ []))))) return)))));
   }
 
   abbrev stayed : Stays Thin.signature.params Thin.kept
@@ -152,28 +153,28 @@ module _ (Θ Ψ : Lent) (Φ : Ans) (Π : Pair Θ Φ) (P : Arg) where
             qed 𝓛 (((‵ (flft κ q) ⊛ ‵ (flft κ' q') ⊛ ‵ ftrue) ⊛ ‵
             (owns (MutRef (named 0) κ (S_row Θ) ∷ ShrRef (named 1) κ' (S_row Ψ) ∷ P.row ∷ []) x at)) ∷ raw (req h t n) ∷ []) ∵
             split ! $ enter ! C Λ (fn f) (vptr b o ∷ vptr b' o' ∷ P.val n ∷ []) _ $
-            alloc1 ! (λ l0. alloc1 ! (λ l1. alloc1 ! (λ l2. alloc1 ! (λ l3. alloc1 ! (λ l4. alloc1 ! (λ l5. alloc1 ! (λ l6. alloc0 ! $ params1 ! $
-            pass1 ! (init ! 10 refl (tt, tt)) $ pass1 ! (init ! 8 refl (tt, tt)) $ pass1 ! (init ! 6 refl (P.typed 𝓛 n _ is_n)) $ pass0 ! $
-            move ! (15 ∷ []) $ fsplit ! $ fsplit3 ! $ drop ! $ move ! (17 ∷ []) $ split ! $ move ! (2 ∷ 3 ∷ 0 ∷ []) $
+            alloc1 ! (λ l0. alloc1 ! (λ l1. alloc1 ! (λ l2. alloc1 ! (λ l3. alloc1 ! (λ l4. alloc1 ! (λ l5. alloc1 ! (λ l6. alloc1 ! (λ l7. alloc0 ! $ params1 ! $
+            pass1 ! (init ! 12 refl (tt, tt)) $ pass1 ! (init ! 10 refl (tt, tt)) $ pass1 ! (init ! 8 refl (P.typed 𝓛 n _ is_n)) $ pass0 ! $
+            move ! (17 ∷ []) $ fsplit ! $ fsplit3 ! $ drop ! $ move ! (19 ∷ []) $ split ! $ move ! (2 ∷ 3 ∷ 0 ∷ []) $
             opens ! tt (S_row Θ) {h = h} b o (λ vs. spelt ! (S_row Θ) (Is (S_row Θ)) (shows 𝓛 (S_row Θ)) (S_vals Θ)
             (LL.tells Θ.S Θ.S-laws) full_share h vs b o $
             move ! (1 ∷ []) $ peeks ! (S_row Θ) (Is (S_row Θ)) (shows 𝓛 (S_row Θ)) h (S_vals Θ h) (λ was. move ! (1 ∷ 0 ∷ []) $
             -- [the record's cell; what it owns; the open borrow; obs; auth; the other tokens; what the further parameters own; the last local;
             -- …; room for _0; …; the requires]
-            assigns ! (of_opd ! (load ! (from ! (hop ! (look ! 17 refl) (stop !))) (look_raw ! 0 refl))) (from ! (stop !))
-            (init ! 9 refl ((LL.lawful Θ.S Θ.S-laws 𝓛).typed h _ was).0) $
+            assigns ! (of_opd ! (load ! (from ! (hop ! (look ! 19 refl) (stop !))) (look_raw ! 0 refl))) (from ! (stop !))
+            (init ! 11 refl ((LL.lawful Θ.S Θ.S-laws 𝓛).typed h _ was).0) $
             -- the second record: what is shared of it; its token; the others; the plain parameter's
             move ! (6 ∷ []) $ fsplit ! $ fsplit ! $ drop ! $ move ! (7 ∷ []) $ split ! $ move ! (2 ∷ 0 ∷ 1 ∷ 3 ∷ []) $
             looks ! tt (S_row Ψ) (LL.copied Ψ.S Ψ.S-copy 𝓛).opens t b' o' (λ part vs'. spelt ! (S_row Ψ) (Is (S_row Ψ)) (shows 𝓛 (S_row Ψ)) (S_vals Ψ)
             (LL.tells Ψ.S Ψ.S-laws) part t vs' b' o' $
             move ! (1 ∷ []) $ peeks ! (S_row Ψ) (Is (S_row Ψ)) (shows 𝓛 (S_row Ψ)) t (S_vals Ψ t) (λ was_t. move ! (1 ∷ 0 ∷ []) $
-            assigns ! (of_opd ! (load ! (from ! (hop ! (look ! 19 refl) (stop !))) (look_raw ! 0 refl))) (from ! (stop !))
-            (init ! 11 refl ((LL.lawful Ψ.S Ψ.S-laws 𝓛).typed t _ was_t).0) $
+            assigns ! (of_opd ! (load ! (from ! (hop ! (look ! 21 refl) (stop !))) (look_raw ! 0 refl))) (from ! (stop !))
+            (init ! 13 refl ((LL.lawful Ψ.S Ψ.S-laws 𝓛).typed t _ was_t).0) $
             shuts ! tt (S_row Ψ) part t (S_vals Ψ t) b' o' $ move ! (1 ∷ []) $ drop ! $
             -- [its token; the others; the plain parameter's; the record's cell; what it owns; the open borrow; obs; auth; the last local; …]
-            move ! (22 ∷ 2 ∷ 1 ∷ []) $ use3 𝓛 (raw (Core_at.pre to_core)) (goes_core was was_t) $
-            calls_at ! fm Core_at known to_core (and_then ! (load ! (from ! (stop !)) (look ! 9 refl))
-            (and_then ! (load ! (from ! (stop !)) (look ! 7 refl)) (and_then ! (load ! (from ! (stop !)) (look ! 13 refl)) (no_more !)))) (λ v.
+            move ! (24 ∷ 2 ∷ 1 ∷ []) $ use3 𝓛 (raw (Core_at.pre to_core)) (goes_core was was_t) $
+            calls_at ! fm Core_at known to_core (and_then ! (load ! (from ! (stop !)) (look ! 11 refl))
+            (and_then ! (load ! (from ! (stop !)) (look ! 9 refl)) (and_then ! (load ! (from ! (stop !)) (look ! 15 refl)) (no_more !)))) (λ v.
             use1 𝓛 (later (some (λ (r : Π.R.Denot). (‵ ftrue ⊛ ‵ (Π.R.own_val r (v ∷ []))) ⊛ raw
             (ensured 𝓛 Core core tt cx tt r)))) (id⊢ 𝓤 _) $ await ! tt $ pick ! (λ r.
             split ! $ move ! (1 ∷ []) $ use1 𝓛 (some (λ (ws : Lasts Core tt cx). ‵ (lasts Core tt cx ws) ⊛ raw
@@ -182,20 +183,21 @@ module _ (Θ Ψ : Lent) (Φ : Ans) (Π : Pair Θ Φ) (P : Arg) where
             move ! (1 ∷ []) $ peeks ! Π.R (Is Π.R) (shows 𝓛 Π.R) r (v ∷ []) (λ is. drop ! $
             move ! (0 ∷ 1 ∷ 3 ∷ 4 ∷ 5 ∷ 6 ∷ 7 ∷ 2 ∷ []) $
             -- [the others; what is said at exit; the record's cell; what it owns; the open borrow; obs; auth; the second's token; the last local; …]
-            land ! (from ! (stop !)) (init ! 12 refl (Π.R-typed 𝓛 r _ is)) $
-            rewrite ! 12 (λ (u : Val). ‵ (fat full_share (R_ty Θ Φ Π) l4 0 u)) (ap only (Π.R-tells r _ is)) refl $
-            assigns ! (of_opd ! (load ! (from ! (fld ! refl (stop !))) (look_in ! 12 (sub ! 0 refl (whole !)))))
-            (from ! (hop ! (look ! 18 refl) (stop !)))
+            land ! (from ! (stop !)) (init ! 14 refl (Π.R-typed 𝓛 r _ is)) $
+            rewrite ! 14 (λ (u : Val). ‵ (fat full_share (R_ty Θ Φ Π) l4 0 u)) (ap only (Π.R-tells r _ is)) refl $
+            assigns ! (of_opd ! (load ! (from ! (fld ! refl (stop !))) (look_in ! 14 (sub ! 0 refl (whole !))))) (from ! (stop !))
+            (init ! 8 refl ((LL.lawful Θ.S Θ.S-laws 𝓛).typed (Π.the_s r) _ (Π.S-is r _ is)).0) $
+            assigns ! (of_opd ! (load ! (from ! (stop !)) (look ! 8 refl))) (from ! (hop ! (look ! 20 refl) (stop !)))
             (store_raw ! 2 refl ((LL.lawful Θ.S Θ.S-laws 𝓛).typed (Π.the_s r) _ (Π.S-is r _ is)).0) $
-            assigns ! (of_opd ! (load ! (from ! (fld ! refl (stop !))) (look_in ! 12 (sub ! 1 refl (whole !))))) (from ! (stop !))
-            (init ! 20 refl (Φ.B-typed 𝓛 (Π.the_b r) _ (Π.B-is r _ is))) $
+            assigns ! (of_opd ! (load ! (from ! (fld ! refl (stop !))) (look_in ! 14 (sub ! 1 refl (whole !))))) (from ! (stop !))
+            (init ! 22 refl (Φ.B-typed 𝓛 (Π.the_b r) _ (Π.B-is r _ is))) $
             move ! (3 ∷ []) $ drop ! $ owned ! (S_row Θ) (Is (S_row Θ)) (S-has Θ 𝓛) (Π.the_s r) _ (Π.S-is r _ is) $
             move ! (3 ∷ 0 ∷ 4 ∷ 5 ∷ 6 ∷ []) $ closes ! tt (S_row Θ) (Π.the_s r) (S_vals Θ (Π.the_s r)) b o $
-            returns ! (look ! 18 refl) $ forget ! 6 refl $ forget ! 8 refl $ forget ! 10 refl $ forget ! 12 refl $ forget ! 14 refl $
-            forget ! 16 refl $ forget ! 18 refl $
-            move ! (18 ∷ 19 ∷ []) $ free1 ! $ move ! (16 ∷ 17 ∷ []) $ free1 ! $ move ! (14 ∷ 15 ∷ []) $ free1 ! $ move ! (12 ∷ 13 ∷ []) $
+            returns ! (look ! 20 refl) $ forget ! 6 refl $ forget ! 8 refl $ forget ! 10 refl $ forget ! 12 refl $ forget ! 14 refl $
+            forget ! 16 refl $ forget ! 18 refl $ forget ! 20 refl $
+            move ! (20 ∷ 21 ∷ []) $ free1 ! $ move ! (18 ∷ 19 ∷ []) $ free1 ! $ move ! (16 ∷ 17 ∷ []) $ free1 ! $ move ! (14 ∷ 15 ∷ []) $ free1 ! $ move ! (12 ∷ 13 ∷ []) $
             free1 ! $ move ! (10 ∷ 11 ∷ []) $ free1 ! $ move ! (8 ∷ 9 ∷ []) $ free1 ! $ move ! (6 ∷ 7 ∷ []) $ free1 ! $ free0 ! $
-            keep ! (0 ∷ 1 ∷ 2 ∷ 3 ∷ 4 ∷ 5 ∷ []) $ by ! (exits r ws e (Π.B-is r _ is))))))))))))))))))
+            keep ! (0 ∷ 1 ∷ 2 ∷ 3 ∷ 4 ∷ 5 ∷ []) $ by ! (exits r ws e (Π.B-is r _ is)))))))))))))))))))
 
     pub meets : (𝓣 : Tables 𝓤 H) (f : Callee) → Triple 𝓤 (𝓣.C f) Core_at → Meets 𝓛 Thin.signature (WpFn 𝓤 H 𝓣.C 𝓣.Λ (fn f))
         (closing 𝓛 Thin thin)

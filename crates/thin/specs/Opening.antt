@@ -56,11 +56,12 @@ module _ (Θ : Lent) (Φ : Ans) (Π : Pair Θ Φ) (P0 : Arg) (P2 : Arg) where
     ty_params = [];
     givens = 0;
     params = 4;
-    locals = local Φ.B-ty value_local ∷ local (lent_ty Θ) value_local ∷ local P0.ty value_local ∷ local (slice_ty (ty_ref (named 1) imm (ty_int w32))) value_local ∷ local P2.ty value_local ∷ local (R_ty Θ Φ Π) value_local ∷ local (S_ty Θ) value_local ∷ [];
+    locals = local Φ.B-ty value_local ∷ local (lent_ty Θ) value_local ∷ local P0.ty value_local ∷ local (slice_ty (ty_ref (named 1) imm (ty_int w32))) value_local ∷ local P2.ty value_local ∷ local (R_ty Θ Φ Π) value_local ∷ local (S_ty Θ) value_local ∷ local (S_ty Θ) value_local ∷ [];
     body = seq (assign (place 6 []) (rv_opd (copy (place 1 (deref (S_ty Θ) ∷ [])))))
         (seq (call f (copy (place 6 []) ∷ copy (place 2 []) ∷ copy (place 3 []) ∷ copy (place 4 []) ∷ []) (place 5 []))
-        (seq (assign (place 1 (deref (S_ty Θ) ∷ [])) (rv_opd (copy (place 5 (field 0 ∷ [])))))
-        (seq (assign (place 0 []) (rv_opd (copy (place 5 (field 1 ∷ []))))) return)));
+        (seq (assign (place 7 []) (rv_opd (copy (place 5 (field 0 ∷ [])))))
+        (seq (assign (place 1 (deref (S_ty Θ) ∷ [])) (rv_opd (copy (place 7 []))))
+        (seq (assign (place 0 []) (rv_opd (copy (place 5 (field 1 ∷ []))))) return))));
   }
 
   abbrev stayed : Stays Thin.signature.params Thin.kept
@@ -114,26 +115,29 @@ module _ (Θ : Lent) (Φ : Ans) (Π : Pair Θ Φ) (P0 : Arg) (P2 : Arg) where
         walk : ent 𝓤 (sep 𝓤 (on_entry 𝓛 Thin.signature (κ, (κ1, tt)) (q, (q1, tt)) x at) (req h n0 n1 n2)) (WpFn 𝓤 H C Λ (fn f) (vptr b o ∷ P0.val n0 ∷ slice_val (b1, o1) (length n1) ∷ P2.val n2 ∷ []) Post)
         walk =
             qed 𝓛 (((‵ (flft κ q) ⊛ ‵ (flft κ1 q1) ⊛ ‵ ftrue) ⊛ ‵ (owns (MutRef (named 0) κ (S_row Θ) ∷ P0.row ∷ ShrSlice (named 1) κ1 i32 ∷ P2.row ∷ []) x at)) ∷ raw (req h n0 n1 n2) ∷ []) ∵ split ! $ enter ! C Λ (fn f) (vptr b o ∷ P0.val n0 ∷ slice_val (b1, o1) (length n1) ∷ P2.val n2 ∷ []) _ $
-            alloc1 ! (λ l0. alloc1 ! (λ l1. alloc1 ! (λ l2. alloc1 ! (λ l3. alloc1 ! (λ l4. alloc1 ! (λ l5. alloc1 ! (λ l6. alloc0 ! $ params1 ! $ pass1 ! (init ! 10 refl (tt, tt)) $ pass1 ! (init ! 8 refl (P0.typed 𝓛 n0 _ is0)) $ pass1 ! (init ! 6 refl (tt, (tt, (record { fits = room1.0 }, tt)))) $ pass1 ! (init ! 4 refl (P2.typed 𝓛 n2 _ is2)) $ pass0 ! $
-            move ! (15 ∷ []) $ fsplit ! $ fsplit3 ! $ drop ! $ move ! (17 ∷ []) $ split ! $ move ! (2 ∷ 3 ∷ 0 ∷ []) $
+            alloc1 ! (λ l0. alloc1 ! (λ l1. alloc1 ! (λ l2. alloc1 ! (λ l3. alloc1 ! (λ l4. alloc1 ! (λ l5. alloc1 ! (λ l6. alloc1 ! (λ l7. alloc0 ! $ params1 ! $ pass1 ! (init ! 12 refl (tt, tt)) $ pass1 ! (init ! 10 refl (P0.typed 𝓛 n0 _ is0)) $ pass1 ! (init ! 8 refl (tt, (tt, (record { fits = room1.0 }, tt)))) $ pass1 ! (init ! 6 refl (P2.typed 𝓛 n2 _ is2)) $ pass0 ! $
+            move ! (17 ∷ []) $ fsplit ! $ fsplit3 ! $ drop ! $ move ! (19 ∷ []) $ split ! $ move ! (2 ∷ 3 ∷ 0 ∷ []) $
             opens ! tt (S_row Θ) {h = h} b o (λ vs. spelt ! (S_row Θ) (Is (S_row Θ)) (shows 𝓛 (S_row Θ)) (S_vals Θ) (LL.tells Θ.S Θ.S-laws) full_share h vs b o $
             move ! (1 ∷ []) $ peeks ! (S_row Θ) (Is (S_row Θ)) (shows 𝓛 (S_row Θ)) h (S_vals Θ h) (λ was. move ! (1 ∷ 0 ∷ []) $
             -- [the record's cell; what it owns; the open borrow; obs; auth; the tokens; what the further parameters own; the last local; …; room for _0; …; the requires]
-            assigns ! (of_opd ! (load ! (from ! (hop ! (look ! 17 refl) (stop !))) (look_raw ! 0 refl))) (from ! (stop !)) (init ! 7 refl ((LL.lawful Θ.S Θ.S-laws 𝓛).typed h _ was).0) $
-            move ! (21 ∷ 6 ∷ 5 ∷ []) $ use3 𝓛 (raw (Core_at.pre to_core)) (goes_core was) $
-            calls_at ! fm Core_at known to_core (and_then ! (load ! (from ! (stop !)) (look ! 6 refl)) (and_then ! (load ! (from ! (stop !)) (look ! 14 refl)) (and_then ! (load ! (from ! (stop !)) (look ! 12 refl)) (and_then ! (load ! (from ! (stop !)) (look ! 10 refl)) (no_more !))))) (λ v.
+            assigns ! (of_opd ! (load ! (from ! (hop ! (look ! 19 refl) (stop !))) (look_raw ! 0 refl))) (from ! (stop !)) (init ! 9 refl ((LL.lawful Θ.S Θ.S-laws 𝓛).typed h _ was).0) $
+            move ! (23 ∷ 6 ∷ 5 ∷ []) $ use3 𝓛 (raw (Core_at.pre to_core)) (goes_core was) $
+            calls_at ! fm Core_at known to_core (and_then ! (load ! (from ! (stop !)) (look ! 8 refl)) (and_then ! (load ! (from ! (stop !)) (look ! 16 refl)) (and_then ! (load ! (from ! (stop !)) (look ! 14 refl)) (and_then ! (load ! (from ! (stop !)) (look ! 12 refl)) (no_more !))))) (λ v.
             use1 𝓛 (later (some (λ (r : Π.R.Denot). ((‵ (flft κ1 q1) ⊛ ‵ ftrue) ⊛ ‵ (Π.R.own_val r (v ∷ []))) ⊛ raw (ensured 𝓛 Core core (κ1, tt) (h, cx) tt r)))) (id⊢ 𝓤 _) $ await ! tt $ pick ! (λ r.
             split ! $ move ! (1 ∷ []) $ use1 𝓛 (some (λ (ws : Lasts Core (κ1, tt) (h, cx)). ‵ (lasts Core (κ1, tt) (h, cx) ws) ⊛ raw (fact 𝓤 (ens h n0 n1 n2 r)))) (id⊢ 𝓤 _) $ pick ! (λ ws.
             split ! $ move ! (1 ∷ []) $ heard ! (ens h n0 n1 n2 r) (λ e. fsplit ! $ drop ! $ move ! (1 ∷ []) $ split ! $ move ! (1 ∷ []) $
             peeks ! Π.R (Is Π.R) (shows 𝓛 Π.R) r (v ∷ []) (λ is. drop ! $
             -- [the tokens; what is said at exit; the record's cell; what it owns; the open borrow; obs; auth; the last local; …]
-            land ! (from ! (stop !)) (init ! 9 refl (Π.R-typed 𝓛 r _ is)) $ rewrite ! 9 (λ (u : Val). ‵ (fat full_share (R_ty Θ Φ Π) l5 0 u)) (ap only (Π.R-tells r _ is)) refl $
-            assigns ! (of_opd ! (load ! (from ! (fld ! refl (stop !))) (look_in ! 9 (sub ! 0 refl (whole !))))) (from ! (hop ! (look ! 17 refl) (stop !))) (store_raw ! 2 refl ((LL.lawful Θ.S Θ.S-laws 𝓛).typed (Π.the_s r) _ (Π.S-is r _ is)).0) $
-            assigns ! (of_opd ! (load ! (from ! (fld ! refl (stop !))) (look_in ! 9 (sub ! 1 refl (whole !))))) (from ! (stop !)) (init ! 19 refl (Φ.B-typed 𝓛 (Π.the_b r) _ (Π.B-is r _ is))) $
+            land ! (from ! (stop !)) (init ! 11 refl (Π.R-typed 𝓛 r _ is)) $ rewrite ! 11 (λ (u : Val). ‵ (fat full_share (R_ty Θ Φ Π) l5 0 u)) (ap only (Π.R-tells r _ is)) refl $
+            assigns ! (of_opd ! (load ! (from ! (fld ! refl (stop !))) (look_in ! 11 (sub ! 0 refl (whole !))))) (from ! (stop !))
+            (init ! 7 refl ((LL.lawful Θ.S Θ.S-laws 𝓛).typed (Π.the_s r) _ (Π.S-is r _ is)).0) $
+            assigns ! (of_opd ! (load ! (from ! (stop !)) (look ! 7 refl))) (from ! (hop ! (look ! 19 refl) (stop !)))
+            (store_raw ! 2 refl ((LL.lawful Θ.S Θ.S-laws 𝓛).typed (Π.the_s r) _ (Π.S-is r _ is)).0) $
+            assigns ! (of_opd ! (load ! (from ! (fld ! refl (stop !))) (look_in ! 11 (sub ! 1 refl (whole !))))) (from ! (stop !)) (init ! 21 refl (Φ.B-typed 𝓛 (Π.the_b r) _ (Π.B-is r _ is))) $
             move ! (3 ∷ []) $ drop ! $ owned ! (S_row Θ) (Is (S_row Θ)) (S-has Θ 𝓛) (Π.the_s r) _ (Π.S-is r _ is) $ move ! (3 ∷ 0 ∷ 4 ∷ 5 ∷ 6 ∷ []) $ closes ! tt (S_row Θ) (Π.the_s r) (S_vals Θ (Π.the_s r)) b o $
-            returns ! (look ! 17 refl) $ forget ! 5 refl $ forget ! 7 refl $ forget ! 9 refl $ forget ! 11 refl $ forget ! 13 refl $ forget ! 15 refl $ forget ! 17 refl $
-            move ! (17 ∷ 18 ∷ []) $ free1 ! $ move ! (15 ∷ 16 ∷ []) $ free1 ! $ move ! (13 ∷ 14 ∷ []) $ free1 ! $ move ! (11 ∷ 12 ∷ []) $ free1 ! $ move ! (9 ∷ 10 ∷ []) $ free1 ! $ move ! (7 ∷ 8 ∷ []) $ free1 ! $ move ! (5 ∷ 6 ∷ []) $ free1 ! $ free0 ! $
-            keep ! (0 ∷ 1 ∷ 2 ∷ 3 ∷ 4 ∷ []) $ by ! (exits r ws e (Π.B-is r _ is))))))))))))))))
+            returns ! (look ! 19 refl) $ forget ! 5 refl $ forget ! 7 refl $ forget ! 9 refl $ forget ! 11 refl $ forget ! 13 refl $ forget ! 15 refl $ forget ! 17 refl $ forget ! 19 refl $
+            move ! (19 ∷ 20 ∷ []) $ free1 ! $ move ! (17 ∷ 18 ∷ []) $ free1 ! $ move ! (15 ∷ 16 ∷ []) $ free1 ! $ move ! (13 ∷ 14 ∷ []) $ free1 ! $ move ! (11 ∷ 12 ∷ []) $ free1 ! $ move ! (9 ∷ 10 ∷ []) $ free1 ! $ move ! (7 ∷ 8 ∷ []) $ free1 ! $ move ! (5 ∷ 6 ∷ []) $ free1 ! $ free0 ! $
+            keep ! (0 ∷ 1 ∷ 2 ∷ 3 ∷ 4 ∷ []) $ by ! (exits r ws e (Π.B-is r _ is)))))))))))))))))
 
     pub meets : (𝓣 : Tables 𝓤 H) (f : Callee) → Triple 𝓤 (𝓣.C f) Core_at → Meets 𝓛 Thin.signature (WpFn 𝓤 H 𝓣.C 𝓣.Λ (fn f)) (closing 𝓛 Thin thin)
     meets 𝓣 f known =

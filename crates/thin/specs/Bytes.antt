@@ -1,12 +1,12 @@
 -- The walk of a thin function whose further parameters are: a `&[u8]`.
 --     pub fn f(s: &mut S, ..) -> B { let out = core(*s, ..); *s = out.s; out.b }
--- It opens the borrow, copies the record, calls core by its theorem, stores the record that core gives, and closes the borrow. Nothing
--- here is of the calls themselves. Assumes `Logic`.
+-- It opens the borrow, copies the record, calls core by its theorem, stores the record that core gives, by way of a local as the code is
+-- lowered, and closes the borrow. Nothing here is of the calls themselves. Assumes `Logic`.
 use Rattle.std.specs.Prelude.{◌≡◌, refl, ℕ, [], ◌∷◌, List, length}
 use Rattle.std.proofs.Common.{ap}
 use seplogic.Ra.Ura.{Ura}
 use base.Fraction.{full_share}
-use mir.Syntax.{named, mut, imm, Callee, ty_ref, ty_int, w8, Fn, local, value_local, place, deref, field, copy, rv_opd, seq, assign, call, return}
+use mir.Syntax.{named, imm, Callee, ty_ref, ty_int, w8, Fn, local, value_local, place, deref, field, copy, rv_opd, seq, assign, call, return}
 use mir.Val.{Val, vptr}
 use base.Logic.{SProp, ent, sep, emp, id⊢}
 use base.Fml.{GName, Lft, Share, ftrue, flft, fobs, fbor, fat}
@@ -29,7 +29,7 @@ use Rattle.std.specs.Borrow.{u8}
 use denote.Ref.{Bor, MutBor, MutRef, mut_vals, mut_Tells}
 use denote.Slice.{slice_val, shr_slice_vals, slice_ty, ShrSlice, Room, shr_slice_Tells}
 use denote.Signature.{plain, mut_ref_to, shr_slice_of}
-use denote.Steps.{only, opens, closes, owned, peeks, heard, nothing}
+use denote.Steps.{only, opens, closes, owned, peeks, heard}
 use denote.Struct.Steps.{spelt}
 use denote.Struct.Laws as LL
 use denote.Triple.Statement.{Contract, Triple}

@@ -1,7 +1,7 @@
 -- The walk of a thin function whose further parameters are: plain data, a `&[usize]` and a `&[i32]`, as a log is lent.
 --     pub fn f(s: &mut S, ..) -> B { let out = core(*s, ..); *s = out.s; out.b }
--- It opens the borrow, copies the record, calls core by its theorem, stores the record that core gives, and closes the borrow. Nothing
--- here is of the calls themselves. Assumes `Logic`.
+-- It opens the borrow, copies the record, calls core by its theorem, stores the record that core gives, by way of a local as the code is
+-- lowered, and closes the borrow. Nothing here is of the calls themselves. Assumes `Logic`.
 use Rattle.std.specs.Prelude.{◌≡◌, refl, ℕ, [], ◌∷◌, List, length, ℤ}
 use Rattle.std.proofs.Common.{ap}
 use seplogic.Ra.Ura.{Ura}

@@ -101,7 +101,7 @@ bounds-l-wide-in-loop-i c =
 pub join-requires : goal.join-requires
 join-requires c =
     let far-keys : List ℕ = unraised c.args.keys.now c.args.from in
-    let plain : let s = c.args in let l = c.loop-i in ChoiceSoFar (joining s.a.now s.b.now) s.c.now far-keys l.i l.l l.w l.far l.sum-1 = let s = c.args in c.loop-i.invariant.4 (joining s.a.now s.b.now) (λ i h. (refl, refl)) in
+    let plain : let s = c.args in let l = c.loop-i in ChoiceSoFar (joining s.a.now s.b.now) s.c.now far-keys l.i l.l l.w l.far l.sum = let s = c.args in c.loop-i.invariant.4 (joining s.a.now s.b.now) (λ i h. (refl, refl)) in
     plain.long
 
 pub bounds-w-k : goal.bounds-w-k
@@ -134,18 +134,18 @@ bounds-c-k c =
 pub overflow_add-sum : goal.overflow_add-sum
 overflow_add-sum c =
     let far-keys : List ℕ = unraised c.args.keys.now c.args.from in
-    let plain : let s = c.args in let l = c.loop-i in ChoiceSoFar (joining s.a.now s.b.now) s.c.now far-keys l.i l.l l.w l.far l.sum-1 = let s = c.args in c.loop-i.invariant.4 (joining s.a.now s.b.now) (λ i h. (refl, refl)) in
+    let plain : let s = c.args in let l = c.loop-i in ChoiceSoFar (joining s.a.now s.b.now) s.c.now far-keys l.i l.l l.w l.far l.sum = let s = c.args in c.loop-i.invariant.4 (joining s.a.now s.b.now) (λ i h. (refl, refl)) in
     let place_is : c.place-k.result ≡ get_or far-keys.loop-i.i 0 % 256 = let l = c.loop-i in c.place-k.ensures ∙ l.invariant.6 l.i (omega arith) in
     let edge : let s = c.args in Joins s.a.now s.b.now s.c.now c.place-k.result = let l = c.loop-i in
     let s = c.args in
     subst (λ (k : ℕ). Joins s.a.now s.b.now s.c.now k) (sym place_is) (l.invariant.3 l.i (omega arith)) in
-    let room : let s = c.args in c.loop-i.sum-1 + get_or s.c.now c.place-k.result 0 < 18446744073709551616 = sum_fits _ _ c.loop-i.i plain.light edge.3 (omega (arith, c.loop-i.invariant.1, c.loop-i.invariant.2)) in
+    let room : let s = c.args in c.loop-i.sum + get_or s.c.now c.place-k.result 0 < 18446744073709551616 = sum_fits _ _ c.loop-i.i plain.light edge.3 (omega (arith, c.loop-i.invariant.1, c.loop-i.invariant.2)) in
     omega (arith, room)
 
 pub overflow_add-far : goal.overflow_add-far
 overflow_add-far c =
     let far-keys : List ℕ = unraised c.args.keys.now c.args.from in
-    let plain : let s = c.args in let l = c.loop-i in ChoiceSoFar (joining s.a.now s.b.now) s.c.now far-keys l.i l.l l.w l.far l.sum-1 = let s = c.args in c.loop-i.invariant.4 (joining s.a.now s.b.now) (λ i h. (refl, refl)) in
+    let plain : let s = c.args in let l = c.loop-i in ChoiceSoFar (joining s.a.now s.b.now) s.c.now far-keys l.i l.l l.w l.far l.sum = let s = c.args in c.loop-i.invariant.4 (joining s.a.now s.b.now) (λ i h. (refl, refl)) in
     omega (arith, plain.less, c.loop-i.invariant.1, c.loop-i.invariant.2)
 
 pub loop-i-preserved : goal.loop-i-preserved
@@ -159,7 +159,7 @@ loop-i-preserved c =
       l.invariant.2,
       l.invariant.3,
       λ G r. turn c G r,
-      λ G r. lacking_more G s.c.now far-keys l.i l.l l.w l.far l.sum-1 s.enough s.t.next (l.invariant.4 G r)
+      λ G r. lacking_more G s.c.now far-keys l.i l.l l.w l.far l.sum s.enough s.t.next (l.invariant.4 G r)
           (omega (arith, c.if-far-enough.false)) (l.invariant.5 G r),
       l.invariant.6,
     )
@@ -170,7 +170,7 @@ returns-after-loop-i c =
     let l = c.loop-i in
     let s = c.args in (
       l.invariant.4,
-      looks_as_said s.a.now s.b.now s.c.now far-keys s.to s.enough s.t.next l.i l.l l.w l.far l.sum-1
+      looks_as_said s.a.now s.b.now s.c.now far-keys s.to s.enough s.t.next l.i l.l l.w l.far l.sum
           l.invariant.0 l.invariant.1 l.invariant.4 l.invariant.5 (λ h. absurd (omega arith)),
       l.invariant.0,
       l.invariant.1,
@@ -184,7 +184,7 @@ returns-then-far-enough c =
     let s = c.args in
     let enough : s.enough ≤ l.far = omega (arith, c.if-far-enough.true) in (
       l.invariant.4,
-      looks_as_said s.a.now s.b.now s.c.now far-keys s.to s.enough s.t.next l.i l.l l.w l.far l.sum-1
+      looks_as_said s.a.now s.b.now s.c.now far-keys s.to s.enough s.t.next l.i l.l l.w l.far l.sum
           l.invariant.0 l.invariant.1 l.invariant.4 l.invariant.5 (λ h. enough),
       l.invariant.0,
       l.invariant.1,

@@ -40,7 +40,7 @@ overflow_add-all c =
     let s = c.args in
     subst (λ (k : ℕ). (k < max_edges) × (get_or s.c.now k 0 ≤ max_charge)) (sym c.place-k.ensures) (l.invariant.5 l.i (omega arith)) in
     let l = c.loop-i in
-    omega (arith, sum_fits l.all-1 _ (max_edges + 2) (omega (arith, l.invariant.1, l.invariant.3, l.invariant.6)) edge.1 (omega arith))
+    omega (arith, sum_fits l.all _ (max_edges + 2) (omega (arith, l.invariant.1, l.invariant.3, l.invariant.6)) edge.1 (omega arith))
 
 pub loop-i-preserved : goal.loop-i-preserved
 loop-i-preserved c =
@@ -57,7 +57,7 @@ loop-i-preserved c =
       length-set l.w k 1 ∙ l.invariant.4,
       l.invariant.5,
       omega (arith, edge.1, l.invariant.6),
-      two-more s.c.now s.keys.now l.i s.w.now s.sum l.w l.all-1 l.invariant.7 k c.place-k.ensures
+      two-more s.c.now s.keys.now l.i s.w.now s.sum l.w l.all l.invariant.7 k c.place-k.ensures
           (omega (arith, edge.0, l.invariant.4)) (omega (arith, l.invariant.1, c.if-i-eq2.false)),
     )
 
@@ -65,7 +65,7 @@ pub returns-after-loop-i : goal.returns-after-loop-i
 returns-after-loop-i c = let l = c.loop-i in
     let s = c.args in
     let e : l.i ≡ s.f = omega arith in (
-      subst (λ (i : ℕ). TwoTaken s.c.now s.keys.now i s.w.now s.sum l.w l.all-1) e l.invariant.7,
+      subst (λ (i : ℕ). TwoTaken s.c.now s.keys.now i s.w.now s.sum l.w l.all) e l.invariant.7,
       l.invariant.4,
       omega (arith, l.invariant.6),
     )
@@ -73,7 +73,7 @@ returns-after-loop-i c = let l = c.loop-i in
 pub returns-then-i-eq2 : goal.returns-then-i-eq2
 returns-then-i-eq2 c = let l = c.loop-i in
     let s = c.args in (
-      two_spare s.c.now s.keys.now l.i s.w.now s.sum l.w l.all-1 l.invariant.7 s.f l.invariant.0
+      two_spare s.c.now s.keys.now l.i s.w.now s.sum l.w l.all l.invariant.7 s.f l.invariant.0
           (omega (arith, c.if-i-eq2.true)),
       l.invariant.4,
       omega (arith, l.invariant.6, l.invariant.0),

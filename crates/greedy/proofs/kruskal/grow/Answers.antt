@@ -1,7 +1,6 @@
 -- The loop keeps `ChoiceSoFar` and `Lacking`; its two ways through are choice_join and choice_idle.
 use Prim.Native.Nat.{ℕ, ◌≤◌, ◌<◌, ◌-◌, suc, ◌+◌, ◌%◌}
 use mathlib.Core.Path.{◌≡◌, refl, sym, ◌∙◌, ap, subst}
-use mathlib.Core.Logic.{⊎_elim}
 use mathlib.Core.List.{List}
 use lib.ListN.{get_or}
 use native.Mathlib.Omega.{arith}
@@ -12,50 +11,7 @@ use Rattle.greedy.specs.Parting.{unraised, SamePlaces}
 use Rattle.greedy.specs.Stopping.{looks_as_said}
 use Rattle.std.proofs.Common.{rules}
 use Rattle.greedy.proofs.kruskal.grow.Goals as goal
-
-ends : (c : tie.After-y invariant-loop decreases-loop) (G : Network)
-    → let at = place_of c in
-    let s = (at-loop at).before.args in
-    let k = at.place.result in
-    Reads G s.a.now s.b.now (far-keys (at-loop at).before) s.to
-    → (G.a (suc k) ≡ (from-wide2 c.before).wide.result) × (G.b (suc k) ≡ c.before.wide2.result)
-ends c G reads = let at = place_of c in
-    let s = (at-loop at).before.args in
-    let e = place_is at in
-    let r = reads (at-loop at).loop.i at.before.before.before.loop-test.taken in (
-      ap (λ (z : ℕ). G.a (suc z)) e ∙ r.0 ∙ sym (ap (λ (z : ℕ). get_or s.a.now z 0) e) ∙ sym (from-wide2 c.before).wide.ensures.0,
-      ap (λ (z : ℕ). G.b (suc z)) e ∙ r.1 ∙ sym (ap (λ (z : ℕ). get_or s.b.now z 0) e) ∙ sym c.before.wide2.ensures.0,
-    )
-
-turn : (c : tie.Joined2 invariant-loop decreases-loop) (G : Network)
-    → let start = (at-loop (place_of c.before)).before in
-    let s = start.args in
-    Reads G s.a.now s.b.now (far-keys start) s.to → After c G
-unfolding After
-turn c G reads = let at = place_of c.before in
-    let l = (at-loop at).loop in
-    let s = (at-loop at).before.args in
-    let cs = s.c.now in
-    let ks = far-keys (at-loop at).before in
-    let k = at.place.result in
-    let from = from-wide2 c.before.before in
-    let a = from.wide.result in
-    let b = c.before.before.wide2.result in
-    let x = ends c.before G reads in
-    let t = l.inv.4 G reads in
-    let h = edge at in
-    let e = place_is at in
-    ⊎_elim {C = After c G}
-    (λ v.
-    let sum : c.if2.sum ≡ l.sum + get_or cs k 0 = v.7 in
-    rw (v.4, v.5, v.6, sum)
-    (choice_join G cs ks l.i l.l l.w l.far l.sum k a b t h.0 h.3 e x.0 x.1 (low-a from) (low-b c.before.before)
-    v.2.last.0 v.2.ensures.0 v.0.taken v.2.ensures.1))
-    (λ v.
-    rw (v.1, v.2, v.3, v.4)
-    (choice_idle G cs ks l.i l.l l.w l.far l.sum k a b t h.0 h.3 e x.0 x.1 (low-a from) (low-b c.before.before)
-    v.0.left))
-    c.if2.branch
+use Rattle.greedy.proofs.kruskal.grow.Goals.{then-x-y, else-x-y}
 
 pub loop-i-init : goal.loop-i-init
 loop-i-init c = let p = c.requires in (omega arith, p.0, p.1, p.3, p.4, λ G r q a b. absurd (omega arith), p.2)
@@ -63,7 +19,7 @@ loop-i-init c = let p = c.requires in (omega arith, p.0, p.1, p.3, p.4, λ G r q
 pub bounds-a-k : goal.bounds-a-k
 bounds-a-k c =
     let far-keys : List ℕ = unraised c.args.keys.now c.args.from in
-    let place_is : c.place-k.result ≡ get_or far-keys.loop-i.i 0 % 256 = let l = c.loop-i in c.place-k.ensures ∙ l.invariant.6 l.i (omega arith) in
+    let place_is : c.place-k.result ≡ get_or far-keys c.loop-i.i 0 % 256 = let l = c.loop-i in c.place-k.ensures ∙ l.invariant.6 l.i (omega arith) in
     let edge : let s = c.args in Joins s.a.now s.b.now s.c.now c.place-k.result = let l = c.loop-i in
     let s = c.args in
     subst (λ (k : ℕ). Joins s.a.now s.b.now s.c.now k) (sym place_is) (l.invariant.3 l.i (omega arith)) in
@@ -72,7 +28,7 @@ bounds-a-k c =
 pub bounds-l-wide : goal.bounds-l-wide
 bounds-l-wide c =
     let far-keys : List ℕ = unraised c.args.keys.now c.args.from in
-    let place_is : c.place-k.result ≡ get_or far-keys.loop-i.i 0 % 256 = let l = c.loop-i in c.place-k.ensures ∙ l.invariant.6 l.i (omega arith) in
+    let place_is : c.place-k.result ≡ get_or far-keys c.loop-i.i 0 % 256 = let l = c.loop-i in c.place-k.ensures ∙ l.invariant.6 l.i (omega arith) in
     let edge : let s = c.args in Joins s.a.now s.b.now s.c.now c.place-k.result = let l = c.loop-i in
     let s = c.args in
     subst (λ (k : ℕ). Joins s.a.now s.b.now s.c.now k) (sym place_is) (l.invariant.3 l.i (omega arith)) in
@@ -82,7 +38,7 @@ bounds-l-wide c =
 pub bounds-b-k : goal.bounds-b-k
 bounds-b-k c =
     let far-keys : List ℕ = unraised c.args.keys.now c.args.from in
-    let place_is : c.place-k.result ≡ get_or far-keys.loop-i.i 0 % 256 = let l = c.loop-i in c.place-k.ensures ∙ l.invariant.6 l.i (omega arith) in
+    let place_is : c.place-k.result ≡ get_or far-keys c.loop-i.i 0 % 256 = let l = c.loop-i in c.place-k.ensures ∙ l.invariant.6 l.i (omega arith) in
     let edge : let s = c.args in Joins s.a.now s.b.now s.c.now c.place-k.result = let l = c.loop-i in
     let s = c.args in
     subst (λ (k : ℕ). Joins s.a.now s.b.now s.c.now k) (sym place_is) (l.invariant.3 l.i (omega arith)) in
@@ -91,7 +47,7 @@ bounds-b-k c =
 pub bounds-l-wide-in-loop-i : goal.bounds-l-wide-in-loop-i
 bounds-l-wide-in-loop-i c =
     let far-keys : List ℕ = unraised c.args.keys.now c.args.from in
-    let place_is : c.place-k.result ≡ get_or far-keys.loop-i.i 0 % 256 = let l = c.loop-i in c.place-k.ensures ∙ l.invariant.6 l.i (omega arith) in
+    let place_is : c.place-k.result ≡ get_or far-keys c.loop-i.i 0 % 256 = let l = c.loop-i in c.place-k.ensures ∙ l.invariant.6 l.i (omega arith) in
     let edge : let s = c.args in Joins s.a.now s.b.now s.c.now c.place-k.result = let l = c.loop-i in
     let s = c.args in
     subst (λ (k : ℕ). Joins s.a.now s.b.now s.c.now k) (sym place_is) (l.invariant.3 l.i (omega arith)) in
@@ -107,7 +63,7 @@ join-requires c =
 pub bounds-w-k : goal.bounds-w-k
 bounds-w-k c =
     let far-keys : List ℕ = unraised c.args.keys.now c.args.from in
-    let place_is : c.place-k.result ≡ get_or far-keys.loop-i.i 0 % 256 = let l = c.loop-i in c.place-k.ensures ∙ l.invariant.6 l.i (omega arith) in
+    let place_is : c.place-k.result ≡ get_or far-keys c.loop-i.i 0 % 256 = let l = c.loop-i in c.place-k.ensures ∙ l.invariant.6 l.i (omega arith) in
     let edge : let s = c.args in Joins s.a.now s.b.now s.c.now c.place-k.result = let l = c.loop-i in
     let s = c.args in
     subst (λ (k : ℕ). Joins s.a.now s.b.now s.c.now k) (sym place_is) (l.invariant.3 l.i (omega arith)) in
@@ -116,7 +72,7 @@ bounds-w-k c =
 pub offset_bounds-c-k : goal.offset_bounds-c-k
 offset_bounds-c-k c =
     let far-keys : List ℕ = unraised c.args.keys.now c.args.from in
-    let place_is : c.place-k.result ≡ get_or far-keys.loop-i.i 0 % 256 = let l = c.loop-i in c.place-k.ensures ∙ l.invariant.6 l.i (omega arith) in
+    let place_is : c.place-k.result ≡ get_or far-keys c.loop-i.i 0 % 256 = let l = c.loop-i in c.place-k.ensures ∙ l.invariant.6 l.i (omega arith) in
     let edge : let s = c.args in Joins s.a.now s.b.now s.c.now c.place-k.result = let l = c.loop-i in
     let s = c.args in
     subst (λ (k : ℕ). Joins s.a.now s.b.now s.c.now k) (sym place_is) (l.invariant.3 l.i (omega arith)) in
@@ -125,7 +81,7 @@ offset_bounds-c-k c =
 pub bounds-c-k : goal.bounds-c-k
 bounds-c-k c =
     let far-keys : List ℕ = unraised c.args.keys.now c.args.from in
-    let place_is : c.place-k.result ≡ get_or far-keys.loop-i.i 0 % 256 = let l = c.loop-i in c.place-k.ensures ∙ l.invariant.6 l.i (omega arith) in
+    let place_is : c.place-k.result ≡ get_or far-keys c.loop-i.i 0 % 256 = let l = c.loop-i in c.place-k.ensures ∙ l.invariant.6 l.i (omega arith) in
     let edge : let s = c.args in Joins s.a.now s.b.now s.c.now c.place-k.result = let l = c.loop-i in
     let s = c.args in
     subst (λ (k : ℕ). Joins s.a.now s.b.now s.c.now k) (sym place_is) (l.invariant.3 l.i (omega arith)) in
@@ -135,7 +91,7 @@ pub overflow_add-sum : goal.overflow_add-sum
 overflow_add-sum c =
     let far-keys : List ℕ = unraised c.args.keys.now c.args.from in
     let plain : let s = c.args in let l = c.loop-i in ChoiceSoFar (joining s.a.now s.b.now) s.c.now far-keys l.i l.l l.w l.far l.sum = let s = c.args in c.loop-i.invariant.4 (joining s.a.now s.b.now) (λ i h. (refl, refl)) in
-    let place_is : c.place-k.result ≡ get_or far-keys.loop-i.i 0 % 256 = let l = c.loop-i in c.place-k.ensures ∙ l.invariant.6 l.i (omega arith) in
+    let place_is : c.place-k.result ≡ get_or far-keys c.loop-i.i 0 % 256 = let l = c.loop-i in c.place-k.ensures ∙ l.invariant.6 l.i (omega arith) in
     let edge : let s = c.args in Joins s.a.now s.b.now s.c.now c.place-k.result = let l = c.loop-i in
     let s = c.args in
     subst (λ (k : ℕ). Joins s.a.now s.b.now s.c.now k) (sym place_is) (l.invariant.3 l.i (omega arith)) in
@@ -149,17 +105,45 @@ overflow_add-far c =
     omega (arith, plain.less, c.loop-i.invariant.1, c.loop-i.invariant.2)
 
 pub loop-i-preserved : goal.loop-i-preserved
-unfolding After
 loop-i-preserved c =
-    let far-keys : List ℕ = unraised c.args.keys.now c.args.from in
     let l = c.loop-i in
-    let s = c.args in (
+    let s = c.args in
+    let cs = s.c.now in
+    let ks : List ℕ = unraised s.keys.now s.from in
+    let k = c.place-k.result in
+    let a = c.wide.result in
+    let b = c.wide-in-loop-i.result in
+    let e : k ≡ get_or ks l.i 0 % 256 = c.place-k.ensures ∙ l.invariant.6 l.i (omega arith) in
+    let h : Joins s.a.now s.b.now cs k = subst (λ (z : ℕ). Joins s.a.now s.b.now cs z) (sym e) (l.invariant.3 l.i (omega arith)) in
+    let low-a : a < 21 = omega (arith, c.wide.ensures.0, h.1) in
+    let low-b : b < 21 = omega (arith, c.wide-in-loop-i.ensures.0, h.2) in
+    let ends : (G : Network) → Reads G s.a.now s.b.now ks s.to → (G.a (suc k) ≡ a) × (G.b (suc k) ≡ b) =
+        λ G reads.
+            let r = reads l.i c.loop-i-test.true in (
+              ap (λ (z : ℕ). G.a (suc z)) e ∙ r.0 ∙ sym (ap (λ (z : ℕ). get_or s.a.now z 0) e) ∙ sym c.wide.ensures.0,
+              ap (λ (z : ℕ). G.b (suc z)) e ∙ r.1 ∙ sym (ap (λ (z : ℕ). get_or s.b.now z 0) e) ∙ sym c.wide-in-loop-i.ensures.0,
+            ) in
+    let turn : ChoiceByEnds s.a.now s.b.now cs ks s.to (l.i + 1) c.if-x-y.l c.if-x-y.w c.if-x-y.far c.if-x-y.sum =
+        elim c.if-x-y.branch [
+          | then-x-y w ↦
+              rw (w.l-is, w.w-is, w.far-is, w.sum-is)
+              (λ G reads.
+              let x = ends G reads in
+              choice_join G cs ks l.i l.l l.w l.far l.sum k a b (l.invariant.4 G reads) h.0 h.3 e x.0 x.1 low-a low-b
+              w.join.new.l w.join.ensures.0 w.if-x-y.true w.join.ensures.1)
+          | else-x-y w ↦
+              rw (w.l-is, w.w-is, w.far-is, w.sum-is)
+              (λ G reads.
+              let x = ends G reads in
+              choice_idle G cs ks l.i l.l l.w l.far l.sum k a b (l.invariant.4 G reads) h.0 h.3 e x.0 x.1 low-a low-b
+              w.if-x-y.false)
+        ] in (
       omega (arith, l.invariant.0),
       omega arith,
       l.invariant.2,
       l.invariant.3,
-      λ G r. turn c G r,
-      λ G r. lacking_more G s.c.now far-keys l.i l.l l.w l.far l.sum s.enough s.t.next (l.invariant.4 G r)
+      turn,
+      λ G r. lacking_more G cs ks l.i l.l l.w l.far l.sum s.enough s.t.next (l.invariant.4 G r)
           (omega (arith, c.if-far-enough.false)) (l.invariant.5 G r),
       l.invariant.6,
     )

@@ -1,13 +1,13 @@
 -- The loop keeps `ChoiceSoFar` and `Lacking`; its two ways through are choice_join and choice_idle.
-use Prim.Native.Nat.{ℕ, ◌≤◌, ◌<◌, ◌-◌, suc, ◌+◌, ◌%◌}
+use Prim.Native.Nat.{ℕ, ◌≤◌, ◌<◌, suc, ◌+◌, ◌%◌}
 use mathlib.Core.Path.{◌≡◌, refl, sym, ◌∙◌, ap, subst}
 use mathlib.Core.List.{List}
 use lib.ListN.{get_or}
 use native.Mathlib.Omega.{arith}
 use Rattle.graph.specs.Network.{Network}
 use Rattle.greedy.specs.Fits.{sum_fits}
-use Rattle.greedy.specs.ChoiceSoFar.{Joins, Reads, joining, ChoiceSoFar, ChoiceByEnds, LackingByEnds, lacking_more, choice_join, choice_idle}
-use Rattle.greedy.specs.Parting.{unraised, SamePlaces}
+use Rattle.greedy.specs.ChoiceSoFar.{Joins, Reads, joining, ChoiceSoFar, ChoiceByEnds, lacking_more, choice_join, choice_idle}
+use Rattle.greedy.specs.Parting.{unraised}
 use Rattle.greedy.specs.Stopping.{looks_as_said}
 use Rattle.std.proofs.Common.{rules}
 use Rattle.greedy.proofs.kruskal.grow.Goals as goal

@@ -1,15 +1,8 @@
 -- The loop keeps `ChoiceSoFar` and `Lacking`; its two ways through are choice_join and choice_idle.
-use Prim.Native.Nat.{ℕ, ◌≤◌, ◌<◌, ◌-◌, suc, ◌+◌, ◌%◌}
-use mathlib.Core.Path.{◌≡◌, refl, sym, ◌∙◌, ap, subst}
-use mathlib.Core.Logic.{⊎_elim}
-use mathlib.Core.List.{List}
+use Prim.Native.Nat.{ℕ, ◌≤◌, ◌<◌, ◌-◌, ◌+◌, ◌%◌}
 use lib.ListN.{get_or}
-use native.Mathlib.Omega.{arith}
-use Rattle.graph.specs.Network.{Network}
-use Rattle.greedy.specs.Fits.{sum_fits}
-use Rattle.greedy.specs.ChoiceSoFar.{Joins, Reads, joining, ChoiceSoFar, ChoiceByEnds, LackingByEnds, lacking_more, choice_join, choice_idle}
+use Rattle.greedy.specs.ChoiceSoFar.{Joins, ChoiceByEnds, LackingByEnds}
 use Rattle.greedy.specs.Parting.{unraised, SamePlaces}
-use Rattle.greedy.specs.Stopping.{looks_as_said}
 use Rattle.greedy.proofs.kruskal.grow.Given as goal
 
 abbrev pub invariant-loop-i : goal.invariant-loop-i

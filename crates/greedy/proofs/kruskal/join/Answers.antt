@@ -1,11 +1,9 @@
 -- The loop keeps: the labels below v are done and the others as they were.
-use Prim.Native.Nat.{◌≤◌, ◌-◌, min, max}
-use mathlib.Core.Path.{◌≡◌, ◌∙◌}
-use lib.ListN.{length, length-set}
+use mathlib.Core.Path.{◌∙◌}
+use lib.ListN.{length-set}
 use native.Mathlib.Omega.{arith}
 use Rattle.spanning.specs.Walks.{relabel}
-use Rattle.greedy.specs.Relabelling.{RelabelledTo, relabelled_none, relabelled_more}
-use Rattle.std.proofs.Common.{rules}
+use Rattle.greedy.specs.Relabelling.{relabelled_none, relabelled_more}
 use Rattle.greedy.proofs.kruskal.join.Goals as goal
 
 pub loop-v-init : goal.loop-v-init

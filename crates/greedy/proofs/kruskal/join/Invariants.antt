@@ -1,10 +1,8 @@
 -- The loop keeps: the labels below v are done and the others as they were.
 use Prim.Native.Nat.{◌≤◌, ◌-◌, min, max}
-use mathlib.Core.Path.{◌≡◌, ◌∙◌}
-use lib.ListN.{length, length-set}
-use native.Mathlib.Omega.{arith}
-use Rattle.spanning.specs.Walks.{relabel}
-use Rattle.greedy.specs.Relabelling.{RelabelledTo, relabelled_none, relabelled_more}
+use mathlib.Core.Path.{◌≡◌}
+use lib.ListN.{length}
+use Rattle.greedy.specs.Relabelling.{RelabelledTo}
 use Rattle.greedy.proofs.kruskal.join.Given as goal
 
 abbrev pub invariant-loop-v : goal.invariant-loop-v

@@ -1,10 +1,7 @@
 -- The loop keeps: the first v places have their own numbers.
 use Prim.Native.Nat.{ℕ, ◌≤◌, ◌<◌, ◌-◌}
-use mathlib.Core.Path.{◌≡◌, refl, ◌∙◌}
-use borrow.Author.Count.{below_more}
-use lib.ListN.{length, get_or, length-set}
-use lib.Seq.{get_or-set_same, get_or-set_other}
-use native.Mathlib.Omega.{arith}
+use mathlib.Core.Path.{◌≡◌}
+use lib.ListN.{length, get_or}
 use Rattle.greedy.proofs.kruskal.labels.Given as goal
 
 abbrev pub invariant-loop-v : goal.invariant-loop-v

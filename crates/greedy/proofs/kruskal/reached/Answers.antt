@@ -1,11 +1,10 @@
 -- The loop keeps: the keys from `from` to before i are below `least`.
-use Prim.Native.Nat.{ℕ, ◌≤◌, ◌<◌, ◌-◌, ◌+◌}
+use Prim.Native.Nat.{ℕ, ◌≤◌, ◌<◌, ◌+◌}
 use native.Mathlib.Decide.{ℕ_discrete}
 use lib.ListN.{get_or}
 use native.Mathlib.Omega.{arith}
 use mathlib.Core.Path.{◌≡◌}
 use mathlib.Core.List.{List}
-use Rattle.std.proofs.Common.{rules}
 use Rattle.greedy.proofs.kruskal.reached.Goals as goal
 
 -- one place more

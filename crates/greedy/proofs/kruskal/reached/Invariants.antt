@@ -1,10 +1,6 @@
 -- The loop keeps: the keys from `from` to before i are below `least`.
-use Prim.Native.Nat.{ℕ, ◌≤◌, ◌<◌, ◌-◌, ◌+◌}
-use native.Mathlib.Decide.{ℕ_discrete}
+use Prim.Native.Nat.{ℕ, ◌≤◌, ◌<◌, ◌-◌}
 use lib.ListN.{get_or}
-use native.Mathlib.Omega.{arith}
-use mathlib.Core.Path.{◌≡◌}
-use mathlib.Core.List.{List}
 use Rattle.greedy.proofs.kruskal.reached.Given as goal
 
 abbrev pub invariant-loop-i : goal.invariant-loop-i

@@ -1,6 +1,5 @@
 -- By the test, which the definition makes the same way.
 use borrow.Author.Tests.{eq-eqb, ne_eqb}
-use Rattle.std.proofs.Common.{rules}
 use Rattle.greedy.proofs.kruskal.relabelled.Goals as goal
 
 pub returns-then-z-high : goal.returns-then-z-high

@@ -1,7 +1,7 @@
 -- The loop keeps `TwoTaken`, of the keys before i; past the second the others are left (two_spare).
-use Prim.Native.Nat.{ℕ, ◌≤◌, ◌<◌, ◌-◌, ◌+◌, ◌*◌, ◌%◌}
+use Prim.Native.Nat.{ℕ, ◌≤◌, ◌<◌, ◌+◌}
 use mathlib.Core.Path.{◌≡◌, sym, ◌∙◌, subst}
-use lib.ListN.{length, get_or, length-set}
+use lib.ListN.{get_or, length-set}
 use native.Mathlib.Omega.{arith}
 use Rattle.graph.specs.Limits.{max_edges}
 use Rattle.greedy.specs.Charged.{max_charge}

@@ -1,12 +1,10 @@
 -- The loop keeps `TwoTaken`, of the keys before i; past the second the others are left (two_spare).
 use Prim.Native.Nat.{ℕ, ◌≤◌, ◌<◌, ◌-◌, ◌+◌, ◌*◌, ◌%◌}
-use mathlib.Core.Path.{◌≡◌, sym, ◌∙◌, subst}
-use lib.ListN.{length, get_or, length-set}
-use native.Mathlib.Omega.{arith}
+use mathlib.Core.Path.{◌≡◌}
+use lib.ListN.{length, get_or}
 use Rattle.graph.specs.Limits.{max_edges}
 use Rattle.greedy.specs.Charged.{max_charge}
-use Rattle.greedy.specs.Fits.{sum_fits}
-use Rattle.greedy.specs.ChoiceSoFar.{TwoTaken, two_none, two-more, two_spare}
+use Rattle.greedy.specs.ChoiceSoFar.{TwoTaken}
 use Rattle.greedy.proofs.kruskal.take_two.Given as goal
 
 abbrev pub invariant-loop-i : goal.invariant-loop-i

@@ -118,26 +118,26 @@ loop-i-preserved c =
     let low-a : a < 21 = omega (arith, c.wide.ensures.0, h.1) in
     let low-b : b < 21 = omega (arith, c.wide-in-loop-i.ensures.0, h.2) in
     let ends : (G : Network) → Reads G s.a.now s.b.now ks s.to → (G.a (suc k) ≡ a) × (G.b (suc k) ≡ b) =
-        λ G reads.
-            let r = reads l.i c.loop-i-test.true in (
-              ap (λ (z : ℕ). G.a (suc z)) e ∙ r.0 ∙ sym (ap (λ (z : ℕ). get_or s.a.now z 0) e) ∙ sym c.wide.ensures.0,
-              ap (λ (z : ℕ). G.b (suc z)) e ∙ r.1 ∙ sym (ap (λ (z : ℕ). get_or s.b.now z 0) e) ∙ sym c.wide-in-loop-i.ensures.0,
-            ) in
+    λ G reads.
+    let r = reads l.i c.loop-i-test.true in (
+      ap (λ (z : ℕ). G.a (suc z)) e ∙ r.0 ∙ sym (ap (λ (z : ℕ). get_or s.a.now z 0) e) ∙ sym c.wide.ensures.0,
+      ap (λ (z : ℕ). G.b (suc z)) e ∙ r.1 ∙ sym (ap (λ (z : ℕ). get_or s.b.now z 0) e) ∙ sym c.wide-in-loop-i.ensures.0,
+    ) in
     let turn : ChoiceByEnds s.a.now s.b.now cs ks s.to (l.i + 1) c.if-x-y.l c.if-x-y.w c.if-x-y.far c.if-x-y.sum =
-        elim c.if-x-y.branch [
-          | then-x-y w ↦
-              rw (w.l-is, w.w-is, w.far-is, w.sum-is)
-              (λ G reads.
-              let x = ends G reads in
-              choice_join G cs ks l.i l.l l.w l.far l.sum k a b (l.invariant.4 G reads) h.0 h.3 e x.0 x.1 low-a low-b
-              w.join.new.l w.join.ensures.0 w.if-x-y.true w.join.ensures.1)
-          | else-x-y w ↦
-              rw (w.l-is, w.w-is, w.far-is, w.sum-is)
-              (λ G reads.
-              let x = ends G reads in
-              choice_idle G cs ks l.i l.l l.w l.far l.sum k a b (l.invariant.4 G reads) h.0 h.3 e x.0 x.1 low-a low-b
-              w.if-x-y.false)
-        ] in (
+    elim c.if-x-y.branch [
+      | then-x-y w ↦
+          rw (w.l-is, w.w-is, w.far-is, w.sum-is)
+          (λ G reads.
+          let x = ends G reads in
+          choice_join G cs ks l.i l.l l.w l.far l.sum k a b (l.invariant.4 G reads) h.0 h.3 e x.0 x.1 low-a low-b
+          w.join.new.l w.join.ensures.0 w.if-x-y.true w.join.ensures.1)
+      | else-x-y w ↦
+          rw (w.l-is, w.w-is, w.far-is, w.sum-is)
+          (λ G reads.
+          let x = ends G reads in
+          choice_idle G cs ks l.i l.l l.w l.far l.sum k a b (l.invariant.4 G reads) h.0 h.3 e x.0 x.1 low-a low-b
+          w.if-x-y.false)
+    ] in (
       omega (arith, l.invariant.0),
       omega arith,
       l.invariant.2,

@@ -11,12 +11,12 @@ loop-v-init c = (omega arith, refl, λ u h. absurd (omega arith))
 
 pub loop-v-preserved : goal.loop-v-preserved
 loop-v-preserved c = let l = c.loop-v in (
-      omega arith,
-      length-set l.l l.v l.v ∙ l.invariant.1,
-      below_more _ _
-          (λ u h. get_or-set_other l.l l.v u l.v 0 (λ e. omega arith) ∙ l.invariant.2 u h)
-          (get_or-set_same l.l l.v l.v 0 (omega (arith, l.invariant.1))),
-    )
+  omega arith,
+  length-set l.l l.v l.v ∙ l.invariant.1,
+  below_more _ _
+      (λ u h. get_or-set_other l.l l.v u l.v 0 (λ e. omega arith) ∙ l.invariant.2 u h)
+      (get_or-set_same l.l l.v l.v 0 (omega (arith, l.invariant.1))),
+)
 
 pub returns : goal.returns
 returns c = (c.loop-v.invariant.1, λ u h. c.loop-v.invariant.2 u (omega arith))

@@ -33,23 +33,23 @@ use Rattle.greedy.specs.Charging.{Raised, chargeable, charged_of, bound_is}
 use Rattle.std.proofs.Common.{rules}
 use Rattle.greedy.proofs.find.Goals as goal
 
-abbrev from-grow-args : tie.After-grow-arg4 → tie.After-grow
-from-grow-args c = let at-ks5 = c.before.before in at-ks5.before.before
-
-abbrev from-two-args : tie.After-take-two-arg2 → tie.After-grow2
-from-two-args c = c.before.before.before
+-- a number that is at most another and not below it
+all_of : (n r : ℕ) → n ≤ r → (n < r → ⊥) → n ≡ r
+all_of n r le stop = at (dec_le (suc n) r)
+  where
+    at : Dec (n < r) → n ≡ r
+    at (no h) = omega arith
+    at (yes h) = absurd (stop h)
 
 pub charges-requires : goal.charges-requires
 charges-requires c =
     let lent : Graph = graph_of c.args.n c.args.m c.args.a.now c.args.b.now c.args.cost.now c.args.mark.now in
-    let few : c.order-f.result ≤ 190 = omega (arith, c.order-f.ensures.0.few, c.requires.0.few) in
     let p = c.requires in
     (p.1, p.0.few, chargeable lent _ p.0 p.2, ap length p.4, p.6)
 
 pub order-f-requires : goal.order-f-requires
 order-f-requires c =
-    let charges : List ℕ = c.charges.new.1.1.1.1.1.1.0 in
-    let few : c.order-f.result ≤ 190 = omega (arith, c.order-f.ensures.0.few, c.requires.0.few) in
+    let charges : List ℕ = c.charges.new.c in
     (c.requires.0.few, λ k h. (c.charges.ensures.0 k h).2, refl)
 
 pub places-requires : goal.places-requires
@@ -93,8 +93,8 @@ overflow_sub-enough c = omega (arith, c.requires.0.low)
 
 pub grow-first-requires : goal.grow-first-requires
 grow-first-requires c =
-    let charges : List ℕ = c.charges.new.1.1.1.1.1.1.0 in
-    let keys : List ℕ = c.order-f.new.1.1.1.1.1.0 in
+    let charges : List ℕ = c.charges.new.c in
+    let keys : List ℕ = c.order-f.new.ks in
     let all : ℕ = c.order-f.result in
     let near : ℕ = c.reached-near.result in
     let far : ℕ = all - near in
@@ -122,8 +122,8 @@ grow-first-requires c =
     let far-edge : let a = c.args in
     (i : ℕ) → i < far → Joins a.a.now a.b.now charges (get_or fars i 0 % 256) = λ i h. let a = c.args in
     subst (λ (k : ℕ). Joins a.a.now a.b.now charges k) (same i h) (edge (near + i) (omega arith)) in
-    let far-must : Small fars far required = far-small keys fars near all.reached.result raised.reached.ensures in
-    let p = c.pre in
+    let far-must : Small fars far required = far-small keys fars near all c.reached.result raised c.reached.ensures in
+    let p = c.requires in
     let r = far-must.0 in (
       omega arith,
       omega (arith, r, fit),
@@ -135,8 +135,8 @@ grow-first-requires c =
 pub grow-t-requires : goal.grow-t-requires
 grow-t-requires c =
     let lent : Graph = graph_of c.args.n c.args.m c.args.a.now c.args.b.now c.args.cost.now c.args.mark.now in
-    let charges : List ℕ = c.charges.new.1.1.1.1.1.1.0 in
-    let keys : List ℕ = c.order-f.new.1.1.1.1.1.0 in
+    let charges : List ℕ = c.charges.new.c in
+    let keys : List ℕ = c.order-f.new.ks in
     let all : ℕ = c.order-f.result in
     let near : ℕ = c.reached-near.result in
     let far : ℕ = all - near in
@@ -174,36 +174,31 @@ grow-t-requires c =
     let far-edge : let a = c.args in
     (i : ℕ) → i < far → Joins a.a.now a.b.now charges (get_or fars i 0 % 256) = λ i h. let a = c.args in
     subst (λ (k : ℕ). Joins a.a.now a.b.now charges k) (same i h) (edge (near + i) (omega arith)) in
-    let far-must : Small fars far required = far-small keys fars near all.reached.result raised.reached.ensures in
+    let far-must : Small fars far required = far-small keys fars near all c.reached.result raised c.reached.ensures in
     let looped : let r = c.grow-first.result in
     ChoiceSoFar (network lent) charges fars r.next
-    c.grow-first.new.1.1.1.1.1.1.1.1.0 c.grow-first.new.1.1.1.1.1.1.1.1.1.0 r.far r.sum = c.grow-first.ensures.0 _
+    c.grow-first.new.l c.grow-first.new.w r.far r.sum = c.grow-first.ensures.0 _
     (λ i h. reads _ _ _ _ _ far_order i (omega (arith, far-must.0))) in
-    let all-required : c.grow-first.result.next ≡ required = at (dec_le (suc c.grow-first.result.next) required)
-  where
-    at : Dec (c.grow-first.result.next < required) → c.grow-first.result.next ≡ required
-    at (no h) = omega (arith, c.grow-first.ensures.3)
-    at (yes h) = absurd (omega (arith, c.grow-first.ensures.4 h, looped.less, far-must.0, fit)) in
-    let t = from-grow-args c in
-    let o = t in
-    let r = (far-must t).0 in (
-      omega (arith, all-required t, r),
-      fit o,
-      same o,
-      far-edge o,
-      λ G q. t.grow-first.ensures.0 G (λ i h. q i (omega (arith, r))),
+    let all-required : c.grow-first.result.next ≡ required = all_of _ _ c.grow-first.ensures.3
+        (λ h. omega (arith, c.grow-first.ensures.4 h, looped.less, far-must.0, fit)) in
+    let r = far-must.0 in (
+      omega (arith, all-required, r),
+      fit,
+      same,
+      far-edge,
+      λ G q. c.grow-first.ensures.0 G (λ i h. q i (omega (arith, r))),
     )
 
 pub take_two-sum-requires : goal.take_two-sum-requires
 take_two-sum-requires c =
     let lent : Graph = graph_of c.args.n c.args.m c.args.a.now c.args.b.now c.args.cost.now c.args.mark.now in
-    let charges : List ℕ = c.charges.new.1.1.1.1.1.1.0 in
-    let keys : List ℕ = c.order-f.new.1.1.1.1.1.0 in
+    let charges : List ℕ = c.charges.new.c in
+    let keys : List ℕ = c.order-f.new.ks in
     let all : ℕ = c.order-f.result in
     let near : ℕ = c.reached-near.result in
     let far : ℕ = all - near in
     let fars : List ℕ = unraised keys near in
-    let joined : List ℕ = c.grow-t.new.1.1.1.1.1.1.1.1.1.0 in
+    let joined : List ℕ = c.grow-t.new.w in
     let few : c.order-f.result ≤ 190 = omega (arith, c.order-f.ensures.0.few, c.requires.0.few) in
     let fit : near + far ≤ 190 = omega (arith, c.reached-near.ensures.1, few) in
     let cheap : (k : ℕ) → k < c.args.m → get_or charges k 0 ≤ max_charge = λ k h. (c.charges.ensures.0 k h).2 in
@@ -229,26 +224,25 @@ take_two-sum-requires c =
     ) in
     let last : let r = c.grow-t.result in
     ChoiceSoFar (network lent) charges fars r.next
-    c.grow-t.new.1.1.1.1.1.1.1.1.0 joined r.far r.sum = c.grow-t.ensures.0 _ (reads _ _ _ _ _ far_order) in
+    c.grow-t.new.l joined r.far r.sum = c.grow-t.ensures.0 _ (reads _ _ _ _ _ far_order) in
     let light : c.grow-t.result.sum ≤ max_charge * far = omega (arith, last.light, c.grow-t.ensures.3) in
-    let t = from-two-args c in
-    let o = t in (
-      omega (arith, fit o),
-      omega (arith, light t, fit o),
-      (last t).wide,
-      λ i h. let e = edge o i (omega (arith, o.reached-near.ensures.1)) in (e.0, e.3),
+    (
+      omega (arith, fit),
+      omega (arith, light, fit),
+      last.wide,
+      λ i h. let e = edge i (omega (arith, c.reached-near.ensures.1)) in (e.0, e.3),
     )
 
 pub whole-any-requires : goal.whole-any-requires
 whole-any-requires c =
     let lent : Graph = graph_of c.args.n c.args.m c.args.a.now c.args.b.now c.args.cost.now c.args.mark.now in
-    let charges : List ℕ = c.charges.new.1.1.1.1.1.1.0 in
-    let keys : List ℕ = c.order-f.new.1.1.1.1.1.0 in
+    let charges : List ℕ = c.charges.new.c in
+    let keys : List ℕ = c.order-f.new.ks in
     let all : ℕ = c.order-f.result in
     let near : ℕ = c.reached-near.result in
     let far : ℕ = all - near in
     let fars : List ℕ = unraised keys near in
-    let joined : List ℕ = c.grow-t.new.1.1.1.1.1.1.1.1.1.0 in
+    let joined : List ℕ = c.grow-t.new.w in
     let few : c.order-f.result ≤ 190 = omega (arith, c.order-f.ensures.0.few, c.requires.0.few) in
     let fit : near + far ≤ 190 = omega (arith, c.reached-near.ensures.1, few) in
     let cheap : (k : ℕ) → k < c.args.m → get_or charges k 0 ≤ max_charge = λ k h. (c.charges.ensures.0 k h).2 in
@@ -265,7 +259,7 @@ whole-any-requires c =
     } in
     let last : let r = c.grow-t.result in
     ChoiceSoFar (network lent) charges fars r.next
-    c.grow-t.new.1.1.1.1.1.1.1.1.0 joined r.far r.sum = c.grow-t.ensures.0 _ (reads _ _ _ _ _ far_order) in
+    c.grow-t.new.l joined r.far r.sum = c.grow-t.ensures.0 _ (reads _ _ _ _ _ far_order) in
     omega (arith, last.less, c.grow-t.ensures.3, fit)
 
 pub total-requires : goal.total-requires
@@ -274,13 +268,13 @@ total-requires c = let p = c.requires in (p.1, omega (arith, p.2, p.0.high))
 pub bound-lowest-requires : goal.bound-lowest-requires
 bound-lowest-requires c =
     let lent : Graph = graph_of c.args.n c.args.m c.args.a.now c.args.b.now c.args.cost.now c.args.mark.now in
-    let charges : List ℕ = c.charges.new.1.1.1.1.1.1.0 in
-    let keys : List ℕ = c.order-f.new.1.1.1.1.1.0 in
+    let charges : List ℕ = c.charges.new.c in
+    let keys : List ℕ = c.order-f.new.ks in
     let all : ℕ = c.order-f.result in
     let near : ℕ = c.reached-near.result in
     let far : ℕ = all - near in
     let fars : List ℕ = unraised keys near in
-    let joined : List ℕ = c.grow-t.new.1.1.1.1.1.1.1.1.1.0 in
+    let joined : List ℕ = c.grow-t.new.w in
     let few : c.order-f.result ≤ 190 = omega (arith, c.order-f.ensures.0.few, c.requires.0.few) in
     let fit : near + far ≤ 190 = omega (arith, c.reached-near.ensures.1, few) in
     let cheap : (k : ℕ) → k < c.args.m → get_or charges k 0 ≤ max_charge = λ k h. (c.charges.ensures.0 k h).2 in
@@ -297,7 +291,7 @@ bound-lowest-requires c =
     } in
     let last : let r = c.grow-t.result in
     ChoiceSoFar (network lent) charges fars r.next
-    c.grow-t.new.1.1.1.1.1.1.1.1.0 joined r.far r.sum = c.grow-t.ensures.0 _ (reads _ _ _ _ _ far_order) in
+    c.grow-t.new.l joined r.far r.sum = c.grow-t.ensures.0 _ (reads _ _ _ _ _ far_order) in
     let light : c.grow-t.result.sum ≤ max_charge * far = omega (arith, last.light, c.grow-t.ensures.3) in
     let heavy : c.take_two-sum.result ≤ max_charge * max_edges = omega (arith, light, c.take_two-sum.ensures.2, fit) in
     let p = c.requires in
@@ -306,8 +300,8 @@ bound-lowest-requires c =
 pub overflow_sub-looked : goal.overflow_sub-looked
 overflow_sub-looked c =
     let lent : Graph = graph_of c.args.n c.args.m c.args.a.now c.args.b.now c.args.cost.now c.args.mark.now in
-    let charges : List ℕ = c.charges.new.1.1.1.1.1.1.0 in
-    let keys : List ℕ = c.order-f.new.1.1.1.1.1.0 in
+    let charges : List ℕ = c.charges.new.c in
+    let keys : List ℕ = c.order-f.new.ks in
     let all : ℕ = c.order-f.result in
     let near : ℕ = c.reached-near.result in
     let far : ℕ = all - near in
@@ -330,31 +324,28 @@ overflow_sub-looked c =
       ascending = far_ascends a.a.now a.mark.now charges a.m keys all near small cheap o.0 o.1
           c.reached-near.ensures;
     } in
-    let far-must : Small fars far required = far-small keys fars near all.reached.result raised.reached.ensures in
+    let far-must : Small fars far required = far-small keys fars near all c.reached.result raised c.reached.ensures in
     let looped : let r = c.grow-first.result in
     ChoiceSoFar (network lent) charges fars r.next
-    c.grow-first.new.1.1.1.1.1.1.1.1.0 c.grow-first.new.1.1.1.1.1.1.1.1.1.0 r.far r.sum = c.grow-first.ensures.0 _
+    c.grow-first.new.l c.grow-first.new.w r.far r.sum = c.grow-first.ensures.0 _
     (λ i h. reads _ _ _ _ _ far_order i (omega (arith, far-must.0))) in
-    let all-required : c.grow-first.result.next ≡ required = at (dec_le (suc c.grow-first.result.next) required)
-  where
-    at : Dec (c.grow-first.result.next < required) → c.grow-first.result.next ≡ required
-    at (no h) = omega (arith, c.grow-first.ensures.3)
-    at (yes h) = absurd (omega (arith, c.grow-first.ensures.4 h, looped.less, far-must.0, fit)) in
+    let all-required : c.grow-first.result.next ≡ required = all_of _ _ c.grow-first.ensures.3
+        (λ h. omega (arith, c.grow-first.ensures.4 h, looped.less, far-must.0, fit)) in
     let passed : required ≤ c.grow-t.result.next = omega (arith, c.grow-t.ensures.2, all-required) in
     omega (arith, passed)
 
 pub returns : goal.returns
 returns c =
     let lent : Graph = graph_of c.args.n c.args.m c.args.a.now c.args.b.now c.args.cost.now c.args.mark.now in
-    let charges : List ℕ = c.charges.new.1.1.1.1.1.1.0 in
-    let keys : List ℕ = c.order-f.new.1.1.1.1.1.0 in
+    let charges : List ℕ = c.charges.new.c in
+    let keys : List ℕ = c.order-f.new.ks in
     let all : ℕ = c.order-f.result in
     let near : ℕ = c.reached-near.result in
     let far : ℕ = all - near in
     let fars : List ℕ = unraised keys near in
     let required : ℕ = c.reached.result - near in
-    let joined : List ℕ = c.grow-t.new.1.1.1.1.1.1.1.1.1.0 in
-    let tree : List ℕ = c.take_two-sum.new.1.1.1.1.0 in
+    let joined : List ℕ = c.grow-t.new.w in
+    let tree : List ℕ = c.take_two-sum.new.w in
     let few : c.order-f.result ≤ 190 = omega (arith, c.order-f.ensures.0.few, c.requires.0.few) in
     let fit : near + far ≤ 190 = omega (arith, c.reached-near.ensures.1, few) in
     let cheap : (k : ℕ) → k < c.args.m → get_or charges k 0 ≤ max_charge = λ k h. (c.charges.ensures.0 k h).2 in
@@ -382,37 +373,34 @@ returns c =
       ascending = far_ascends a.a.now a.mark.now charges a.m keys all near small cheap o.0 o.1
           c.reached-near.ensures;
     } in
-    let must : Small keys near.reached-must.result = near-small keys near.reached-must.result c.reached-must.ensures in
-    let far-must : Small fars far required = far-small keys fars near all.reached.result raised.reached.ensures in
+    let must : Small keys near c.reached-must.result = near-small keys near c.reached-must.result c.reached-must.ensures in
+    let far-must : Small fars far required = far-small keys fars near all c.reached.result raised c.reached.ensures in
     let looped : let r = c.grow-first.result in
     ChoiceSoFar (network lent) charges fars r.next
-    c.grow-first.new.1.1.1.1.1.1.1.1.0 c.grow-first.new.1.1.1.1.1.1.1.1.1.0 r.far r.sum = c.grow-first.ensures.0 _
+    c.grow-first.new.l c.grow-first.new.w r.far r.sum = c.grow-first.ensures.0 _
     (λ i h. reads _ _ _ _ _ far_order i (omega (arith, far-must.0))) in
-    let all-required : c.grow-first.result.next ≡ required = at (dec_le (suc c.grow-first.result.next) required)
-  where
-    at : Dec (c.grow-first.result.next < required) → c.grow-first.result.next ≡ required
-    at (no h) = omega (arith, c.grow-first.ensures.3)
-    at (yes h) = absurd (omega (arith, c.grow-first.ensures.4 h, looped.less, far-must.0, fit)) in
+    let all-required : c.grow-first.result.next ≡ required = all_of _ _ c.grow-first.ensures.3
+        (λ h. omega (arith, c.grow-first.ensures.4 h, looped.less, far-must.0, fit)) in
     let first : let r = c.grow-first.result in
     ChoiceSoFar (network lent) charges fars required
-    c.grow-first.new.1.1.1.1.1.1.1.1.0 c.grow-first.new.1.1.1.1.1.1.1.1.1.0 r.far r.sum = let r = c.grow-first.result in
+    c.grow-first.new.l c.grow-first.new.w r.far r.sum = let r = c.grow-first.result in
     subst
     (λ (i : ℕ). ChoiceSoFar (network lent) charges fars i
-    c.grow-first.new.1.1.1.1.1.1.1.1.0 c.grow-first.new.1.1.1.1.1.1.1.1.1.0 r.far r.sum)
+    c.grow-first.new.l c.grow-first.new.w r.far r.sum)
     all-required looped in
     let last : let r = c.grow-t.result in
     ChoiceSoFar (network lent) charges fars r.next
-    c.grow-t.new.1.1.1.1.1.1.1.1.0 joined r.far r.sum = c.grow-t.ensures.0 _ (reads _ _ _ _ _ far_order) in
+    c.grow-t.new.l joined r.far r.sum = c.grow-t.ensures.0 _ (reads _ _ _ _ _ far_order) in
     let light : c.grow-t.result.sum ≤ max_charge * far = omega (arith, last.light, c.grow-t.ensures.3) in
     let heavy : c.take_two-sum.result ≤ max_charge * max_edges = omega (arith, light, c.take_two-sum.ensures.2, fit) in
     let range : (up c.bound-lowest.result ≤ high_bound) × (dn c.bound-lowest.result ≤ low_bound) = let p = c.requires in
     let d = diff_range c.bound-lowest.result _ _ c.bound-lowest.ensures in
     (omega (arith, d.0, heavy), omega (arith, d.1, c.total.ensures.1, p.2, p.0.high)) in
     let taken : TakenGreedily (network lent) charges (queued keys near) (queued fars far)
-    tree.grow-t.result.far.take_two-sum.result = let e = c.grow-t.ensures in
+    tree c.grow-t.result.far c.take_two-sum.result = let e = c.grow-t.ensures in
     c.take_two-sum.ensures.0 _ _ _
-    (stopped lent charges fars far far_order.grow-t.result.next e.3 [] joined
-    c.grow-t.result.far.grow-t.result.sum (λ h. omega (arith, e.4 h)) last.grew) in
+    (stopped lent charges fars far far_order c.grow-t.result.next e.3 [] joined
+    c.grow-t.result.far c.grow-t.result.sum (λ h. omega (arith, e.4 h)) last.grew) in
     let made : Choice lent = record {
       charges = charges;
       keys = fars;
@@ -432,24 +420,24 @@ returns c =
       must = c.reached-must.result;
       near_small = must;
     } in
-    let charged : Charged c.args.q lent.args.multipliers.now charges = charged_of c.args.q lent.args.multipliers.now charges.charges.ensures.0 in
-    let is : FoundIs c.args.q lent.args.multipliers.now c.whole-any.result c.bound-lowest.result tree charges = let g = lent in
+    let charged : Charged c.args.q lent c.args.multipliers.now charges = charged_of c.args.q lent c.args.multipliers.now charges c.charges.ensures.0 in
+    let is : FoundIs c.args.q lent c.args.multipliers.now c.whole-any.result c.bound-lowest.result tree charges = let g = lent in
     let d = c.args.multipliers.now in
     let said = c.whole-any in
     let all = c.total in
-    let h : Raised d g.n all.result = rw c.pre.2 c all.ensures in
+    let h : Raised d g.n all.result = rw c.requires.2 at all.ensures in
     record {
       charged = charged;
       fits = c.bound-lowest.type_inv;
       high = range.0;
       low = range.1;
       some = λ e.
-          let l = found g made.args.q d charged (says_yes said.result said.ensures e) in (
+          let l = found g made c.args.q d charged (says_yes said.result said.ensures e) in (
             l,
-            bound_is c.args.q g c.pre.0 d charges tree.bound-lowest.result c.take_two-sum.result all.result
+            bound_is c.args.q g c.requires.0 d charges tree c.bound-lowest.result c.take_two-sum.result all.result
                 charged l.tree (weighs g made) h c.bound-lowest.ensures,
           );
-      none = λ e. missing g made.args.q (says_no said.result said.ensures e);
+      none = λ e. missing g made c.args.q (says_no said.result said.ensures e);
       bits = bit_at g made;
       past = past_none g made;
     } in
@@ -459,7 +447,7 @@ returns c =
     subst (λ (x : ℕ). Looked (scaled_by a.q (network lent)) (multiplier a.multipliers.now) (c.grow-t.result.next - x)) e
     (c.grow-t.ensures.1 a.q a.n a.m a.cost.now a.mark.now a.multipliers.now far_order
     (subst (λ (x : ℕ). Small fars far x) (sym e) far-must) charged
-    (omega (arith, c.pre.0.low))) in
+    (omega (arith, c.requires.0.low))) in
     let charges-are = c.charges.ensures in
     let places = c.places in
     rw (back64 c.bound-lowest.result c.bound-lowest.type_inv) (
@@ -467,11 +455,11 @@ returns c =
         faultless = refl;
         found = is;
         long = (c.take_two-sum.ensures.1, charges-are.2);
-        rest = λ k h. charges-are.1 k h ∙ rw c.pre.4 (zeros 190 k);
+        rest = λ k h. charges-are.1 k h ∙ rw c.requires.4 (zeros 190 k);
         merges = merges lent charges fars far far_order required far-must _
             first.long first.holds;
-        hinted = keyed_hinted c.args.a.now c.args.mark.now charges.args.m keys all
-            places.last.1.1.0 c.pre.0.few.order-f.ensures.0 places.ensures.0 places.ensures.1;
+        hinted = keyed_hinted c.args.a.now c.args.mark.now charges c.args.m keys all
+            places.new.r c.requires.0.few c.order-f.ensures.0 places.ensures.0 places.ensures.1;
       },
       looks,
     )

@@ -30,7 +30,6 @@ use Rattle.greedy.specs.Required.{Small, near-small, far-small, merges}
 use Rattle.greedy.specs.Kruskal.{Choice, found, missing, weighs, bit_at, past_none}
 use Rattle.greedy.specs.Stopping.{stopped, reads}
 use Rattle.greedy.specs.Charging.{Raised, chargeable, charged_of, bound_is}
-use Rattle.std.proofs.Common.{rules}
 use Rattle.greedy.proofs.find.Goals as goal
 
 -- a number that is at most another and not below it
@@ -180,7 +179,7 @@ grow-t-requires c =
     c.grow-first.new.l c.grow-first.new.w r.far r.sum = c.grow-first.ensures.0 _
     (λ i h. reads _ _ _ _ _ far_order i (omega (arith, far-must.0))) in
     let all-required : c.grow-first.result.next ≡ required = all_of _ _ c.grow-first.ensures.3
-        (λ h. omega (arith, c.grow-first.ensures.4 h, looped.less, far-must.0, fit)) in
+    (λ h. omega (arith, c.grow-first.ensures.4 h, looped.less, far-must.0, fit)) in
     let r = far-must.0 in (
       omega (arith, all-required, r),
       fit,
@@ -225,8 +224,7 @@ take_two-sum-requires c =
     let last : let r = c.grow-t.result in
     ChoiceSoFar (network lent) charges fars r.next
     c.grow-t.new.l joined r.far r.sum = c.grow-t.ensures.0 _ (reads _ _ _ _ _ far_order) in
-    let light : c.grow-t.result.sum ≤ max_charge * far = omega (arith, last.light, c.grow-t.ensures.3) in
-    (
+    let light : c.grow-t.result.sum ≤ max_charge * far = omega (arith, last.light, c.grow-t.ensures.3) in (
       omega (arith, fit),
       omega (arith, light, fit),
       last.wide,
@@ -330,7 +328,7 @@ overflow_sub-looked c =
     c.grow-first.new.l c.grow-first.new.w r.far r.sum = c.grow-first.ensures.0 _
     (λ i h. reads _ _ _ _ _ far_order i (omega (arith, far-must.0))) in
     let all-required : c.grow-first.result.next ≡ required = all_of _ _ c.grow-first.ensures.3
-        (λ h. omega (arith, c.grow-first.ensures.4 h, looped.less, far-must.0, fit)) in
+    (λ h. omega (arith, c.grow-first.ensures.4 h, looped.less, far-must.0, fit)) in
     let passed : required ≤ c.grow-t.result.next = omega (arith, c.grow-t.ensures.2, all-required) in
     omega (arith, passed)
 
@@ -380,7 +378,7 @@ returns c =
     c.grow-first.new.l c.grow-first.new.w r.far r.sum = c.grow-first.ensures.0 _
     (λ i h. reads _ _ _ _ _ far_order i (omega (arith, far-must.0))) in
     let all-required : c.grow-first.result.next ≡ required = all_of _ _ c.grow-first.ensures.3
-        (λ h. omega (arith, c.grow-first.ensures.4 h, looped.less, far-must.0, fit)) in
+    (λ h. omega (arith, c.grow-first.ensures.4 h, looped.less, far-must.0, fit)) in
     let first : let r = c.grow-first.result in
     ChoiceSoFar (network lent) charges fars required
     c.grow-first.new.l c.grow-first.new.w r.far r.sum = let r = c.grow-first.result in

@@ -7,7 +7,6 @@ use Rattle.graph.specs.Valid.{graph_of}
 use Rattle.tree_theory.specs.Inputs.{denominator_fault, or_else, input_fault}
 use Rattle.tree_theory.specs.Accepted.{no_fault, else_none, denominator_range}
 use Rattle.greedy.specs.Least.{Lists, lists, by_fault, by_nothing, by_some}
-use Rattle.std.proofs.Common.{rules}
 use Rattle.greedy.proofs.least.Goals as goal
 
 pub returns-then-fault-ne0 : goal.returns-then-fault-ne0

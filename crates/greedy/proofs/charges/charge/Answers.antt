@@ -3,7 +3,6 @@ use mir.Facts.{to_z-of_z}
 use native.Mathlib.Omega.{arith}
 use Rattle.integers.specs.Multiples.{◌times◌}
 use Rattle.greedy.specs.Charging.{raise_three}
-use Rattle.std.proofs.Common.{rules}
 use Rattle.greedy.proofs.charges.charge.Goals as goal
 
 pub returns : goal.returns

@@ -1,15 +1,12 @@
 -- The loop keeps: the first k places have their charges; charges_more is one turn.
-use Prim.Native.Nat.{ℕ, ◌≤◌, ◌<◌, ◌-◌}
-use mathlib.Core.Path.{◌≡◌, refl, ◌∙◌}
-use lib.ListN.{length, get_or, length-set}
+use mathlib.Core.Path.{refl, ◌∙◌}
+use lib.ListN.{get_or, length-set}
 use lib.Seq.{get_or-set_other}
 use lib.IntN.{pos}
 use native.Mathlib.Omega.{arith}
 use Rattle.integers.specs.Words.{back32}
-use Rattle.graph.specs.Limits.{max_denominator}
-use Rattle.tree_theory.specs.Multipliers.{Ranged, multiplier_range}
-use Rattle.greedy.specs.Charging.{Chargeable, ChargesOf, charges_more}
-use Rattle.std.proofs.Common.{rules}
+use Rattle.tree_theory.specs.Multipliers.{multiplier_range}
+use Rattle.greedy.specs.Charging.{charges_more}
 use Rattle.greedy.proofs.charges.charge_each.Goals as goal
 
 pub loop-k-init : goal.loop-k-init
@@ -64,7 +61,7 @@ loop-k-preserved c = let l = c.loop-k in
 
 pub returns : goal.returns
 returns c = let l = c.loop-k in (
-      λ k h. l.invariant.5 k (omega arith),
-      λ k h. l.invariant.6 k (omega arith),
-      l.invariant.4,
-    )
+  λ k h. l.invariant.5 k (omega arith),
+  λ k h. l.invariant.6 k (omega arith),
+  l.invariant.4,
+)

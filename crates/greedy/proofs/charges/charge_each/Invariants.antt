@@ -1,14 +1,11 @@
 -- The loop keeps: the first k places have their charges; charges_more is one turn.
 use Prim.Native.Nat.{ℕ, ◌≤◌, ◌<◌, ◌-◌}
-use mathlib.Core.Path.{◌≡◌, refl, ◌∙◌}
-use lib.ListN.{length, get_or, length-set}
-use lib.Seq.{get_or-set_other}
+use mathlib.Core.Path.{◌≡◌}
+use lib.ListN.{length, get_or}
 use lib.IntN.{pos}
-use native.Mathlib.Omega.{arith}
-use Rattle.integers.specs.Words.{back32}
 use Rattle.graph.specs.Limits.{max_denominator}
-use Rattle.tree_theory.specs.Multipliers.{Ranged, multiplier_range}
-use Rattle.greedy.specs.Charging.{Chargeable, ChargesOf, charges_more}
+use Rattle.tree_theory.specs.Multipliers.{Ranged}
+use Rattle.greedy.specs.Charging.{Chargeable, ChargesOf}
 use Rattle.greedy.proofs.charges.charge_each.Given as goal
 
 abbrev pub invariant-loop-k : goal.invariant-loop-k

@@ -4,7 +4,6 @@ use mathlib.Core.List.{List}
 use Prim.Native.Nat.{ℕ}
 use lib.IntN.{ℤ}
 use Rattle.greedy.specs.Charging.{ChargesOf}
-use Rattle.std.proofs.Common.{rules}
 use Rattle.greedy.proofs.charges.charges.Goals as goal
 
 with-one : (q : ℕ) → q ≡ 1 → (a b : List ℕ) (cost d : List ℤ) (c : List ℕ) (m : ℕ) → ChargesOf 1 a b cost d c m → ChargesOf q a b cost d c m

@@ -7,7 +7,6 @@ use native.Mathlib.Omega.{arith}
 use Rattle.integers.specs.Words.{low64}
 use Rattle.integers.specs.Differences.{sub_is, sub_mag}
 use Rattle.greedy.specs.Fits.{high_fits, low_fits}
-use Rattle.std.proofs.Common.{rules}
 use Rattle.greedy.proofs.charges.minus.Goals as goal
 
 pub overflow_sub-result : goal.overflow_sub-result

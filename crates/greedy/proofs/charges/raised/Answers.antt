@@ -8,7 +8,6 @@ use Rattle.integers.specs.Parts.{mag_of_parts, abs_parts, non_neg_of}
 use Rattle.graph.specs.Limits.{max_multiplier}
 use Rattle.greedy.specs.Fits.{raised_fits}
 use Rattle.greedy.specs.Charging.{raise_low, raise_high, raise_is}
-use Rattle.std.proofs.Common.{rules}
 use Rattle.greedy.proofs.charges.raised.Goals as goal
 
 pub overflow_add-result : goal.overflow_add-result

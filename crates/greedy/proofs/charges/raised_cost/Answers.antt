@@ -11,7 +11,6 @@ use Rattle.integers.specs.Words.{low64}
 use Rattle.greedy.specs.Charged.{max_scaled}
 use Rattle.greedy.specs.Fits.{scaled_range, raised_cost_fits}
 use Rattle.greedy.specs.Charging.{raise_low, raise_high, raise_is}
-use Rattle.std.proofs.Common.{rules}
 use Rattle.greedy.proofs.charges.raised_cost.Goals as goal
 
 widened : (x : ℤ) → SFits w32 x → SFits w64 x

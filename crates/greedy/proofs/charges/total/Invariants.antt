@@ -1,13 +1,8 @@
 -- The loop keeps: the sum is that of the first i multipliers, each moved up; raised-more is one turn.
 use Prim.Native.Nat.{◌≤◌, ◌-◌}
-use mathlib.Core.Path.{◌≡◌}
-use lib.ListN.{length, get_or}
-use lib.IntN.{pos}
-use native.Mathlib.Omega.{arith}
-use Rattle.integers.specs.Words.{back32}
+use lib.ListN.{length}
 use Rattle.tree_theory.specs.Multipliers.{Ranged}
-use Rattle.greedy.specs.Fits.{raised_sum_fits}
-use Rattle.greedy.specs.Charging.{raised_none, raised-more, Raised}
+use Rattle.greedy.specs.Charging.{Raised}
 use Rattle.greedy.proofs.charges.total.Given as goal
 
 abbrev pub invariant-loop-i : goal.invariant-loop-i

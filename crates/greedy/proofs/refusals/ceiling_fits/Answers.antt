@@ -8,7 +8,6 @@ use Rattle.integers.specs.Parts.{lt_z_no_le_z, no_lt_z_le_z}
 use Rattle.integers.specs.Range.{within}
 use Rattle.graph.specs.Limits.{max_ceiling}
 use Rattle.tree_theory.specs.Inputs.{ceiling_fits}
-use Rattle.std.proofs.Common.{rules}
 use Rattle.greedy.proofs.refusals.ceiling_fits.Goals as goal
 
 pub returns-then-z : goal.returns-then-z

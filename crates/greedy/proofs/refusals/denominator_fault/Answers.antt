@@ -1,7 +1,6 @@
 -- By whether the denominator fits.
 use mathlib.Core.Path.{sym, ◌∙◌}
 use Rattle.tree_theory.specs.Inputs.{denominator_fault}
-use Rattle.std.proofs.Common.{rules}
 use Rattle.greedy.proofs.refusals.denominator_fault.Goals as goal
 
 pub returns-then-denominator_fits : goal.returns-then-denominator_fits

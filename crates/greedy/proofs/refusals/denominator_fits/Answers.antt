@@ -2,7 +2,6 @@
 use native.Mathlib.Omega.{arith}
 use borrow.Author.Tests.{le-leb, lt-leb}
 use Rattle.tree_theory.specs.Inputs.{denominator_fits}
-use Rattle.std.proofs.Common.{rules}
 use Rattle.greedy.proofs.refusals.denominator_fits.Goals as goal
 
 pub returns-then-q-lt1 : goal.returns-then-q-lt1

@@ -1,6 +1,5 @@
 -- The two tests are those of the statement.
 use borrow.Author.Tests.{eq-eqb, ne_eqb}
-use Rattle.std.proofs.Common.{rules}
 use Rattle.greedy.proofs.refusals.lengths_fit.Goals as goal
 
 pub returns-then-multipliers-n : goal.returns-then-multipliers-n

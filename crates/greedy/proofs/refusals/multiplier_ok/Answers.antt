@@ -7,7 +7,6 @@ use mir.Facts.{to_z-of_z}
 use Rattle.integers.specs.Parts.{lt_z_no_le_z, no_lt_z_le_z}
 use Rattle.integers.specs.Range.{within}
 use Rattle.graph.specs.Limits.{max_multiplier}
-use Rattle.std.proofs.Common.{rules}
 use Rattle.greedy.proofs.refusals.multiplier_ok.Goals as goal
 
 pub returns-then-x : goal.returns-then-x

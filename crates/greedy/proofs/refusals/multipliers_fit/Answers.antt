@@ -1,7 +1,6 @@
 -- The loop keeps: the first i multipliers are in their range.
-use Prim.Native.Nat.{ℕ, ◌≤◌, ◌<◌, ◌-◌}
 use mathlib.Core.Path.{refl, sym, ◌∙◌, ap}
-use lib.ListN.{length, get_or}
+use lib.ListN.{get_or}
 use lib.IntN.{pos}
 use mir.Val.{to_z}
 use mir.Syntax.{w32}
@@ -9,11 +8,10 @@ use borrow.Author.Count.{below_more}
 use borrow.Author.Tests.{not-true, not-false}
 use native.Mathlib.Omega.{arith}
 use Rattle.integers.specs.Words.{back32}
-use Rattle.integers.specs.Range.{InRange, within_range}
+use Rattle.integers.specs.Range.{within_range}
 use Rattle.graph.specs.Limits.{max_multiplier}
 use Rattle.tree_theory.specs.Inputs.{multiplier}
 use Rattle.tree_theory.specs.Multipliers.{ranged_fit, empty_fit, first_wrong, not_ranged}
-use Rattle.std.proofs.Common.{rules}
 use Rattle.greedy.proofs.refusals.multipliers_fit.Goals as goal
 
 pub loop-i-init : goal.loop-i-init

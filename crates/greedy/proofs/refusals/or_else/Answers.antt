@@ -1,7 +1,6 @@
 -- By whether there is a fault.
 use mathlib.Core.Path.{sym}
 use Rattle.tree_theory.specs.Accepted.{else_first, else_next}
-use Rattle.std.proofs.Common.{rules}
 use Rattle.greedy.proofs.refusals.or_else.Goals as goal
 
 pub returns-then-fault-ne0 : goal.returns-then-fault-ne0

@@ -51,14 +51,14 @@ loop-i-preserved c =
     let s = c.args in
     let k = c.place-k.result in (
       omega arith,
-      omega (arith, l.invariant.1, c.if-i-eq2.false),
+      omega arith,
       l.invariant.2,
       l.invariant.3,
       length-set l.w k 1 ∙ l.invariant.4,
       l.invariant.5,
       omega (arith, edge.1, l.invariant.6),
       two-more s.c.now s.keys.now l.i s.w.now s.sum l.w l.all l.invariant.7 k c.place-k.ensures
-          (omega (arith, edge.0, l.invariant.4)) (omega (arith, l.invariant.1, c.if-i-eq2.false)),
+          (omega (arith, edge.0, l.invariant.4)) (omega arith),
     )
 
 pub returns-after-loop-i : goal.returns-after-loop-i

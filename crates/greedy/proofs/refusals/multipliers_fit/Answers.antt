@@ -5,7 +5,6 @@ use lib.IntN.{pos}
 use mir.Val.{to_z}
 use mir.Syntax.{w32}
 use borrow.Author.Count.{below_more}
-use borrow.Author.Tests.{not-true, not-false}
 use native.Mathlib.Omega.{arith}
 use Rattle.integers.specs.Words.{back32}
 use Rattle.integers.specs.Range.{within_range}
@@ -21,13 +20,13 @@ pub returns-then-not-multiplier_ok : goal.returns-then-not-multiplier_ok
 returns-then-not-multiplier_ok c = let l = c.loop-i in
     let d = c.args.d.now in
     let said = rw (back32 (get_or d l.i (pos 0)) (omega arith)) at c.multiplier_ok.ensures in
-    sym (not_ranged d l.i (omega arith) (sym said ∙ not-true _ c.if-not-multiplier_ok.true-raw))
+    sym (not_ranged d l.i (omega arith) (sym said ∙ c.if-not-multiplier_ok.true))
 
 pub loop-i-preserved : goal.loop-i-preserved
 loop-i-preserved c = let l = c.loop-i in
     let d = c.args.d.now in
     let said = rw (back32 (get_or d l.i (pos 0)) (omega arith)) at c.multiplier_ok.ensures in
-    (omega arith, below_more _ _ l.invariant.1 (within_range max_multiplier (get_or d l.i (pos 0)) (sym said ∙ not-false _ c.if-not-multiplier_ok.false-raw)))
+    (omega arith, below_more _ _ l.invariant.1 (within_range max_multiplier (get_or d l.i (pos 0)) (sym said ∙ c.if-not-multiplier_ok.false)))
 
 pub returns-then-i-eq0 : goal.returns-then-i-eq0
 returns-then-i-eq0 c = let l = c.loop-i in

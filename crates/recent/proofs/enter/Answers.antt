@@ -10,7 +10,6 @@ use mir.Facts.{to_z-of_z}
 use Rattle.integers.specs.Words.{back32}
 use Rattle.recent.specs.Costs.{greatest_or}
 use Rattle.recent.specs.Windows.{held, stored, window_of, entered_at}
-use Rattle.std.proofs.Common.{rules}
 use Rattle.recent.proofs.enter.Goals as goal
 
 pub overflow_add-time : goal.overflow_add-time

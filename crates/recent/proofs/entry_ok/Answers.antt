@@ -3,7 +3,6 @@ use native.Mathlib.Omega.{arith}
 use mir.Facts.{to_z-of_z}
 use borrow.Author.Tests.{le-leb, lt-leb}
 use Rattle.recent.specs.Answers.{entry_ok}
-use Rattle.std.proofs.Common.{rules}
 use Rattle.recent.proofs.entry_ok.Goals as goal
 
 pub returns-then-edge-lt1 : goal.returns-then-edge-lt1

@@ -1,16 +1,13 @@
 -- The loop keeps: `top` is the greatest of the ring's first j times.
-use Prim.Native.Nat.{ℕ, ◌≤◌, ◌<◌, ◌-◌, ◌*◌, ◌+◌}
-use mathlib.Core.Path.{◌≡◌, refl, sym, ◌∙◌, ap}
+use Prim.Native.Nat.{ℕ, ◌*◌, ◌+◌}
+use mathlib.Core.Path.{refl, sym, ◌∙◌, ap}
 use native.Mathlib.Omega.{arith}
 use lib.ListN.{get_or}
 use lib.IntN.{ℤ, pos}
-use mir.Syntax.{w32}
-use mir.Val.{to_z}
 use Rattle.integers.specs.Words.{back32}
 use Rattle.recent.specs.Costs.{larger, greatest_or}
 use Rattle.recent.specs.Windows.{held}
 use Rattle.recent.specs.Greatest.{first-place, next_place_lem}
-use Rattle.std.proofs.Common.{rules}
 use Rattle.recent.proofs.greatest.Goals as goal
 
 pub loop-j-init : goal.loop-j-init

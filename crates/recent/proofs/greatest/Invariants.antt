@@ -1,15 +1,9 @@
 -- The loop keeps: `top` is the greatest of the ring's first j times.
-use Prim.Native.Nat.{ℕ, ◌≤◌, ◌<◌, ◌-◌, ◌*◌, ◌+◌}
-use mathlib.Core.Path.{◌≡◌, refl, sym, ◌∙◌, ap}
-use native.Mathlib.Omega.{arith}
-use lib.ListN.{get_or}
-use lib.IntN.{ℤ, pos}
-use mir.Syntax.{w32}
-use mir.Val.{to_z}
-use Rattle.integers.specs.Words.{back32}
-use Rattle.recent.specs.Costs.{larger, greatest_or}
+use Prim.Native.Nat.{◌≤◌, ◌<◌, ◌-◌, ◌*◌}
+use mathlib.Core.Path.{◌≡◌}
+use lib.IntN.{pos}
+use Rattle.recent.specs.Costs.{greatest_or}
 use Rattle.recent.specs.Windows.{held}
-use Rattle.recent.specs.Greatest.{first-place, next_place_lem}
 use Rattle.recent.proofs.greatest.Given as goal
 
 abbrev pub invariant-loop-j : goal.invariant-loop-j

@@ -1,7 +1,6 @@
 -- By what the answer means.
 use mathlib.Core.Path.{refl}
 use Rattle.recent.specs.Answers.{meaning}
-use Rattle.std.proofs.Common.{rules}
 use Rattle.recent.proofs.refuse.Goals as goal
 
 pub returns : goal.returns

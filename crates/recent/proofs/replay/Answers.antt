@@ -1,5 +1,5 @@
 -- The loop keeps: the window is the fold over the entries so far (specs/Replay).
-use Prim.Native.Nat.{◌<◌, ◌-◌}
+use Prim.Native.Nat.{◌<◌}
 use mathlib.Core.Path.{◌≡◌, sym, ◌∙◌}
 use mathlib.Core.Bool.{true}
 use mathlib.Core.List.{List}
@@ -9,9 +9,8 @@ use borrow.Author.Tests.{not-true, not-false}
 use Rattle.integers.specs.Words.{back32}
 use Rattle.recent.specs.Costs.{Entry, log_of}
 use Rattle.recent.specs.Answers.{entry_ok}
-use Rattle.recent.specs.Windows.{window_of, unused}
-use Rattle.recent.specs.Replay.{Replaying, replaying_none, replaying_next, replayed_bad, replayed_all, can_enter, entry_at, log_size, log_at, ok_edge}
-use Rattle.std.proofs.Common.{rules}
+use Rattle.recent.specs.Windows.{unused}
+use Rattle.recent.specs.Replay.{replaying_none, replaying_next, replayed_bad, replayed_all, can_enter, entry_at, log_size, log_at, ok_edge}
 use Rattle.recent.proofs.replay.Goals as goal
 
 pub loop-i-init : goal.loop-i-init

@@ -1,16 +1,10 @@
 -- The loop keeps: the window is the fold over the entries so far (specs/Replay).
-use Prim.Native.Nat.{◌<◌, ◌-◌}
-use mathlib.Core.Path.{◌≡◌, sym, ◌∙◌}
-use mathlib.Core.Bool.{true}
-use mathlib.Core.List.{List}
-use native.Mathlib.Omega.{arith}
-use lib.ListN.{length, get_or}
-use borrow.Author.Tests.{not-true, not-false}
-use Rattle.integers.specs.Words.{back32}
-use Rattle.recent.specs.Costs.{Entry, log_of}
-use Rattle.recent.specs.Answers.{entry_ok}
-use Rattle.recent.specs.Windows.{window_of, unused}
-use Rattle.recent.specs.Replay.{Replaying, replaying_none, replaying_next, replayed_bad, replayed_all, can_enter, entry_at, log_size, log_at, ok_edge}
+use Prim.Native.Nat.{◌-◌}
+use mathlib.Core.Path.{◌≡◌}
+use lib.ListN.{length}
+use Rattle.recent.specs.Costs.{log_of}
+use Rattle.recent.specs.Windows.{window_of}
+use Rattle.recent.specs.Replay.{Replaying}
 use Rattle.recent.proofs.replay.Given as goal
 
 abbrev pub invariant-loop-i : goal.invariant-loop-i

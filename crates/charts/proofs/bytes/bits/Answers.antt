@@ -9,7 +9,6 @@ use Rattle.integers.specs.Parts.{dn}
 use Rattle.charts.specs.Chart.{bits_of}
 use Rattle.charts.specs.TwosComplement.{flip, bits_negative, bits_natural, natural}
 use native.Mathlib.Omega.{arith}
-use Rattle.std.proofs.Common.{rules}
 use Rattle.charts.proofs.bytes.bits.Goals as goal
 
 pub overflow_sub-result : goal.overflow_sub-result

@@ -1,6 +1,5 @@
 -- The four bytes at i.
 use Rattle.charts.specs.Chart.{u32_at}
-use Rattle.std.proofs.Common.{rules}
 use Rattle.charts.proofs.bytes.u32_at.Goals as goal
 
 pub returns : goal.returns

@@ -1,6 +1,5 @@
 -- The four bytes at 0 of a list that is they.
 use Rattle.charts.specs.Chart.{u32_at}
-use Rattle.std.proofs.Common.{rules}
 use Rattle.charts.proofs.bytes.u32_of.Goals as goal
 
 pub returns : goal.returns

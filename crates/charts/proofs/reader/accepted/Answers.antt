@@ -2,7 +2,6 @@
 use mathlib.Core.Path.{refl}
 use Rattle.charts.specs.Answers.{read_meaning}
 use Rattle.charts.specs.Chart.{accept}
-use Rattle.std.proofs.Common.{rules}
 use Rattle.charts.proofs.reader.accepted.Goals as goal
 
 pub returns : goal.returns

@@ -3,7 +3,6 @@ use mathlib.Core.Path.{sym, ◌∙◌}
 use borrow.Author.Tests.{not-true, not-false, le-leb, lt-leb}
 use Rattle.integers.specs.Words.{back32}
 use Rattle.charts.specs.Chart.{body_fault}
-use Rattle.std.proofs.Common.{rules}
 use Rattle.charts.proofs.reader.body_fault.Goals as goal
 
 pub returns-then-not-ends_ok : goal.returns-then-not-ends_ok

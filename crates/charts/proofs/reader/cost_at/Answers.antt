@@ -2,7 +2,6 @@
 use mathlib.Core.Path.{◌∙◌, ap}
 use Rattle.integers.specs.Words.{back32}
 use Rattle.charts.specs.Chart.{signed_of, cost_at}
-use Rattle.std.proofs.Common.{rules}
 use Rattle.charts.proofs.reader.cost_at.Goals as goal
 
 pub returns : goal.returns

@@ -1,21 +1,9 @@
 -- The loop keeps `Reached`; specs/ReadLoop.antt says what each answer then means.
 use mathlib.Core.Path.{◌≡◌, sym, ◌∙◌}
-use Prim.Native.Nat.{suc, ◌-◌}
-use Rattle.graph.specs.Limits.{max_edges}
 use Rattle.charts.specs.Chart.{start_of, next_of, record_fault}
 use Rattle.charts.specs.NoFault.{header_ok}
-use Rattle.charts.specs.ReadLoop.{
-  Reached,
-  reached_start,
-  reached_end,
-  reached_fault,
-  reached_step,
-  record_fine,
-  record_place,
-  taken-size,
-}
+use Rattle.charts.specs.ReadLoop.{reached_start, reached_end, reached_fault, reached_step, record_fine, record_place, taken-size}
 use native.Mathlib.Omega.{arith}
-use Rattle.std.proofs.Common.{rules}
 use Rattle.charts.proofs.reader.follow.Goals as goal
 
 pub bounds-s-0 : goal.bounds-s-0

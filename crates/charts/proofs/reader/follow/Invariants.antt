@@ -1,20 +1,7 @@
 -- The loop keeps `Reached`; specs/ReadLoop.antt says what each answer then means.
-use mathlib.Core.Path.{◌≡◌, sym, ◌∙◌}
 use Prim.Native.Nat.{suc, ◌-◌}
 use Rattle.graph.specs.Limits.{max_edges}
-use Rattle.charts.specs.Chart.{start_of, next_of, record_fault}
-use Rattle.charts.specs.NoFault.{header_ok}
-use Rattle.charts.specs.ReadLoop.{
-  Reached,
-  reached_start,
-  reached_end,
-  reached_fault,
-  reached_step,
-  record_fine,
-  record_place,
-  taken-size,
-}
-use native.Mathlib.Omega.{arith}
+use Rattle.charts.specs.ReadLoop.{Reached}
 use Rattle.charts.proofs.reader.follow.Given as goal
 
 abbrev pub invariant-loop-k : goal.invariant-loop-k

@@ -2,7 +2,6 @@
 use mathlib.Core.Path.{sym, ◌∙◌}
 use borrow.Author.Tests.{not-true, not-false, lt-ltb, le-ltb, le-leb, lt-leb, eq-eqb, ne_eqb}
 use Rattle.charts.specs.Chart.{header_fault}
-use Rattle.std.proofs.Common.{rules}
 use Rattle.charts.proofs.reader.header_fault.Goals as goal
 
 pub returns-then-s-lt-HEADER_SIZE : goal.returns-then-s-lt-HEADER_SIZE

@@ -1,7 +1,5 @@
 -- The loop knows that the pair is not among the first i; a place that has it decides, by `pair_new`.
 use mathlib.Core.Path.{◌≡◌, refl, sym, ◌∙◌}
-use mathlib.Core.Bool.{false}
-use Prim.Native.Nat.{◌-◌, ◌≤◌}
 use lib.ListN.{get_or}
 use lib.Dec.{eqb}
 use borrow.Author.Tests.{eqb-true}
@@ -9,7 +7,6 @@ use Rattle.lists.specs.Bools.{by_cases, and_both}
 use Rattle.graph.specs.Valid.{pair_met}
 use Rattle.graph.specs.Meaning.{pair_step, pair_new}
 use native.Mathlib.Omega.{arith}
-use Rattle.std.proofs.Common.{rules}
 use Rattle.charts.proofs.reader.pair_met.Goals as goal
 
 pub loop-i-init : goal.loop-i-init

@@ -1,14 +1,8 @@
 -- The loop knows that the pair is not among the first i; a place that has it decides, by `pair_new`.
-use mathlib.Core.Path.{◌≡◌, refl, sym, ◌∙◌}
+use mathlib.Core.Path.{◌≡◌}
 use mathlib.Core.Bool.{false}
 use Prim.Native.Nat.{◌-◌, ◌≤◌}
-use lib.ListN.{get_or}
-use lib.Dec.{eqb}
-use borrow.Author.Tests.{eqb-true}
-use Rattle.lists.specs.Bools.{by_cases, and_both}
 use Rattle.graph.specs.Valid.{pair_met}
-use Rattle.graph.specs.Meaning.{pair_step, pair_new}
-use native.Mathlib.Omega.{arith}
 use Rattle.charts.proofs.reader.pair_met.Given as goal
 
 abbrev pub invariant-loop-i : goal.invariant-loop-i

@@ -2,7 +2,6 @@
 use mathlib.Core.Path.{sym, ◌∙◌}
 use borrow.Author.Tests.{eq-eqb, ne_eqb}
 use Rattle.charts.specs.Chart.{header_fault, reading}
-use Rattle.std.proofs.Common.{rules}
 use Rattle.charts.proofs.reader.read.Goals as goal
 
 pub returns-then-f-ne0 : goal.returns-then-f-ne0

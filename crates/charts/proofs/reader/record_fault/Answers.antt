@@ -4,7 +4,6 @@ use borrow.Author.Tests.{lt-ltb, le-ltb, eq-eqb, ne_eqb}
 use Rattle.charts.specs.Chart.{start_of, body_fault, record_fault}
 use Rattle.charts.specs.NoFault.{header_ok}
 use native.Mathlib.Omega.{arith}
-use Rattle.std.proofs.Common.{rules}
 use Rattle.charts.proofs.reader.record_fault.Goals as goal
 
 pub u16_at-requires : goal.u16_at-requires

@@ -1,7 +1,6 @@
 -- `append` and `cost_at`; a signed local is held as its bits.
 use Rattle.integers.specs.Words.{back32}
 use Rattle.charts.specs.Chart.{with_record}
-use Rattle.std.proofs.Common.{rules}
 use Rattle.charts.proofs.reader.with_record.Goals as goal
 
 pub returns : goal.returns

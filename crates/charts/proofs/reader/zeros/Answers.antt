@@ -1,6 +1,5 @@
 -- Each return by the tests that led there.
 use borrow.Author.Tests.{eq-eqb, ne_eqb}
-use Rattle.std.proofs.Common.{rules}
 use Rattle.charts.proofs.reader.zeros.Goals as goal
 
 pub returns-then-x-ne0 : goal.returns-then-x-ne0

@@ -1,7 +1,6 @@
 -- Each return by the test that led there.
 use borrow.Author.Tests.{lt-ltb, le-ltb}
 use Rattle.charts.specs.Chart.{after}
-use Rattle.std.proofs.Common.{rules}
 use Rattle.charts.proofs.writer.after.Goals as goal
 
 pub returns-then-k-m : goal.returns-then-k-m

@@ -2,7 +2,6 @@
 use native.Mathlib.Numerals.{add-one, add-two, add-three}
 use lib.ListN.{length-set}
 use native.Mathlib.Omega.{arith}
-use Rattle.std.proofs.Common.{rules}
 use Rattle.charts.proofs.writer.put4.Goals as goal
 
 pub bounds-out-i-2 : goal.bounds-out-i-2

@@ -1,13 +1,8 @@
 -- After k records the list starts with the header and these, as specs/WriterLoop.antt has it.
 use mathlib.Core.Path.{◌≡◌, sym, ◌∙◌}
-use mathlib.Core.List.{◌++◌}
-use Prim.Native.Nat.{◌+◌, ◌-◌, ◌≤◌}
-use lib.ListN.{length, take}
-use Rattle.graph.specs.Limits.{max_edges}
-use Rattle.charts.specs.Chart.{size_of, header_bytes, records_bytes, file_bytes}
+use Rattle.charts.specs.Chart.{size_of, header_bytes, file_bytes}
 use Rattle.charts.specs.WriterLoop.{write_start, write_step, write_end}
 use native.Mathlib.Omega.{arith}
-use Rattle.std.proofs.Common.{rules}
 use Rattle.charts.proofs.writer.put_all.Goals as goal
 
 pub put_header-requires : goal.put_header-requires

@@ -1,12 +1,10 @@
 -- After k records the list starts with the header and these, as specs/WriterLoop.antt has it.
-use mathlib.Core.Path.{◌≡◌, sym, ◌∙◌}
+use mathlib.Core.Path.{◌≡◌}
 use mathlib.Core.List.{◌++◌}
-use Prim.Native.Nat.{◌+◌, ◌-◌, ◌≤◌}
+use Prim.Native.Nat.{◌-◌, ◌≤◌}
 use lib.ListN.{length, take}
 use Rattle.graph.specs.Limits.{max_edges}
-use Rattle.charts.specs.Chart.{size_of, header_bytes, records_bytes, file_bytes}
-use Rattle.charts.specs.WriterLoop.{write_start, write_step, write_end}
-use native.Mathlib.Omega.{arith}
+use Rattle.charts.specs.Chart.{size_of, header_bytes, records_bytes}
 use Rattle.charts.proofs.writer.put_all.Given as goal
 
 abbrev pub invariant-loop-k : goal.invariant-loop-k

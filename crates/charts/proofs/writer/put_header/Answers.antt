@@ -1,9 +1,8 @@
 -- Two stores of four bytes; n is a byte, so its low byte is n.
 use mathlib.Core.Path.{◌≡◌}
 use Prim.Native.Nat.{◌%◌}
-use Rattle.charts.specs.Chart.{after, header_bytes}
+use Rattle.charts.specs.Chart.{header_bytes}
 use native.Mathlib.Omega.{arith}
-use Rattle.std.proofs.Common.{rules}
 use Rattle.charts.proofs.writer.put_header.Goals as goal
 
 pub returns : goal.returns

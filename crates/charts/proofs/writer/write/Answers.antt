@@ -7,7 +7,6 @@ use Rattle.charts.specs.Answers.{refused, write_meaning}
 use Rattle.charts.specs.Chart.{write_fault, write_outcome, write_leaves}
 use Rattle.charts.specs.NoFault.{write_ok}
 use native.Mathlib.Omega.{arith}
-use Rattle.std.proofs.Common.{rules}
 use Rattle.charts.proofs.writer.write.Goals as goal
 
 pub returns-then-f-ne0 : goal.returns-then-f-ne0

@@ -6,7 +6,6 @@ use Rattle.graph.specs.Valid.{valid}
 use Rattle.charts.specs.Chart.{write_fault}
 use Rattle.graph.specs.Meaning.{valid_true}
 use native.Mathlib.Omega.{arith}
-use Rattle.std.proofs.Common.{rules}
 use Rattle.charts.proofs.writer.write_fault.Goals as goal
 
 pub returns-then-not-check : goal.returns-then-not-check

@@ -5,8 +5,8 @@
 use Rattle.std.specs.Prelude.{◌≡◌, refl, ℕ, [], ◌∷◌, List}
 use Rattle.std.proofs.Common.{ap}
 use seplogic.Ra.Ura.{Ura}
-use seplogic.Ra.TreeShare.{full_share}
-use mir.Syntax.{named, imm, Name, ty_ref, Fn, local, value_local, place, deref, field, copy, rv_opd, seq, assign, call, return}
+use base.Fraction.{full_share}
+use mir.Syntax.{named, imm, Callee, ty_ref, Fn, local, value_local, place, deref, field, copy, rv_opd, seq, assign, call, return}
 use mir.Val.{Val, vptr}
 use base.Logic.{SProp, ent, sep, emp, id⊢}
 use base.Fml.{GName, Lft, Share, ftrue, flft, fobs, fbor, fat}
@@ -25,7 +25,7 @@ use sound.WpLaws.{FmC, fm_of, WpFn-mono}
 use denote.RattleType.{owns}
 use denote.Laws.{Is, shows}
 use denote.Memory.{mem, pointee}
-use denote.Ref.{MutBor, MutRef, ShrRef, shr_vals, mut_Tells, shr_Tells}
+use denote.Ref.{Bor, MutBor, MutRef, ShrRef, mut_vals, shr_vals, mut_Tells, shr_Tells}
 use denote.Signature.{plain, mut_ref_to, shr_ref_to}
 use denote.Steps.{only, opens, closes, looks, shuts, owned, peeks, heard, nothing}
 use denote.Struct.Steps.{spelt}
@@ -63,18 +63,21 @@ module _ (Θ Ψ : Lent) (Φ : Ans) (Π : Pair Θ Φ) (P : Arg) where
     kept = (yes, (yes, (yes, tt)));
   }
 
-  abbrev fn : Name → Fn
+  abbrev fn : Callee → Fn
   fn f = record {
     lifetimes = 2;
     outlives = [];
+    ty_params = [];
+    givens = 0;
     params = 3;
     locals = local Φ.B-ty value_local ∷ local (lent_ty Θ) value_local ∷ local (ty_ref (named 1) imm (pointee (S_row Ψ).written)) value_local ∷
-        local P.ty value_local ∷ local (R_ty Θ Φ Π) value_local ∷ local (S_ty Θ) value_local ∷ local (S_ty Ψ) value_local ∷ [];
+        local P.ty value_local ∷ local (R_ty Θ Φ Π) value_local ∷ local (S_ty Θ) value_local ∷ local (S_ty Ψ) value_local ∷ local (S_ty Θ) value_local ∷ [];
     body = seq (assign (place 5 []) (rv_opd (copy (place 1 (deref (S_ty Θ) ∷ [])))))
         (seq (assign (place 6 []) (rv_opd (copy (place 2 (deref (S_ty Ψ) ∷ [])))))
         (seq (call f (copy (place 5 []) ∷ copy (place 6 []) ∷ copy (place 3 []) ∷ []) (place 4 []))
-        (seq (assign (place 1 (deref (S_ty Θ) ∷ [])) (rv_opd (copy (place 4 (field 0 ∷ [])))))
-        (seq (assign (place 0 []) (rv_opd (copy (place 4 (field 1 ∷ []))))) return))));
+        (seq (assign (place 7 []) (rv_opd (copy (place 4 (field 0 ∷ [])))))
+        (seq (assign (place 1 (deref (S_ty Θ) ∷ [])) (rv_opd (copy (place 7 []))))
+        (seq (assign (place 0 []) (rv_opd (copy (place 4 (field 1 ∷ []))))) return)))));
   }
 
   abbrev stayed : Stays Thin.signature.params Thin.kept
@@ -106,10 +109,10 @@ module _ (Θ Ψ : Lent) (Φ : Ans) (Π : Pair Θ Φ) (P : Arg) where
     abbrev Core_at : Contract 𝓤
     Core_at = triple_of 𝓛 Core.signature (closing 𝓛 Core core)
 
-    module _ (κ : Lft) (q : Share) (b o : ℕ) (γ : GName) (h : Θ.S.D) (κ' : Lft) (q' : Share) (b' o' : ℕ) (γ' : GName) (t : Ψ.S.D)
+    module _ (κ : Lft) (q : Share) (b o : ℕ) (γ : GName) (h : Θ.S.D) (κ' : Lft) (q' : Share) (b' o' : ℕ) (t : Ψ.S.D)
         (n : P.row.Denot) (is_n : Is P.row n (P.val n ∷ [])) where
-      abbrev x : MutBor Θ.S.D × (MutBor Ψ.S.D × (P.row.Denot × Unit {0}))
-      x = (record { ref_ptr = (b, o); ghost_name = γ; now = h }, (record { ref_ptr = (b', o'); ghost_name = γ'; now = t }, (n, tt)))
+      abbrev x : MutBor Θ.S.D × (Bor Ψ.S.D × (P.row.Denot × Unit {0}))
+      x = (record { ref_ptr = (b, o); ghost_name = γ; now = h }, (record { ref_ptr = (b', o'); now = t }, (n, tt)))
 
       abbrev at : List Val × (List Val × (List Val × Unit {0}))
       at = (vptr b o ∷ [], (vptr b' o' ∷ [], (P.val n ∷ [], tt)))
@@ -143,36 +146,35 @@ module _ (Θ Ψ : Lent) (Φ : Ans) (Π : Pair Θ Φ) (P : Arg) where
           owned ! (S_row Ψ) (Is (S_row Ψ)) (S-has Ψ 𝓛) t _ is_t $ fjoin ! $
           owned ! (S_row Θ) (Is (S_row Θ)) (S-has Θ 𝓛) h _ is $ fjoin ! $ move ! (2 ∷ 0 ∷ []) $ join ! $ join ! $ done !
 
-      module _ (C : Calls 𝓤 H) (Λ : Loops 𝓤 H) (fm : FmC 𝓤 H 𝓛.laws C) (f : Name) (known : Triple 𝓤 (C f) Core_at) where
+      module _ (C : Calls 𝓤 H) (Λ : Loops 𝓤 H) (fm : FmC 𝓤 H 𝓛.laws C) (f : Callee) (known : Triple 𝓤 (C f) Core_at) where
         walk : ent 𝓤 (sep 𝓤 (on_entry 𝓛 Thin.signature (κ, (κ', tt)) (q, (q', tt)) x at) (req h t n))
             (WpFn 𝓤 H C Λ (fn f) (vptr b o ∷ vptr b' o' ∷ P.val n ∷ []) Post)
         walk =
             qed 𝓛 (((‵ (flft κ q) ⊛ ‵ (flft κ' q') ⊛ ‵ ftrue) ⊛ ‵
             (owns (MutRef (named 0) κ (S_row Θ) ∷ ShrRef (named 1) κ' (S_row Ψ) ∷ P.row ∷ []) x at)) ∷ raw (req h t n) ∷ []) ∵
             split ! $ enter ! C Λ (fn f) (vptr b o ∷ vptr b' o' ∷ P.val n ∷ []) _ $
-            alloc1 ! (λ l0. alloc1 ! (λ l1. alloc1 ! (λ l2. alloc1 ! (λ l3. alloc1 ! (λ l4. alloc1 ! (λ l5. alloc1 ! (λ l6. alloc0 ! $ params1 ! $
-            pass1 ! (init ! 10 refl (tt, tt)) $ pass1 ! (init ! 8 refl (tt, tt)) $ pass1 ! (init ! 6 refl (P.typed 𝓛 n _ is_n)) $ pass0 ! $
-            move ! (15 ∷ []) $ fsplit ! $ fsplit3 ! $ drop ! $ move ! (17 ∷ []) $ split ! $ move ! (2 ∷ 3 ∷ 0 ∷ []) $
+            alloc1 ! (λ l0. alloc1 ! (λ l1. alloc1 ! (λ l2. alloc1 ! (λ l3. alloc1 ! (λ l4. alloc1 ! (λ l5. alloc1 ! (λ l6. alloc1 ! (λ l7. alloc0 ! $ params1 ! $
+            pass1 ! (init ! 12 refl (tt, tt)) $ pass1 ! (init ! 10 refl (tt, tt)) $ pass1 ! (init ! 8 refl (P.typed 𝓛 n _ is_n)) $ pass0 ! $
+            move ! (17 ∷ []) $ fsplit ! $ fsplit3 ! $ drop ! $ move ! (19 ∷ []) $ split ! $ move ! (2 ∷ 3 ∷ 0 ∷ []) $
             opens ! tt (S_row Θ) {h = h} b o (λ vs. spelt ! (S_row Θ) (Is (S_row Θ)) (shows 𝓛 (S_row Θ)) (S_vals Θ)
             (LL.tells Θ.S Θ.S-laws) full_share h vs b o $
             move ! (1 ∷ []) $ peeks ! (S_row Θ) (Is (S_row Θ)) (shows 𝓛 (S_row Θ)) h (S_vals Θ h) (λ was. move ! (1 ∷ 0 ∷ []) $
             -- [the record's cell; what it owns; the open borrow; obs; auth; the other tokens; what the further parameters own; the last local;
             -- …; room for _0; …; the requires]
-            assigns ! (of_opd ! (load ! (from ! (hop ! (look ! 17 refl) (stop !))) (look_raw ! 0 refl))) (from ! (stop !))
-            (init ! 9 refl ((LL.lawful Θ.S Θ.S-laws 𝓛).typed h _ was).0) $
+            assigns ! (of_opd ! (load ! (from ! (hop ! (look ! 19 refl) (stop !))) (look_raw ! 0 refl))) (from ! (stop !))
+            (init ! 11 refl ((LL.lawful Θ.S Θ.S-laws 𝓛).typed h _ was).0) $
             -- the second record: what is shared of it; its token; the others; the plain parameter's
-            move ! (6 ∷ []) $ fsplit ! $ fsplit3 ! $ drop ! $ move ! (8 ∷ []) $ split ! $ move ! (3 ∷ 0 ∷ 1 ∷ 4 ∷ []) $
-            looks ! tt (S_row Ψ) (Is (S_row Ψ)) (shows 𝓛 (S_row Ψ)) (S_vals Ψ) (LL.tells Ψ.S Ψ.S-laws)
-            (LL.copy Ψ.S Ψ.S-copy 𝓛) t b' o' (λ part vs'. spelt ! (S_row Ψ) (Is (S_row Ψ)) (shows 𝓛 (S_row Ψ)) (S_vals Ψ)
+            move ! (6 ∷ []) $ fsplit ! $ fsplit ! $ drop ! $ move ! (7 ∷ []) $ split ! $ move ! (2 ∷ 0 ∷ 1 ∷ 3 ∷ []) $
+            looks ! tt (S_row Ψ) (LL.copied Ψ.S Ψ.S-copy 𝓛).opens t b' o' (λ part vs'. spelt ! (S_row Ψ) (Is (S_row Ψ)) (shows 𝓛 (S_row Ψ)) (S_vals Ψ)
             (LL.tells Ψ.S Ψ.S-laws) part t vs' b' o' $
             move ! (1 ∷ []) $ peeks ! (S_row Ψ) (Is (S_row Ψ)) (shows 𝓛 (S_row Ψ)) t (S_vals Ψ t) (λ was_t. move ! (1 ∷ 0 ∷ []) $
-            assigns ! (of_opd ! (load ! (from ! (hop ! (look ! 20 refl) (stop !))) (look_raw ! 0 refl))) (from ! (stop !))
-            (init ! 12 refl ((LL.lawful Ψ.S Ψ.S-laws 𝓛).typed t _ was_t).0) $
-            shuts ! tt (S_row Ψ) part t (S_vals Ψ t) b' o' $ move ! (1 ∷ []) $ drop ! $ move ! (3 ∷ []) $ drop ! $
+            assigns ! (of_opd ! (load ! (from ! (hop ! (look ! 21 refl) (stop !))) (look_raw ! 0 refl))) (from ! (stop !))
+            (init ! 13 refl ((LL.lawful Ψ.S Ψ.S-laws 𝓛).typed t _ was_t).0) $
+            shuts ! tt (S_row Ψ) part t (S_vals Ψ t) b' o' $ move ! (1 ∷ []) $ drop ! $
             -- [its token; the others; the plain parameter's; the record's cell; what it owns; the open borrow; obs; auth; the last local; …]
-            move ! (22 ∷ 2 ∷ 1 ∷ []) $ use3 𝓛 (raw (Core_at.pre to_core)) (goes_core was was_t) $
-            calls_at ! fm Core_at known to_core (and_then ! (load ! (from ! (stop !)) (look ! 9 refl))
-            (and_then ! (load ! (from ! (stop !)) (look ! 7 refl)) (and_then ! (load ! (from ! (stop !)) (look ! 13 refl)) (no_more !)))) (λ v.
+            move ! (24 ∷ 2 ∷ 1 ∷ []) $ use3 𝓛 (raw (Core_at.pre to_core)) (goes_core was was_t) $
+            calls_at ! fm Core_at known to_core (and_then ! (load ! (from ! (stop !)) (look ! 11 refl))
+            (and_then ! (load ! (from ! (stop !)) (look ! 9 refl)) (and_then ! (load ! (from ! (stop !)) (look ! 15 refl)) (no_more !)))) (λ v.
             use1 𝓛 (later (some (λ (r : Π.R.Denot). (‵ ftrue ⊛ ‵ (Π.R.own_val r (v ∷ []))) ⊛ raw
             (ensured 𝓛 Core core tt cx tt r)))) (id⊢ 𝓤 _) $ await ! tt $ pick ! (λ r.
             split ! $ move ! (1 ∷ []) $ use1 𝓛 (some (λ (ws : Lasts Core tt cx). ‵ (lasts Core tt cx ws) ⊛ raw
@@ -181,22 +183,23 @@ module _ (Θ Ψ : Lent) (Φ : Ans) (Π : Pair Θ Φ) (P : Arg) where
             move ! (1 ∷ []) $ peeks ! Π.R (Is Π.R) (shows 𝓛 Π.R) r (v ∷ []) (λ is. drop ! $
             move ! (0 ∷ 1 ∷ 3 ∷ 4 ∷ 5 ∷ 6 ∷ 7 ∷ 2 ∷ []) $
             -- [the others; what is said at exit; the record's cell; what it owns; the open borrow; obs; auth; the second's token; the last local; …]
-            land ! (from ! (stop !)) (init ! 12 refl (Π.R-typed 𝓛 r _ is)) $
-            rewrite ! 12 (λ (u : Val). ‵ (fat full_share (R_ty Θ Φ Π) l4 0 u)) (ap only (Π.R-tells r _ is)) refl $
-            assigns ! (of_opd ! (load ! (from ! (fld ! refl (stop !))) (look_in ! 12 (sub ! 0 refl (whole !)))))
-            (from ! (hop ! (look ! 18 refl) (stop !)))
+            land ! (from ! (stop !)) (init ! 14 refl (Π.R-typed 𝓛 r _ is)) $
+            rewrite ! 14 (λ (u : Val). ‵ (fat full_share (R_ty Θ Φ Π) l4 0 u)) (ap only (Π.R-tells r _ is)) refl $
+            assigns ! (of_opd ! (load ! (from ! (fld ! refl (stop !))) (look_in ! 14 (sub ! 0 refl (whole !))))) (from ! (stop !))
+            (init ! 8 refl ((LL.lawful Θ.S Θ.S-laws 𝓛).typed (Π.the_s r) _ (Π.S-is r _ is)).0) $
+            assigns ! (of_opd ! (load ! (from ! (stop !)) (look ! 8 refl))) (from ! (hop ! (look ! 20 refl) (stop !)))
             (store_raw ! 2 refl ((LL.lawful Θ.S Θ.S-laws 𝓛).typed (Π.the_s r) _ (Π.S-is r _ is)).0) $
-            assigns ! (of_opd ! (load ! (from ! (fld ! refl (stop !))) (look_in ! 12 (sub ! 1 refl (whole !))))) (from ! (stop !))
-            (init ! 20 refl (Φ.B-typed 𝓛 (Π.the_b r) _ (Π.B-is r _ is))) $
+            assigns ! (of_opd ! (load ! (from ! (fld ! refl (stop !))) (look_in ! 14 (sub ! 1 refl (whole !))))) (from ! (stop !))
+            (init ! 22 refl (Φ.B-typed 𝓛 (Π.the_b r) _ (Π.B-is r _ is))) $
             move ! (3 ∷ []) $ drop ! $ owned ! (S_row Θ) (Is (S_row Θ)) (S-has Θ 𝓛) (Π.the_s r) _ (Π.S-is r _ is) $
             move ! (3 ∷ 0 ∷ 4 ∷ 5 ∷ 6 ∷ []) $ closes ! tt (S_row Θ) (Π.the_s r) (S_vals Θ (Π.the_s r)) b o $
-            returns ! (look ! 18 refl) $ forget ! 6 refl $ forget ! 8 refl $ forget ! 10 refl $ forget ! 12 refl $ forget ! 14 refl $
-            forget ! 16 refl $ forget ! 18 refl $
-            move ! (18 ∷ 19 ∷ []) $ free1 ! $ move ! (16 ∷ 17 ∷ []) $ free1 ! $ move ! (14 ∷ 15 ∷ []) $ free1 ! $ move ! (12 ∷ 13 ∷ []) $
+            returns ! (look ! 20 refl) $ forget ! 6 refl $ forget ! 8 refl $ forget ! 10 refl $ forget ! 12 refl $ forget ! 14 refl $
+            forget ! 16 refl $ forget ! 18 refl $ forget ! 20 refl $
+            move ! (20 ∷ 21 ∷ []) $ free1 ! $ move ! (18 ∷ 19 ∷ []) $ free1 ! $ move ! (16 ∷ 17 ∷ []) $ free1 ! $ move ! (14 ∷ 15 ∷ []) $ free1 ! $ move ! (12 ∷ 13 ∷ []) $
             free1 ! $ move ! (10 ∷ 11 ∷ []) $ free1 ! $ move ! (8 ∷ 9 ∷ []) $ free1 ! $ move ! (6 ∷ 7 ∷ []) $ free1 ! $ free0 ! $
-            keep ! (0 ∷ 1 ∷ 2 ∷ 3 ∷ 4 ∷ 5 ∷ []) $ by ! (exits r ws e (Π.B-is r _ is))))))))))))))))))
+            keep ! (0 ∷ 1 ∷ 2 ∷ 3 ∷ 4 ∷ 5 ∷ []) $ by ! (exits r ws e (Π.B-is r _ is)))))))))))))))))))
 
-    pub meets : (𝓣 : Tables 𝓤 H) (f : Name) → Triple 𝓤 (𝓣.C f) Core_at → Meets 𝓛 Thin.signature (WpFn 𝓤 H 𝓣.C 𝓣.Λ (fn f))
+    pub meets : (𝓣 : Tables 𝓤 H) (f : Callee) → Triple 𝓤 (𝓣.C f) Core_at → Meets 𝓛 Thin.signature (WpFn 𝓤 H 𝓣.C 𝓣.Λ (fn f))
         (closing 𝓛 Thin thin)
     meets 𝓣 f known =
         walk_Meets 𝓛 Thin stayed (
@@ -207,14 +210,14 @@ module _ (Θ Ψ : Lent) (Φ : Ans) (Π : Pair Θ Φ) (P : Arg) where
           ),
         ) thin (WpFn 𝓤 H 𝓣.C 𝓣.Λ (fn f))
         (WpFn-mono 𝓤 H 𝓛.laws 𝓣 (fn f))
-        (walked 𝓛 Thin stayed thin (WpFn 𝓤 H 𝓣.C 𝓣.Λ (fn f)) (λ κs. (shr_vals, (shr_vals, ((λ y. P.val y ∷ []), tt))))
+        (walked 𝓛 Thin stayed thin (WpFn 𝓤 H 𝓣.C 𝓣.Λ (fn f)) (λ κs. (mut_vals, (shr_vals, ((λ y. P.val y ∷ []), tt))))
         (λ κs. (mut_Tells (named 0) κs.0 (S_row Θ), (shr_Tells (named 1) κs.1.0 (S_row Ψ), (P.tells, tt))))
         (λ κs qs bounds a _ are. walk κs.0 qs.0 a.0.ref_ptr.0 a.0.ref_ptr.1 a.0.ghost_name a.0.now
-        κs.1.0 qs.1.0 a.1.0.ref_ptr.0 a.1.0.ref_ptr.1 a.1.0.ghost_name a.1.0.now a.1.1.0 are.1.1.0 𝓣.C
+        κs.1.0 qs.1.0 a.1.0.ref_ptr.0 a.1.0.ref_ptr.1 a.1.0.now a.1.1.0 are.1.1.0 𝓣.C
         𝓣.Λ (fm_of 𝓤 H 𝓛.laws 𝓣) f known))
 
   -- the function itself, from core's theorem
-  module _ {M : Type 1} {𝓤 : Ura M} (𝓛 : Logic 𝓤) (𝓜 : Model 𝓤 𝓛.H) (𝓡 : Running 𝓤 𝓛.H 𝓜) (env : Env) (key f : Name)
+  module _ {M : Type 1} {𝓤 : Ura M} (𝓛 : Logic 𝓤) (𝓜 : Model 𝓤 𝓛.H) (𝓡 : Running 𝓤 𝓛.H 𝓜) (env : Env) (key f : Callee)
       (routine : Routine) (unfolded : Closed 𝓤 𝓛.H (tables 𝓤 𝓛.H 𝓜 𝓡 env).C (tables 𝓤 𝓛.H 𝓜 𝓡 env).Λ key (fn f)) (calls : env f ≡ routine)
     where
       open 𝓛 use {H}

@@ -1,12 +1,12 @@
 -- The walk of a thin function whose further parameters are: a `&[u8]`.
 --     pub fn f(s: &mut S, ..) -> B { let out = core(*s, ..); *s = out.s; out.b }
--- It opens the borrow, copies the record, calls core by its theorem, stores the record that core gives, and closes the borrow. Nothing
--- here is of the calls themselves. Assumes `Logic`.
+-- It opens the borrow, copies the record, calls core by its theorem, stores the record that core gives, by way of a local as the code is
+-- lowered, and closes the borrow. Nothing here is of the calls themselves. Assumes `Logic`.
 use Rattle.std.specs.Prelude.{◌≡◌, refl, ℕ, [], ◌∷◌, List, length}
 use Rattle.std.proofs.Common.{ap}
 use seplogic.Ra.Ura.{Ura}
-use seplogic.Ra.TreeShare.{full_share}
-use mir.Syntax.{named, mut, imm, Name, ty_ref, ty_int, w8, Fn, local, value_local, place, deref, field, copy, rv_opd, seq, assign, call, return}
+use base.Fraction.{full_share}
+use mir.Syntax.{named, imm, Callee, ty_ref, ty_int, w8, Fn, local, value_local, place, deref, field, copy, rv_opd, seq, assign, call, return}
 use mir.Val.{Val, vptr}
 use base.Logic.{SProp, ent, sep, emp, id⊢}
 use base.Fml.{GName, Lft, Share, ftrue, flft, fobs, fbor, fat}
@@ -29,7 +29,7 @@ use Rattle.std.specs.Borrow.{u8}
 use denote.Ref.{Bor, MutBor, MutRef, mut_vals, mut_Tells}
 use denote.Slice.{slice_val, shr_slice_vals, slice_ty, ShrSlice, Room, shr_slice_Tells}
 use denote.Signature.{plain, mut_ref_to, shr_slice_of}
-use denote.Steps.{only, opens, closes, owned, peeks, heard, nothing}
+use denote.Steps.{only, opens, closes, owned, peeks, heard}
 use denote.Struct.Steps.{spelt}
 use denote.Struct.Laws as LL
 use denote.Triple.Statement.{Contract, Triple}
@@ -49,16 +49,19 @@ module _ (Θ : Lent) (Φ : Ans) (Π : Pair Θ Φ) where
   abbrev Thin : Ended
   Thin = record { signature = record { lifetimes = 2; outlives = []; params = mut_ref_to (0 ∷ []) tt (plain (λ _. S_row Θ)) ∷ shr_slice_of (1 ∷ []) tt (plain (λ _. u8)) ∷ []; result = plain (λ _. Φ.B) }; kept = (yes, (yes, tt)) }
 
-  abbrev fn : Name → Fn
+  abbrev fn : Callee → Fn
   fn f = record {
     lifetimes = 2;
     outlives = [];
+    ty_params = [];
+    givens = 0;
     params = 2;
-    locals = local Φ.B-ty value_local ∷ local (lent_ty Θ) value_local ∷ local (slice_ty (ty_ref (named 1) imm (ty_int w8))) value_local ∷ local (R_ty Θ Φ Π) value_local ∷ local (S_ty Θ) value_local ∷ [];
+    locals = local Φ.B-ty value_local ∷ local (lent_ty Θ) value_local ∷ local (slice_ty (ty_ref (named 1) imm (ty_int w8))) value_local ∷ local (R_ty Θ Φ Π) value_local ∷ local (S_ty Θ) value_local ∷ local (S_ty Θ) value_local ∷ [];
     body = seq (assign (place 4 []) (rv_opd (copy (place 1 (deref (S_ty Θ) ∷ [])))))
         (seq (call f (copy (place 4 []) ∷ copy (place 2 []) ∷ []) (place 3 []))
-        (seq (assign (place 1 (deref (S_ty Θ) ∷ [])) (rv_opd (copy (place 3 (field 0 ∷ [])))))
-        (seq (assign (place 0 []) (rv_opd (copy (place 3 (field 1 ∷ []))))) return)));
+        (seq (assign (place 5 []) (rv_opd (copy (place 3 (field 0 ∷ [])))))
+        (seq (assign (place 1 (deref (S_ty Θ) ∷ [])) (rv_opd (copy (place 5 []))))
+        (seq (assign (place 0 []) (rv_opd (copy (place 3 (field 1 ∷ []))))) return))));
   }
 
   abbrev stayed : Stays Thin.signature.params Thin.kept
@@ -77,16 +80,16 @@ module _ (Θ : Lent) (Φ : Ans) (Π : Pair Θ Φ) where
     abbrev Core_at : Contract 𝓤
     Core_at = triple_of 𝓛 Core.signature (closing 𝓛 Core core)
 
-    module _ (κ : Lft) (q : Share) (b o : ℕ) (γ : GName) (h : Θ.S.D) (κ0 : Lft) (q0 : Share) (b0 o0 : ℕ) (γ0 : GName) (n0 : List ℕ) (room0 : Room u8 (length n0)) where
-      abbrev x : MutBor Θ.S.D × (MutBor (List ℕ) × (Unit {0}))
-      x = (record { ref_ptr = (b, o); ghost_name = γ; now = h }, (record { ref_ptr = (b0, o0); ghost_name = γ0; now = n0 }, tt))
+    module _ (κ : Lft) (q : Share) (b o : ℕ) (γ : GName) (h : Θ.S.D) (κ0 : Lft) (q0 : Share) (b0 o0 : ℕ) (n0 : List ℕ) (room0 : Room u8 (length n0)) where
+      abbrev x : MutBor Θ.S.D × (Bor (List ℕ) × (Unit {0}))
+      x = (record { ref_ptr = (b, o); ghost_name = γ; now = h }, (record { ref_ptr = (b0, o0); now = n0 }, tt))
 
       abbrev at : List Val × (List Val × (Unit {0}))
       at = (vptr b o ∷ [], (slice_val (b0, o0) (length n0) ∷ [], tt))
 
       -- what core is passed beside the record
       abbrev cx : Bor (List ℕ) × (Unit {0})
-      cx = (record { ref_ptr = (b0, o0); ghost_name = γ0; now = n0 }, tt)
+      cx = (record { ref_ptr = (b0, o0); now = n0 }, tt)
 
       abbrev cat : List Val × (Unit {0})
       cat = (slice_val (b0, o0) (length n0) ∷ [], tt)
@@ -108,39 +111,42 @@ module _ (Θ : Lent) (Φ : Ans) (Π : Pair Θ Φ) where
       goes_core : Is (S_row Θ) h (S_vals Θ h) → ent 𝓤 (⋆ 𝓛 (raw (req h n0) ∷ ‵ (owns (ShrSlice (named 1) κ0 u8 ∷ []) (cx) (cat)) ∷ (‵ (flft κ0 q0) ⊛ ‵ ftrue) ∷ [])) (Core_at.pre to_core)
       goes_core is = qed 𝓛 (raw (req h n0) ∷ ‵ (owns (ShrSlice (named 1) κ0 u8 ∷ []) (cx) (cat)) ∷ (‵ (flft κ0 q0) ⊛ ‵ ftrue) ∷ []) ∵ move ! (1 ∷ []) $ owned ! (S_row Θ) (Is (S_row Θ)) (S-has Θ 𝓛) h _ is $ fjoin ! $ move ! (2 ∷ 0 ∷ []) $ join ! $ join ! $ done !
 
-      module _ (C : Calls 𝓤 H) (Λ : Loops 𝓤 H) (fm : FmC 𝓤 H 𝓛.laws C) (f : Name) (known : Triple 𝓤 (C f) Core_at) where
+      module _ (C : Calls 𝓤 H) (Λ : Loops 𝓤 H) (fm : FmC 𝓤 H 𝓛.laws C) (f : Callee) (known : Triple 𝓤 (C f) Core_at) where
         walk : ent 𝓤 (sep 𝓤 (on_entry 𝓛 Thin.signature (κ, (κ0, tt)) (q, (q0, tt)) x at) (req h n0)) (WpFn 𝓤 H C Λ (fn f) (vptr b o ∷ slice_val (b0, o0) (length n0) ∷ []) Post)
         walk =
             qed 𝓛 (((‵ (flft κ q) ⊛ ‵ (flft κ0 q0) ⊛ ‵ ftrue) ⊛ ‵ (owns (MutRef (named 0) κ (S_row Θ) ∷ ShrSlice (named 1) κ0 u8 ∷ []) x at)) ∷ raw (req h n0) ∷ []) ∵ split ! $ enter ! C Λ (fn f) (vptr b o ∷ slice_val (b0, o0) (length n0) ∷ []) _ $
-            alloc1 ! (λ l0. alloc1 ! (λ l1. alloc1 ! (λ l2. alloc1 ! (λ l3. alloc1 ! (λ l4. alloc0 ! $ params1 ! $ pass1 ! (init ! 6 refl (tt, tt)) $ pass1 ! (init ! 4 refl (tt, (tt, (record { fits = room0.0 }, tt)))) $ pass0 ! $
-            move ! (11 ∷ []) $ fsplit ! $ fsplit3 ! $ drop ! $ move ! (13 ∷ []) $ split ! $ move ! (2 ∷ 3 ∷ 0 ∷ []) $
+            alloc1 ! (λ l0. alloc1 ! (λ l1. alloc1 ! (λ l2. alloc1 ! (λ l3. alloc1 ! (λ l4. alloc1 ! (λ l5. alloc0 ! $ params1 ! $ pass1 ! (init ! 8 refl (tt, tt)) $ pass1 ! (init ! 6 refl (tt, (tt, (record { fits = room0.0 }, tt)))) $ pass0 ! $
+            move ! (13 ∷ []) $ fsplit ! $ fsplit3 ! $ drop ! $ move ! (15 ∷ []) $ split ! $ move ! (2 ∷ 3 ∷ 0 ∷ []) $
             opens ! tt (S_row Θ) {h = h} b o (λ vs. spelt ! (S_row Θ) (Is (S_row Θ)) (shows 𝓛 (S_row Θ)) (S_vals Θ) (LL.tells Θ.S Θ.S-laws) full_share h vs b o $
             move ! (1 ∷ []) $ peeks ! (S_row Θ) (Is (S_row Θ)) (shows 𝓛 (S_row Θ)) h (S_vals Θ h) (λ was. move ! (1 ∷ 0 ∷ []) $
             -- [the record's cell; what it owns; the open borrow; obs; auth; the tokens; what the further parameters own; the last local; …; room for _0; …; the requires]
-            assigns ! (of_opd ! (load ! (from ! (hop ! (look ! 13 refl) (stop !))) (look_raw ! 0 refl))) (from ! (stop !)) (init ! 7 refl ((LL.lawful Θ.S Θ.S-laws 𝓛).typed h _ was).0) $
-            move ! (17 ∷ 6 ∷ 5 ∷ []) $ use3 𝓛 (raw (Core_at.pre to_core)) (goes_core was) $
-            calls_at ! fm Core_at known to_core (and_then ! (load ! (from ! (stop !)) (look ! 6 refl)) (and_then ! (load ! (from ! (stop !)) (look ! 10 refl)) (no_more !))) (λ v.
+            assigns ! (of_opd ! (load ! (from ! (hop ! (look ! 15 refl) (stop !))) (look_raw ! 0 refl))) (from ! (stop !)) (init ! 9 refl ((LL.lawful Θ.S Θ.S-laws 𝓛).typed h _ was).0) $
+            move ! (19 ∷ 6 ∷ 5 ∷ []) $ use3 𝓛 (raw (Core_at.pre to_core)) (goes_core was) $
+            calls_at ! fm Core_at known to_core (and_then ! (load ! (from ! (stop !)) (look ! 8 refl)) (and_then ! (load ! (from ! (stop !)) (look ! 12 refl)) (no_more !))) (λ v.
             use1 𝓛 (later (some (λ (r : Π.R.Denot). ((‵ (flft κ0 q0) ⊛ ‵ ftrue) ⊛ ‵ (Π.R.own_val r (v ∷ []))) ⊛ raw (ensured 𝓛 Core core (κ0, tt) (h, cx) tt r)))) (id⊢ 𝓤 _) $ await ! tt $ pick ! (λ r.
             split ! $ move ! (1 ∷ []) $ use1 𝓛 (some (λ (ws : Lasts Core (κ0, tt) (h, cx)). ‵ (lasts Core (κ0, tt) (h, cx) ws) ⊛ raw (fact 𝓤 (ens h n0 r)))) (id⊢ 𝓤 _) $ pick ! (λ ws.
             split ! $ move ! (1 ∷ []) $ heard ! (ens h n0 r) (λ e. fsplit ! $ drop ! $ move ! (1 ∷ []) $ split ! $ move ! (1 ∷ []) $
             peeks ! Π.R (Is Π.R) (shows 𝓛 Π.R) r (v ∷ []) (λ is. drop ! $
             -- [the tokens; what is said at exit; the record's cell; what it owns; the open borrow; obs; auth; the last local; …]
-            land ! (from ! (stop !)) (init ! 9 refl (Π.R-typed 𝓛 r _ is)) $ rewrite ! 9 (λ (u : Val). ‵ (fat full_share (R_ty Θ Φ Π) l3 0 u)) (ap only (Π.R-tells r _ is)) refl $
-            assigns ! (of_opd ! (load ! (from ! (fld ! refl (stop !))) (look_in ! 9 (sub ! 0 refl (whole !))))) (from ! (hop ! (look ! 13 refl) (stop !))) (store_raw ! 2 refl ((LL.lawful Θ.S Θ.S-laws 𝓛).typed (Π.the_s r) _ (Π.S-is r _ is)).0) $
-            assigns ! (of_opd ! (load ! (from ! (fld ! refl (stop !))) (look_in ! 9 (sub ! 1 refl (whole !))))) (from ! (stop !)) (init ! 15 refl (Φ.B-typed 𝓛 (Π.the_b r) _ (Π.B-is r _ is))) $
+            land ! (from ! (stop !)) (init ! 11 refl (Π.R-typed 𝓛 r _ is)) $ rewrite ! 11 (λ (u : Val). ‵ (fat full_share (R_ty Θ Φ Π) l3 0 u)) (ap only (Π.R-tells r _ is)) refl $
+            assigns ! (of_opd ! (load ! (from ! (fld ! refl (stop !))) (look_in ! 11 (sub ! 0 refl (whole !))))) (from ! (stop !))
+            (init ! 7 refl ((LL.lawful Θ.S Θ.S-laws 𝓛).typed (Π.the_s r) _ (Π.S-is r _ is)).0) $
+            assigns ! (of_opd ! (load ! (from ! (stop !)) (look ! 7 refl))) (from ! (hop ! (look ! 15 refl) (stop !)))
+            (store_raw ! 2 refl ((LL.lawful Θ.S Θ.S-laws 𝓛).typed (Π.the_s r) _ (Π.S-is r _ is)).0) $
+            assigns ! (of_opd ! (load ! (from ! (fld ! refl (stop !))) (look_in ! 11 (sub ! 1 refl (whole !))))) (from ! (stop !)) (init ! 17 refl (Φ.B-typed 𝓛 (Π.the_b r) _ (Π.B-is r _ is))) $
             move ! (3 ∷ []) $ drop ! $ owned ! (S_row Θ) (Is (S_row Θ)) (S-has Θ 𝓛) (Π.the_s r) _ (Π.S-is r _ is) $ move ! (3 ∷ 0 ∷ 4 ∷ 5 ∷ 6 ∷ []) $ closes ! tt (S_row Θ) (Π.the_s r) (S_vals Θ (Π.the_s r)) b o $
-            returns ! (look ! 13 refl) $ forget ! 5 refl $ forget ! 7 refl $ forget ! 9 refl $ forget ! 11 refl $ forget ! 13 refl $
-            move ! (13 ∷ 14 ∷ []) $ free1 ! $ move ! (11 ∷ 12 ∷ []) $ free1 ! $ move ! (9 ∷ 10 ∷ []) $ free1 ! $ move ! (7 ∷ 8 ∷ []) $ free1 ! $ move ! (5 ∷ 6 ∷ []) $ free1 ! $ free0 ! $
-            keep ! (0 ∷ 1 ∷ 2 ∷ 3 ∷ 4 ∷ []) $ by ! (exits r ws e (Π.B-is r _ is))))))))))))))
+            returns ! (look ! 15 refl) $ forget ! 5 refl $ forget ! 7 refl $ forget ! 9 refl $ forget ! 11 refl $ forget ! 13 refl $ forget ! 15 refl $
+            move ! (15 ∷ 16 ∷ []) $ free1 ! $ move ! (13 ∷ 14 ∷ []) $ free1 ! $ move ! (11 ∷ 12 ∷ []) $ free1 ! $ move ! (9 ∷ 10 ∷ []) $ free1 ! $ move ! (7 ∷ 8 ∷ []) $ free1 ! $ move ! (5 ∷ 6 ∷ []) $ free1 ! $ free0 ! $
+            keep ! (0 ∷ 1 ∷ 2 ∷ 3 ∷ 4 ∷ []) $ by ! (exits r ws e (Π.B-is r _ is)))))))))))))))
 
-    pub meets : (𝓣 : Tables 𝓤 H) (f : Name) → Triple 𝓤 (𝓣.C f) Core_at → Meets 𝓛 Thin.signature (WpFn 𝓤 H 𝓣.C 𝓣.Λ (fn f)) (closing 𝓛 Thin thin)
+    pub meets : (𝓣 : Tables 𝓤 H) (f : Callee) → Triple 𝓤 (𝓣.C f) Core_at → Meets 𝓛 Thin.signature (WpFn 𝓤 H 𝓣.C 𝓣.Λ (fn f)) (closing 𝓛 Thin thin)
     meets 𝓣 f known =
         walk_Meets 𝓛 Thin stayed (Goes-ref 𝓛 2 0 tt (plain (λ _. S_row Θ)), (goes_passed 𝓛 2 (shr_slice_of (1 ∷ []) tt (plain (λ _. u8))) yes, tt)) thin (WpFn 𝓤 H 𝓣.C 𝓣.Λ (fn f)) (WpFn-mono 𝓤 H 𝓛.laws 𝓣 (fn f))
         (walked 𝓛 Thin stayed thin (WpFn 𝓤 H 𝓣.C 𝓣.Λ (fn f)) (λ κs. (mut_vals, (shr_slice_vals, tt))) (λ κs. (mut_Tells (named 0) κs.0 (S_row Θ), (shr_slice_Tells (named 1) κs.1.0 u8, tt)))
-        (λ κs qs bounds a _ are. walk κs.0 qs.0 a.0.ref_ptr.0 a.0.ref_ptr.1 a.0.ghost_name a.0.now κs.1.0 qs.1.0 a.1.0.ref_ptr.0 a.1.0.ref_ptr.1 a.1.0.ghost_name a.1.0.now are.1.0.0.1 𝓣.C 𝓣.Λ (fm_of 𝓤 H 𝓛.laws 𝓣) f known))
+        (λ κs qs bounds a _ are. walk κs.0 qs.0 a.0.ref_ptr.0 a.0.ref_ptr.1 a.0.ghost_name a.0.now κs.1.0 qs.1.0 a.1.0.ref_ptr.0 a.1.0.ref_ptr.1 a.1.0.now are.1.0.0.1 𝓣.C 𝓣.Λ (fm_of 𝓤 H 𝓛.laws 𝓣) f known))
 
   -- the function itself, from core's theorem
-  module _ {M : Type 1} {𝓤 : Ura M} (𝓛 : Logic 𝓤) (𝓜 : Model 𝓤 𝓛.H) (𝓡 : Running 𝓤 𝓛.H 𝓜) (env : Env) (key f : Name) (routine : Routine) (unfolded : Closed 𝓤 𝓛.H (tables 𝓤 𝓛.H 𝓜 𝓡 env).C (tables 𝓤 𝓛.H 𝓜 𝓡 env).Λ key (fn f)) (calls : env f ≡ routine) where
+  module _ {M : Type 1} {𝓤 : Ura M} (𝓛 : Logic 𝓤) (𝓜 : Model 𝓤 𝓛.H) (𝓡 : Running 𝓤 𝓛.H 𝓜) (env : Env) (key f : Callee) (routine : Routine) (unfolded : Closed 𝓤 𝓛.H (tables 𝓤 𝓛.H 𝓜 𝓡 env).C (tables 𝓤 𝓛.H 𝓜 𝓡 env).Λ key (fn f)) (calls : env f ≡ routine) where
     open 𝓛 use {H}
 
     pub spec : (req : Θ.S.D → List ℕ → SProp 𝓤) (ens : Θ.S.D → List ℕ → Π.R.Denot → Type 0) (told : Θ.S.D → List ℕ → Φ.B.Denot → Θ.S.D → Type 0)

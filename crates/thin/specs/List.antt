@@ -1,12 +1,12 @@
 -- The walk of a thin function whose further parameters are: a `&mut [u8]`.
 --     pub fn f(s: &mut S, ..) -> B { let out = core(*s, ..); *s = out.s; out.b }
--- It opens the borrow, copies the record, calls core by its theorem, stores the record that core gives, and closes the borrow. Nothing
--- here is of the calls themselves. Assumes `Logic`.
+-- It opens the borrow, copies the record, calls core by its theorem, stores the record that core gives, by way of a local as the code is
+-- lowered, and closes the borrow. Nothing here is of the calls themselves. Assumes `Logic`.
 use Rattle.std.specs.Prelude.{◌≡◌, refl, ℕ, [], ◌∷◌, List, length}
 use Rattle.std.proofs.Common.{ap}
 use seplogic.Ra.Ura.{Ura}
-use seplogic.Ra.TreeShare.{full_share}
-use mir.Syntax.{named, erased, mut, Name, ty_ref, ty_int, w8, Fn, local, value_local, place, deref, field, copy, rv_opd, aggregate, addr_of, seq, assign, call, return}
+use base.Fraction.{full_share}
+use mir.Syntax.{named, erased, mut, Callee, ty_ref, ty_int, w8, Fn, local, value_local, place, deref, field, copy, rv_opd, aggregate, addr_of, seq, assign, call, return}
 use mir.Val.{Val, vptr}
 use base.Logic.{SProp, ent, sep, emp, id⊢}
 use base.Fml.{GName, Lft, Share, ftrue, flft, fobs, fbor, fat}
@@ -67,20 +67,23 @@ module _ (Θ : Lent) (Φ : Ans) (Π : Pair Θ Φ) where
     kept = (yes, (yes, tt));
   }
 
-  abbrev fn : Name → Fn
+  abbrev fn : Callee → Fn
   fn f = record {
     lifetimes = 2;
     outlives = [];
+    ty_params = [];
+    givens = 0;
     params = 2;
     locals = local Φ.B-ty value_local ∷ local (lent_ty Θ) value_local ∷ local (slice_ty (ty_ref (named 1) mut (ty_int w8))) value_local ∷
         local (R_ty Θ Φ Π) value_local ∷ local (S_ty Θ) value_local ∷ local (ty_ref erased mut (ty_int w8)) value_local ∷ local
-        (slice_ty (ty_ref erased mut (ty_int w8))) value_local ∷ [];
+        (slice_ty (ty_ref erased mut (ty_int w8))) value_local ∷ local (S_ty Θ) value_local ∷ [];
     body = seq (assign (place 4 []) (rv_opd (copy (place 1 (deref (S_ty Θ) ∷ [])))))
         (seq (assign (place 5 []) (addr_of (place 2 (field 0 ∷ deref (ty_int w8) ∷ []))))
         (seq (assign (place 6 []) (aggregate (copy (place 5 []) ∷ copy (place 2 (field 1 ∷ [])) ∷ [])))
         (seq (call f (copy (place 4 []) ∷ copy (place 6 []) ∷ []) (place 3 []))
-        (seq (assign (place 1 (deref (S_ty Θ) ∷ [])) (rv_opd (copy (place 3 (field 0 ∷ [])))))
-        (seq (assign (place 0 []) (rv_opd (copy (place 3 (field 1 ∷ []))))) return)))));
+        (seq (assign (place 7 []) (rv_opd (copy (place 3 (field 0 ∷ [])))))
+        (seq (assign (place 1 (deref (S_ty Θ) ∷ [])) (rv_opd (copy (place 7 []))))
+        (seq (assign (place 0 []) (rv_opd (copy (place 3 (field 1 ∷ []))))) return))))));
   }
 
   abbrev stayed : Stays Thin.signature.params Thin.kept
@@ -145,32 +148,32 @@ module _ (Θ : Lent) (Φ : Ans) (Π : Pair Θ Φ) where
           move ! (1 ∷ []) $ owned ! (S_row Θ) (Is (S_row Θ)) (S-has Θ 𝓛) h _ is $ fjoin ! $ move ! (2 ∷ 0 ∷ []) $ join ! $ join ! $
           done !
 
-      module _ (C : Calls 𝓤 H) (Λ : Loops 𝓤 H) (fm : FmC 𝓤 H 𝓛.laws C) (f : Name) (known : Triple 𝓤 (C f) Core_at) where
+      module _ (C : Calls 𝓤 H) (Λ : Loops 𝓤 H) (fm : FmC 𝓤 H 𝓛.laws C) (f : Callee) (known : Triple 𝓤 (C f) Core_at) where
         walk : ent 𝓤 (sep 𝓤 (on_entry 𝓛 Thin.signature (κ, (κ0, tt)) (q, (q0, tt)) x at) (req h n0))
             (WpFn 𝓤 H C Λ (fn f) (vptr b o ∷ slice_val (b0, o0) (length n0) ∷ []) Post)
         walk =
             qed 𝓛 (((‵ (flft κ q) ⊛ ‵ (flft κ0 q0) ⊛ ‵ ftrue) ⊛ ‵
             (owns (MutRef (named 0) κ (S_row Θ) ∷ MutSlice (named 1) κ0 u8 ∷ []) x at)) ∷ raw (req h n0) ∷ []) ∵ split ! $
             enter ! C Λ (fn f) (vptr b o ∷ slice_val (b0, o0) (length n0) ∷ []) _ $
-            alloc1 ! (λ l0. alloc1 ! (λ l1. alloc1 ! (λ l2. alloc1 ! (λ l3. alloc1 ! (λ l4. alloc1 ! (λ l5. alloc1 ! (λ l6. alloc0 ! $
-            params1 ! $ pass1 ! (init ! 10 refl (tt, tt)) $ pass1 ! (init ! 8 refl (tt, (tt, (record { fits = room0.0 }, tt)))) $
+            alloc1 ! (λ l0. alloc1 ! (λ l1. alloc1 ! (λ l2. alloc1 ! (λ l3. alloc1 ! (λ l4. alloc1 ! (λ l5. alloc1 ! (λ l6. alloc1 ! (λ l7. alloc0 ! $
+            params1 ! $ pass1 ! (init ! 12 refl (tt, tt)) $ pass1 ! (init ! 10 refl (tt, (tt, (record { fits = room0.0 }, tt)))) $
             pass0 ! $
-            move ! (15 ∷ []) $ fsplit ! $ fsplit3 ! $ drop ! $ move ! (17 ∷ []) $ split ! $ move ! (2 ∷ 3 ∷ 0 ∷ []) $
+            move ! (17 ∷ []) $ fsplit ! $ fsplit3 ! $ drop ! $ move ! (19 ∷ []) $ split ! $ move ! (2 ∷ 3 ∷ 0 ∷ []) $
             opens ! tt (S_row Θ) {h = h} b o (λ vs. spelt ! (S_row Θ) (Is (S_row Θ)) (shows 𝓛 (S_row Θ)) (S_vals Θ)
             (LL.tells Θ.S Θ.S-laws) full_share h vs b o $
             move ! (1 ∷ []) $ peeks ! (S_row Θ) (Is (S_row Θ)) (shows 𝓛 (S_row Θ)) h (S_vals Θ h) (λ was. move ! (1 ∷ 0 ∷ []) $
             -- [the record's cell; what it owns; the open borrow; obs; auth; the tokens;
             -- what the further parameters own; the last local; …; room for _0; …; the requires]
-            assigns ! (of_opd ! (load ! (from ! (hop ! (look ! 17 refl) (stop !))) (look_raw ! 0 refl))) (from ! (stop !))
-            (init ! 11 refl ((LL.lawful Θ.S Θ.S-laws 𝓛).typed h _ was).0) $
-            assigns ! (addr ! (from ! (fld ! refl (hop ! (look_in ! 15 (sub ! 0 refl (whole !))) (stop !))))) (from ! (stop !))
-            (init ! 9 refl (tt, tt)) $
-            assigns ! (agg ! (and_then ! (load ! (from ! (stop !)) (look ! 9 refl))
-            (and_then ! (load ! (from ! (fld ! refl (stop !))) (look_in ! 15 (sub ! 1 refl (whole !)))) (no_more !))))
-            (from ! (stop !)) (init ! 7 refl (tt, (tt, (record { fits = room0.0 }, tt)))) $
-            move ! (21 ∷ 6 ∷ 5 ∷ []) $ use3 𝓛 (raw (Core_at.pre to_core)) (goes_core was) $
-            calls_at ! fm Core_at known to_core (and_then ! (load ! (from ! (stop !)) (look ! 10 refl))
-            (and_then ! (load ! (from ! (stop !)) (look ! 6 refl)) (no_more !))) (λ v.
+            assigns ! (of_opd ! (load ! (from ! (hop ! (look ! 19 refl) (stop !))) (look_raw ! 0 refl))) (from ! (stop !))
+            (init ! 13 refl ((LL.lawful Θ.S Θ.S-laws 𝓛).typed h _ was).0) $
+            assigns ! (addr ! (from ! (fld ! refl (hop ! (look_in ! 17 (sub ! 0 refl (whole !))) (stop !))))) (from ! (stop !))
+            (init ! 11 refl (tt, tt)) $
+            assigns ! (agg ! (and_then ! (load ! (from ! (stop !)) (look ! 11 refl))
+            (and_then ! (load ! (from ! (fld ! refl (stop !))) (look_in ! 17 (sub ! 1 refl (whole !)))) (no_more !))))
+            (from ! (stop !)) (init ! 9 refl (tt, (tt, (record { fits = room0.0 }, tt)))) $
+            move ! (23 ∷ 6 ∷ 5 ∷ []) $ use3 𝓛 (raw (Core_at.pre to_core)) (goes_core was) $
+            calls_at ! fm Core_at known to_core (and_then ! (load ! (from ! (stop !)) (look ! 12 refl))
+            (and_then ! (load ! (from ! (stop !)) (look ! 8 refl)) (no_more !))) (λ v.
             use1 𝓛 (later (some (λ (r : Π.R.Denot). ((‵ (flft κ0 q0) ⊛ ‵ ftrue) ⊛ ‵ (Π.R.own_val r (v ∷ []))) ⊛ raw
             (ensured 𝓛 Core core (κ0, tt) (h, x.1) tt r)))) (id⊢ 𝓤 _) $ await ! tt $ pick ! (λ r.
             split ! $ move ! (1 ∷ []) $ use1 𝓛 (some (λ (ws : Lasts Core (κ0, tt) (h, x.1)). ‵ (lasts Core (κ0, tt) (h, x.1) ws) ⊛ raw
@@ -179,22 +182,23 @@ module _ (Θ : Lent) (Φ : Ans) (Π : Pair Θ Φ) where
             move ! (1 ∷ []) $
             peeks ! Π.R (Is Π.R) (shows 𝓛 Π.R) r (v ∷ []) (λ is. drop ! $
             -- [the tokens; what is said at exit; the record's cell; what it owns; the open borrow; obs; auth; the last local; …]
-            land ! (from ! (stop !)) (init ! 13 refl (Π.R-typed 𝓛 r _ is)) $
-            rewrite ! 13 (λ (u : Val). ‵ (fat full_share (R_ty Θ Φ Π) l3 0 u)) (ap only (Π.R-tells r _ is)) refl $
-            assigns ! (of_opd ! (load ! (from ! (fld ! refl (stop !))) (look_in ! 13 (sub ! 0 refl (whole !)))))
-            (from ! (hop ! (look ! 17 refl) (stop !)))
+            land ! (from ! (stop !)) (init ! 15 refl (Π.R-typed 𝓛 r _ is)) $
+            rewrite ! 15 (λ (u : Val). ‵ (fat full_share (R_ty Θ Φ Π) l3 0 u)) (ap only (Π.R-tells r _ is)) refl $
+            assigns ! (of_opd ! (load ! (from ! (fld ! refl (stop !))) (look_in ! 15 (sub ! 0 refl (whole !))))) (from ! (stop !))
+            (init ! 7 refl ((LL.lawful Θ.S Θ.S-laws 𝓛).typed (Π.the_s r) _ (Π.S-is r _ is)).0) $
+            assigns ! (of_opd ! (load ! (from ! (stop !)) (look ! 7 refl))) (from ! (hop ! (look ! 19 refl) (stop !)))
             (store_raw ! 2 refl ((LL.lawful Θ.S Θ.S-laws 𝓛).typed (Π.the_s r) _ (Π.S-is r _ is)).0) $
-            assigns ! (of_opd ! (load ! (from ! (fld ! refl (stop !))) (look_in ! 13 (sub ! 1 refl (whole !))))) (from ! (stop !))
-            (init ! 19 refl (Φ.B-typed 𝓛 (Π.the_b r) _ (Π.B-is r _ is))) $
+            assigns ! (of_opd ! (load ! (from ! (fld ! refl (stop !))) (look_in ! 15 (sub ! 1 refl (whole !))))) (from ! (stop !))
+            (init ! 21 refl (Φ.B-typed 𝓛 (Π.the_b r) _ (Π.B-is r _ is))) $
             move ! (3 ∷ []) $ drop ! $ owned ! (S_row Θ) (Is (S_row Θ)) (S-has Θ 𝓛) (Π.the_s r) _ (Π.S-is r _ is) $
             move ! (3 ∷ 0 ∷ 4 ∷ 5 ∷ 6 ∷ []) $ closes ! tt (S_row Θ) (Π.the_s r) (S_vals Θ (Π.the_s r)) b o $
-            returns ! (look ! 17 refl) $ forget ! 5 refl $ forget ! 7 refl $ forget ! 9 refl $ forget ! 11 refl $ forget ! 13 refl $
-            forget ! 15 refl $ forget ! 17 refl $
-            move ! (17 ∷ 18 ∷ []) $ free1 ! $ move ! (15 ∷ 16 ∷ []) $ free1 ! $ move ! (13 ∷ 14 ∷ []) $ free1 ! $ move ! (11 ∷ 12 ∷ []) $
+            returns ! (look ! 19 refl) $ forget ! 5 refl $ forget ! 7 refl $ forget ! 9 refl $ forget ! 11 refl $ forget ! 13 refl $
+            forget ! 15 refl $ forget ! 17 refl $ forget ! 19 refl $
+            move ! (19 ∷ 20 ∷ []) $ free1 ! $ move ! (17 ∷ 18 ∷ []) $ free1 ! $ move ! (15 ∷ 16 ∷ []) $ free1 ! $ move ! (13 ∷ 14 ∷ []) $ free1 ! $ move ! (11 ∷ 12 ∷ []) $
             free1 ! $ move ! (9 ∷ 10 ∷ []) $ free1 ! $ move ! (7 ∷ 8 ∷ []) $ free1 ! $ move ! (5 ∷ 6 ∷ []) $ free1 ! $ free0 ! $
-            keep ! (0 ∷ 1 ∷ 2 ∷ 3 ∷ 4 ∷ []) $ by ! (exits r ws e (Π.B-is r _ is))))))))))))))))
+            keep ! (0 ∷ 1 ∷ 2 ∷ 3 ∷ 4 ∷ []) $ by ! (exits r ws e (Π.B-is r _ is)))))))))))))))))
 
-    pub meets : (𝓣 : Tables 𝓤 H) (f : Name) → Triple 𝓤 (𝓣.C f) Core_at → Meets 𝓛 Thin.signature (WpFn 𝓤 H 𝓣.C 𝓣.Λ (fn f))
+    pub meets : (𝓣 : Tables 𝓤 H) (f : Callee) → Triple 𝓤 (𝓣.C f) Core_at → Meets 𝓛 Thin.signature (WpFn 𝓤 H 𝓣.C 𝓣.Λ (fn f))
         (closing 𝓛 Thin thin)
     meets 𝓣 f known =
         walk_Meets 𝓛 Thin stayed (
@@ -209,7 +213,7 @@ module _ (Θ : Lent) (Φ : Ans) (Π : Pair Θ Φ) where
         known))
 
   -- the function itself, from core's theorem
-  module _ {M : Type 1} {𝓤 : Ura M} (𝓛 : Logic 𝓤) (𝓜 : Model 𝓤 𝓛.H) (𝓡 : Running 𝓤 𝓛.H 𝓜) (env : Env) (key f : Name)
+  module _ {M : Type 1} {𝓤 : Ura M} (𝓛 : Logic 𝓤) (𝓜 : Model 𝓤 𝓛.H) (𝓡 : Running 𝓤 𝓛.H 𝓜) (env : Env) (key f : Callee)
       (routine : Routine) (unfolded : Closed 𝓤 𝓛.H (tables 𝓤 𝓛.H 𝓜 𝓡 env).C (tables 𝓤 𝓛.H 𝓜 𝓡 env).Λ key (fn f)) (calls : env f ≡ routine)
     where
       open 𝓛 use {H}

@@ -14,7 +14,7 @@ use denote.Laws.{Is, Tells, Makes, Typed}
 use denote.Memory.{pointee}
 use denote.Plain.{uint_Lawful, uint_Makes}
 use denote.Signature.{Slot}
-use denote.Struct.Field.{Field, u64_field}
+use denote.Struct.Field.{Field, u64-field}
 use denote.Struct.Struct.{Plains, layout}
 use denote.Struct.Declared.{Declared, row, shape, fields}
 use denote.Struct.Laws as LL
@@ -42,7 +42,7 @@ arg_of F L τ e = record {
 }
 
 abbrev pub u64_arg : Arg
-u64_arg = arg_of u64_field LL.u64_laws (ty_int w64) refl
+u64_arg = arg_of u64-field LL.u64-laws (ty_int w64) refl
 
 abbrev pub struct_arg : (D : Declared) → LL.Laws D → Arg
 struct_arg D L = record {

@@ -75,7 +75,8 @@ module _ (g : Network) (t : Edges) where
       rw i (ends_among g j.edge u w (u ∷ w ∷ []) (inl refl) (inr (inl refl)) j.ends)
   along_ends u [] w j e (inr i) = absurd i
   along_ends u (v ∷ vs) w j e (inl i) =
-      rw i (ends_among g j.0.edge u v (u ∷ v ∷ (vs ++ w ∷ [])) (inl refl) (inr (inl refl)) j.0.ends)
+      subst (λ (k : ℕ). (g.a k ∈ (u ∷ v ∷ (vs ++ w ∷ []))) × (g.b k ∈ (u ∷ v ∷ (vs ++ w ∷ [])))) (sym i)
+      (ends_among g j.0.edge u v (u ∷ v ∷ (vs ++ w ∷ [])) (inl refl) (inr (inl refl)) j.0.ends)
   along_ends u (v ∷ vs) w j e (inr i) =
       let r = along_ends v vs w j.1 e i in (inr r.0, inr r.1)
 

@@ -10,7 +10,8 @@ use Rattle.integers.specs.Words.{back32}
 use Rattle.recent.specs.Costs.{Entry, log_of}
 use Rattle.recent.specs.Answers.{entry_ok}
 use Rattle.recent.specs.Windows.{unused}
-use Rattle.recent.specs.Replay.{replaying_none, replaying_next, replayed_bad, replayed_all, can_enter, entry_at, log_size, log_at, ok_edge}
+use Rattle.recent.specs.Replay.{replaying_none, replayed_bad, replayed_all, can_enter, entry_at, log_size, log_at, ok_edge}
+use Rattle.recent.proofs.Turn.{replaying_next}
 use Rattle.recent.proofs.replay.Goals as goal
 
 pub loop-i-init : goal.loop-i-init

@@ -5,7 +5,6 @@ use mathlib.Core.Bool.{true}
 use mathlib.Core.List.{List}
 use native.Mathlib.Omega.{arith}
 use lib.ListN.{length, get_or}
-use borrow.Author.Tests.{not-true, not-false}
 use Rattle.integers.specs.Words.{back32}
 use Rattle.recent.specs.Costs.{Entry, log_of}
 use Rattle.recent.specs.Answers.{entry_ok}
@@ -28,20 +27,20 @@ returns-then-not-entry_ok c =
     let is-entry : get_or log c.loop-i.i entry ≡ entry = let a = c.args in
     log_at a.edges.now a.times.now c.loop-i.invariant.0 c.loop-i.i entry c.loop-i-test.true in
     let said : c.entry_ok.result ≡ entry_ok c.args.m entry = rw (back32 entry.time c.time-1.given) at c.entry_ok.ensures in
-    replayed_bad _ _ _ _ _ _ c.loop-i.invariant.1 entry inside is-entry (sym said ∙ not-true _ c.if-not-entry_ok.true-raw)
+    replayed_bad _ _ _ _ _ _ c.loop-i.invariant.1 entry inside is-entry (sym said ∙ c.if-not-entry_ok.true)
 
 pub overflow_sub-edge : goal.overflow_sub-edge
 overflow_sub-edge c =
     let entry : Entry = entry_at c.args.edges.now c.args.times.now c.loop-i.i in
     let said : c.entry_ok.result ≡ entry_ok c.args.m entry = rw (back32 entry.time c.time-1.given) at c.entry_ok.ensures in
-    let is_ok : entry_ok c.args.m entry ≡ true = sym said ∙ not-false _ c.if-not-entry_ok.false-raw in
+    let is_ok : entry_ok c.args.m entry ≡ true = sym said ∙ c.if-not-entry_ok.false in
     (ok_edge _ entry is_ok).0
 
 pub enter-requires : goal.enter-requires
 enter-requires c =
     let entry : Entry = entry_at c.args.edges.now c.args.times.now c.loop-i.i in
     let said : c.entry_ok.result ≡ entry_ok c.args.m entry = rw (back32 entry.time c.time-1.given) at c.entry_ok.ensures in
-    let is_ok : entry_ok c.args.m entry ≡ true = sym said ∙ not-false _ c.if-not-entry_ok.false-raw in
+    let is_ok : entry_ok c.args.m entry ≡ true = sym said ∙ c.if-not-entry_ok.false in
     can_enter _ _ _ _ _ _ c.loop-i.invariant.1 entry is_ok (omega (arith, c.loop-i-test.true))
 
 pub loop-i-preserved : goal.loop-i-preserved
@@ -53,7 +52,7 @@ loop-i-preserved c =
     let is-entry : get_or log c.loop-i.i entry ≡ entry = let a = c.args in
     log_at a.edges.now a.times.now c.loop-i.invariant.0 c.loop-i.i entry c.loop-i-test.true in
     let said : c.entry_ok.result ≡ entry_ok c.args.m entry = rw (back32 entry.time c.time-1.given) at c.entry_ok.ensures in
-    let is_ok : entry_ok c.args.m entry ≡ true = sym said ∙ not-false _ c.if-not-entry_ok.false-raw in
+    let is_ok : entry_ok c.args.m entry ≡ true = sym said ∙ c.if-not-entry_ok.false in
     let entered = rw (back32 entry.time c.time-1.given) at c.enter.ensures in (
       c.loop-i.invariant.0,
       rw entered (replaying_next _ _ _ _ _ _ c.loop-i.invariant.1 entry inside is-entry is_ok),

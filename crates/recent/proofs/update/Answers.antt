@@ -5,7 +5,7 @@ use mathlib.Core.Bool.{true, false, ◌&&◌}
 use native.Mathlib.Omega.{arith}
 use lib.Dec.{eqb, leb}
 use lib.ListN.{length}
-use borrow.Author.Tests.{not-true, not-false, eq-eqb, ne_eqb, le-leb, lt-leb}
+use borrow.Author.Tests.{eq-eqb, ne_eqb, le-leb, lt-leb}
 use Rattle.graph.specs.Valid.{graph_of, valid}
 use Rattle.graph.specs.Meaning.{valid_true}
 use Rattle.recent.specs.Costs.{log_of, recent_costs, recent_graph}
@@ -16,18 +16,18 @@ use Rattle.std.proofs.Common.{rules}
 use Rattle.recent.proofs.update.Goals as goal
 
 pub returns-then-not-check : goal.returns-then-not-check
-returns-then-not-check c = let reply = refused-graph _ _ _ _ (sym c.check.ensures ∙ not-true _ c.if-not-check.true-raw) in
+returns-then-not-check c = let reply = refused-graph _ _ _ _ (sym c.check.ensures ∙ c.if-not-check.true) in
     (c.refuse.ensures.1 ∙ sym reply, c.refuse.ensures.0 ∙ sym (leaves-refused _ _ _ _ _ _ reply))
 
 pub returns-then-edges-times : goal.returns-then-edges-times
 returns-then-edges-times c =
-    let checked : valid c.args.g ≡ true = sym c.check.ensures ∙ not-false _ c.if-not-check.false-raw in
+    let checked : valid c.args.g ≡ true = sym c.check.ensures ∙ c.if-not-check.false in
     let reply = refused_lengths _ _ _ _ checked (ne_eqb _ _ c.if-edges-times.true) in
     (c.refuse-then-edges-times.ensures.1 ∙ sym reply, c.refuse-then-edges-times.ensures.0 ∙ sym (leaves-refused _ _ _ _ _ _ reply))
 
 pub returns-then-w-lt1 : goal.returns-then-w-lt1
 returns-then-w-lt1 c =
-    let checked : valid c.args.g ≡ true = sym c.check.ensures ∙ not-false _ c.if-not-check.false-raw in
+    let checked : valid c.args.g ≡ true = sym c.check.ensures ∙ c.if-not-check.false in
     let as_long : let a = c.args in eqb (length a.edges.now) (length a.times.now) ≡ true = eq-eqb _ _ c.if-edges-times.false in
     let a = c.args in
     let low : (leb 1 a.w && leb a.w 32) ≡ false = rw (lt-leb 1 a.w (omega (arith, c.if-w-lt1.true))) in
@@ -36,7 +36,7 @@ returns-then-w-lt1 c =
 
 pub returns-then-w-gt-MAX_WINDOW : goal.returns-then-w-gt-MAX_WINDOW
 returns-then-w-gt-MAX_WINDOW c =
-    let checked : valid c.args.g ≡ true = sym c.check.ensures ∙ not-false _ c.if-not-check.false-raw in
+    let checked : valid c.args.g ≡ true = sym c.check.ensures ∙ c.if-not-check.false in
     let as_long : let a = c.args in eqb (length a.edges.now) (length a.times.now) ≡ true = eq-eqb _ _ c.if-edges-times.false in
     let a = c.args in
     let high : (leb 1 a.w && leb a.w 32) ≡ false =
@@ -46,7 +46,7 @@ returns-then-w-gt-MAX_WINDOW c =
 
 pub replay-place-requires : goal.replay-place-requires
 replay-place-requires c =
-    let checked : valid c.args.g ≡ true = sym c.check.ensures ∙ not-false _ c.if-not-check.false-raw in
+    let checked : valid c.args.g ≡ true = sym c.check.ensures ∙ c.if-not-check.false in
     let edges : c.wide.result ≡ c.args.g.m = c.wide.ensures.0 in
     let v = valid_true c.args.g checked in
     let cost : length c.args.g.cost ≡ 190 = search (rules, c.well_formed) in
@@ -54,7 +54,7 @@ replay-place-requires c =
 
 pub returns-then-place-ne0 : goal.returns-then-place-ne0
 returns-then-place-ne0 c =
-    let checked : valid c.args.g ≡ true = sym c.check.ensures ∙ not-false _ c.if-not-check.false-raw in
+    let checked : valid c.args.g ≡ true = sym c.check.ensures ∙ c.if-not-check.false in
     let as_long : let a = c.args in eqb (length a.edges.now) (length a.times.now) ≡ true = eq-eqb _ _ c.if-edges-times.false in
     let fitting : let a = c.args in (leb 1 a.w && leb a.w 32) ≡ true = let a = c.args in
     rw (le-leb 1 a.w (omega (arith, c.if-w-lt1.false)), le-leb a.w 32 (omega (arith, c.if-w-gt-MAX_WINDOW.false))) in
@@ -68,7 +68,7 @@ returns-then-place-ne0 c =
 pub returns : goal.returns
 unfolding meaning recent_graph
 returns c =
-    let checked : valid c.args.g ≡ true = sym c.check.ensures ∙ not-false _ c.if-not-check.false-raw in
+    let checked : valid c.args.g ≡ true = sym c.check.ensures ∙ c.if-not-check.false in
     let as_long : let a = c.args in eqb (length a.edges.now) (length a.times.now) ≡ true = eq-eqb _ _ c.if-edges-times.false in
     let fitting : let a = c.args in (leb 1 a.w && leb a.w 32) ≡ true = let a = c.args in
     rw (le-leb 1 a.w (omega (arith, c.if-w-lt1.false)), le-leb a.w 32 (omega (arith, c.if-w-gt-MAX_WINDOW.false))) in

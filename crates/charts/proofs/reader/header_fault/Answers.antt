@@ -1,6 +1,6 @@
 -- Each return by the tests that led there; `wide` and `u16_at` say what was tested.
 use mathlib.Core.Path.{sym, ◌∙◌}
-use borrow.Author.Tests.{not-true, not-false, lt-ltb, le-ltb, le-leb, lt-leb, eq-eqb, ne_eqb}
+use borrow.Author.Tests.{lt-ltb, le-ltb, le-leb, lt-leb, eq-eqb, ne_eqb}
 use Rattle.charts.specs.Chart.{header_fault}
 use Rattle.charts.proofs.reader.header_fault.Goals as goal
 
@@ -27,7 +27,7 @@ returns-then-not-zeros c = let long = le-ltb _ _ c.if-s-lt-HEADER_SIZE.false in
     let n = sym c.wide-n.ensures.0 in
     let low = le-leb _ _ c.if-n-lt-MIN_VERTICES.false in
     let high = le-leb _ _ c.if-n-gt-MAX_VERTICES.false in
-    simp (long, n, low, high, sym c.zeros.ensures ∙ not-true _ c.if-not-zeros.true-raw)
+    simp (long, n, low, high, sym c.zeros.ensures ∙ c.if-not-zeros.true)
 
 pub returns-then-r-gt-MAX_RECORDS : goal.returns-then-r-gt-MAX_RECORDS
 unfolding header_fault
@@ -35,7 +35,7 @@ returns-then-r-gt-MAX_RECORDS c = let long = le-ltb _ _ c.if-s-lt-HEADER_SIZE.fa
     let n = sym c.wide-n.ensures.0 in
     let low = le-leb _ _ c.if-n-lt-MIN_VERTICES.false in
     let high = le-leb _ _ c.if-n-gt-MAX_VERTICES.false in
-    let zeros = sym c.zeros.ensures ∙ not-false _ c.if-not-zeros.false-raw in
+    let zeros = sym c.zeros.ensures ∙ c.if-not-zeros.false in
     let r = sym c.u16_at-r.ensures.0 in
     simp (long, n, low, high, zeros, r, lt-leb _ _ c.if-r-gt-MAX_RECORDS.true)
 
@@ -45,7 +45,7 @@ returns-then-s-r c = let long = le-ltb _ _ c.if-s-lt-HEADER_SIZE.false in
     let n = sym c.wide-n.ensures.0 in
     let low = le-leb _ _ c.if-n-lt-MIN_VERTICES.false in
     let high = le-leb _ _ c.if-n-gt-MAX_VERTICES.false in
-    let zeros = sym c.zeros.ensures ∙ not-false _ c.if-not-zeros.false-raw in
+    let zeros = sym c.zeros.ensures ∙ c.if-not-zeros.false in
     let r = sym c.u16_at-r.ensures.0 in
     let few = le-leb _ _ c.if-r-gt-MAX_RECORDS.false in
     simp (long, n, low, high, zeros, r, few, ne_eqb _ _ c.if-s-r.true)
@@ -56,7 +56,7 @@ returns c = let long = le-ltb _ _ c.if-s-lt-HEADER_SIZE.false in
     let n = sym c.wide-n.ensures.0 in
     let low = le-leb _ _ c.if-n-lt-MIN_VERTICES.false in
     let high = le-leb _ _ c.if-n-gt-MAX_VERTICES.false in
-    let zeros = sym c.zeros.ensures ∙ not-false _ c.if-not-zeros.false-raw in
+    let zeros = sym c.zeros.ensures ∙ c.if-not-zeros.false in
     let r = sym c.u16_at-r.ensures.0 in
     let few = le-leb _ _ c.if-r-gt-MAX_RECORDS.false in
     simp (long, n, low, high, zeros, r, few, eq-eqb _ _ c.if-s-r.false)

@@ -1,5 +1,5 @@
--- AFTER EVERY ENTRY THE COSTS ARE THOSE WORKED OUT AFRESH FROM THE LOG SO FAR (`exact`). For each edge the ring has the last w of its times: time i
--- stands at i's remainder by w, and no later one of the last w takes its place. Assumes nothing.
+-- What a window keeps of a log: for each edge the ring has the last w of its times. Time i stands at i's remainder by w, and no later one of the
+-- last w takes its place; so the greatest of the ring is the greatest of the last w. proofs/Exact has one entry more, and `exact`. Assumes nothing.
 use Rattle.std.specs.Prelude.{◌≡◌, refl, ◌≢◌, Bool, true, false, eqb, ℤ, pos}
 use Rattle.std.proofs.Math.Path.{sym, ap, subst}
 use Rattle.std.proofs.Common.{◌∙◌, arith, length-append, get_or-set_same, eq-eqb, ne_eqb}

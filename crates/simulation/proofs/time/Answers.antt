@@ -1,6 +1,6 @@
 -- The draw and the spread are small, so that the difference and the sum fit, and are read back as they were.
 use Prim.Native.Nat.{ℕ, ◌+◌, ◌*◌, ◌%◌, ◌/◌, ◌<◌, ◌≤◌}
-use mathlib.Core.Path.{◌≡◌, refl, sym}
+use mathlib.Core.Path.{◌≡◌, refl, sym, subst}
 use native.Mathlib.Omega.{arith}
 use native.Mathlib.Nat.{mod-lt}
 use lib.IntN.{ℤ, pos, ◌+ℤ◌, ◌-ℤ◌}
@@ -43,7 +43,8 @@ overflow_sub-result c =
     let spread_is : to_z w64 c.args.spread ≡ pos c.args.spread = low64 c.args.spread (omega (arith, c.requires.1)) in
     let delayed : InRange max_spread (pos drawn -ℤ pos c.args.spread) = let r = delay_range c.args.spread c.args.s in
     record { high = omega (arith, r.high, c.requires.1); low = omega (arith, r.low, c.requires.1) } in
-    rw (drawn-is, spread_is) (fits max_spread _ (omega arith) delayed)
+    subst (λ (z : ℤ). SFits w64 (z -ℤ to_z w64 c.args.spread)) (sym drawn-is)
+    (subst (λ (z : ℤ). SFits w64 (pos drawn -ℤ z)) (sym spread_is) (fits max_spread _ (omega arith) delayed))
 
 pub overflow_add-result : goal.overflow_add-result
 unfolding delay

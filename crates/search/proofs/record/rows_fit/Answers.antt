@@ -38,7 +38,7 @@ pub loop-i-preserved : goal.loop-i-preserved
 loop-i-preserved c =
     let told = λ (b : Bool) (x : ℕ). subst (λ (n : ℕ). Says b (x < 2 ^ n)) c.edges_from-from.ensures in
     below_more _ _ c.loop-i.invariant (
-      c.if-x-y-ne0.false,
+      omega arith,
       says_yes c.clear_from.result (told c.clear_from.result _ c.clear_from.ensures) c.if-not-clear_from.false,
       says_yes c.clear_from-in-loop-i.result (told c.clear_from-in-loop-i.result _ c.clear_from-in-loop-i.ensures) c.if-not-clear_from-2.false,
     )

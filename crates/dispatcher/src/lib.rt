@@ -61,7 +61,7 @@ impl Dispatcher {
 // The calls on a dispatcher by value.
 
 // Ruled out: a ninth search; a place other than the free one with the smallest number; a part of a refused opening in a place.
-pub fn add_core(d: Dispatcher, g: Graph, multipliers: &[i32], settings: Settings) -> Outcome
+pub fn add_core(mut d: Dispatcher, g: Graph, multipliers: &[i32], settings: Settings) -> Outcome
     ensures { result ≡ reply d (Calls.add (opening_of g multipliers.now settings)) }
 {
     let seen = survey(d);
@@ -88,18 +88,16 @@ pub fn add_core(d: Dispatcher, g: Graph, multipliers: &[i32], settings: Settings
             answer: Answer::OfSearch(answer),
         };
     }
-    let t = out.search;
-    let mut r = d;
-    r.places[at] = t;
+    d.places[at] = out.search;
     Outcome {
-        dispatcher: r,
+        dispatcher: d,
         answer: Answer::Placed(k),
     }
 }
 
 // Ruled out: a turn for a finished search, or for one that stands behind another unfinished one; more nodes than p; an idle turn that forgets
 // the place last served.
-pub fn turn_core(d: Dispatcher, p: u64) -> Outcome
+pub fn turn_core(mut d: Dispatcher, p: u64) -> Outcome
     ensures { result ≡ reply d (Calls.turn p) }
 {
     let seen = survey(d);
@@ -125,12 +123,10 @@ pub fn turn_core(d: Dispatcher, p: u64) -> Outcome
     let at = k - 1;
     let s = d.places[at];
     let out = search::run_core(s, p);
-    let t = out.search;
-    let mut r = d;
-    r.places[at] = t;
-    r.last = k;
+    d.places[at] = out.search;
+    d.last = k;
     Outcome {
-        dispatcher: r,
+        dispatcher: d,
         answer: Answer::Served(k),
     }
 }
@@ -181,7 +177,7 @@ pub fn show_core(d: Dispatcher, place: usize, out: &mut [u8]) -> Outcome
 }
 
 // Closing at a place. Ruled out: a byte of the search left in the place; another place changed.
-pub fn close_core(d: Dispatcher, place: usize) -> Outcome
+pub fn close_core(mut d: Dispatcher, place: usize) -> Outcome
     ensures { result ≡ reply d (Calls.close_at place) }
 {
     let seen = survey(d);
@@ -196,11 +192,9 @@ pub fn close_core(d: Dispatcher, place: usize) -> Outcome
     let s = d.places[at];
     let out = search::close_core(s);
     let answer = out.answer;
-    let t = out.search;
-    let mut r = d;
-    r.places[at] = t;
+    d.places[at] = out.search;
     Outcome {
-        dispatcher: r,
+        dispatcher: d,
         answer: Answer::OfSearch(answer),
     }
 }

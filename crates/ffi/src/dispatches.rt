@@ -34,32 +34,6 @@ fn said_at(answer: Answer) -> Reply
 
 // The calls by value.
 
-fn added(d: Dispatcher, g: Graph, multipliers: &[i32], settings: Settings) -> Dispatched
-    ensures { result ≡ dispatched d (Calls.add (opening_of g multipliers.now settings)) }
-{
-    let out = dispatcher::add_core(d, g, multipliers, settings);
-    let left = out.dispatcher;
-    let answer = out.answer;
-    let said = said_at(answer);
-    Dispatched {
-        dispatcher: left,
-        said: said,
-    }
-}
-
-fn turned(d: Dispatcher, p: u64) -> Dispatched
-    ensures { result ≡ dispatched d (Calls.turn p) }
-{
-    let out = dispatcher::turn_core(d, p);
-    let left = out.dispatcher;
-    let answer = out.answer;
-    let said = said_at(answer);
-    Dispatched {
-        dispatcher: left,
-        said: said,
-    }
-}
-
 fn told_at(d: Dispatcher, place: usize) -> Dispatched
     ensures { result ≡ dispatched d (Calls.tell_at place) }
 {
@@ -120,9 +94,9 @@ pub extern "C" fn planner_add(
 ) -> Reply
     ensures { Leaves d.old (Calls.add (opening_of g multipliers.now settings)) result d.new }
 {
-    let out = added(*d, g, multipliers, settings);
+    let out = dispatcher::add_core(*d, g, multipliers, settings);
     *d = out.dispatcher;
-    out.said
+    said_at(out.answer)
 }
 
 // A turn of p nodes. Ruled out: a place named that was not served; a dispatcher changed by an idle turn.
@@ -130,9 +104,9 @@ pub extern "C" fn planner_add(
 pub extern "C" fn planner_turn(d: &mut Dispatcher, p: u64) -> Reply
     ensures { Leaves d.old (Calls.turn p) result d.new }
 {
-    let out = turned(*d, p);
+    let out = dispatcher::turn_core(*d, p);
     *d = out.dispatcher;
-    out.said
+    said_at(out.answer)
 }
 
 // Ruled out: the verdict of another place; a dispatcher changed.

@@ -43,14 +43,14 @@ returns-then-not-is_accepted c =
     add-refused _ _ c.survey-seen.ensures passed opening _ _ _ c.first_after-k.ensures
     c.if-k-eq0.false low c.open_core-out.ensures (sym c.is_accepted.ensures ∙ c.if-not-is_accepted.true)
 
-pub offset_bounds-r-at : goal.offset_bounds-r-at
-offset_bounds-r-at c =
+pub offset_bounds-d-at-2 : goal.offset_bounds-d-at-2
+offset_bounds-d-at-2 c =
     let low : c.first_after-k.result ≤ 8 = omega (arith, c.first_after-k.ensures, first_range (is_at c.survey-seen.result 1) 8 0) in
     let below : c.first_after-k.result - 1 < 8 = omega (arith, low, c.if-k-eq0.false) in
     let b = below in search rules
 
-pub bounds-r-at : goal.bounds-r-at
-bounds-r-at c =
+pub bounds-d-at-2 : goal.bounds-d-at-2
+bounds-d-at-2 c =
     let low : c.first_after-k.result ≤ 8 = omega (arith, c.first_after-k.ensures, first_range (is_at c.survey-seen.result 1) 8 0) in
     let below : c.first_after-k.result - 1 < 8 = omega (arith, low, c.if-k-eq0.false) in
     below

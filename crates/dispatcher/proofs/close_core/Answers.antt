@@ -26,13 +26,13 @@ bounds-d-at c =
     let below : c.args.place - 1 < 8 = (let q = no_fault _ _ c.survey-seen.ensures c.args.place _ c.place_fault-fault.ensures c.if-fault-ne0.false in omega (arith, q.2, q.3)) in
     below
 
-pub offset_bounds-r-at : goal.offset_bounds-r-at
-offset_bounds-r-at c =
+pub offset_bounds-d-at-2 : goal.offset_bounds-d-at-2
+offset_bounds-d-at-2 c =
     let below : c.args.place - 1 < 8 = (let q = no_fault _ _ c.survey-seen.ensures c.args.place _ c.place_fault-fault.ensures c.if-fault-ne0.false in omega (arith, q.2, q.3)) in
     let b = below in search rules
 
-pub bounds-r-at : goal.bounds-r-at
-bounds-r-at c =
+pub bounds-d-at-2 : goal.bounds-d-at-2
+bounds-d-at-2 c =
     let below : c.args.place - 1 < 8 = (let q = no_fault _ _ c.survey-seen.ensures c.args.place _ c.place_fault-fault.ensures c.if-fault-ne0.false in omega (arith, q.2, q.3)) in
     below
 

@@ -43,8 +43,8 @@ bounds-d-at c =
     let below : c.first_after-k.result - 1 < 8 = omega (arith, low, c.if-k-eq0.false) in
     below
 
-pub offset_bounds-r-at : goal.offset_bounds-r-at
-offset_bounds-r-at c =
+pub offset_bounds-d-at-2 : goal.offset_bounds-d-at-2
+offset_bounds-d-at-2 c =
     let low : c.first_after-k.result ≤ 8 = omega (
       arith,
       c.first_after-k.ensures,
@@ -53,8 +53,8 @@ offset_bounds-r-at c =
     let below : c.first_after-k.result - 1 < 8 = omega (arith, low, c.if-k-eq0.false) in
     let b = below in search rules
 
-pub bounds-r-at : goal.bounds-r-at
-bounds-r-at c =
+pub bounds-d-at-2 : goal.bounds-d-at-2
+bounds-d-at-2 c =
     let low : c.first_after-k.result ≤ 8 = omega (
       arith,
       c.first_after-k.ensures,

@@ -7,7 +7,7 @@ use Rattle.std.proofs.Math.Decide.{dec_le, ℕ_discrete}
 use Rattle.std.proofs.Math.ListN.{get_or, get_or-eq_default}
 use Rattle.std.proofs.lemmas.List.{length-replicate}
 use Rattle.lists.specs.Fill.{fill, fill-size, fill-at, fill_past, fill-same, replicate-at}
-use Rattle.bits.specs.Rows.{row_of-same}
+use Rattle.bits.proofs.Rows.{row_of-same}
 use Rattle.graph.specs.Limits.{max_edges}
 use Rattle.graph.specs.Network.{Mark, free, required, excluded}
 use Rattle.tree_theory.specs.Valid.{is_required, is_excluded}

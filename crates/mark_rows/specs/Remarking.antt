@@ -6,8 +6,10 @@ use Rattle.std.proofs.Common.{ap₂, ◌∙◌, arith, length-set, get_or-set_sa
 use Rattle.std.proofs.Math.Decide.{ℕ_discrete}
 use Rattle.lists.specs.Rows.{row, row_at, row_is}
 use Rattle.bits.specs.Rows.{digit}
-use Rattle.bits.specs.Marking.{with_bit, with_here, with_there, with_ones}
-use Rattle.bits.specs.Pairs.{Pair, pair_with, swapped, ones_most}
+use Rattle.bits.specs.Marking.{with_bit}
+use Rattle.bits.proofs.Marking.{with_here, with_there, with_ones}
+use Rattle.bits.specs.Pairs.{Pair, swapped}
+use Rattle.bits.proofs.Pairs.{pair_with, ones_most}
 use Rattle.graph.specs.Network.{Mark, free, required, excluded}
 use Rattle.machine.specs.Machine.{frees}
 use Rattle.mark_rows.specs.MarkRows.{mark_bits, marks_in_pair}

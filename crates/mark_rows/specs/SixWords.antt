@@ -13,9 +13,11 @@ use Rattle.std.proofs.lemmas.List.{set-append_left}
 use Rattle.std.specs.Int.Bits.{bit_and}
 use Rattle.lists.specs.Fill.{fill-size, fill-at, fill_is, fit, fit-size, fit_at}
 use Rattle.bits.specs.Digits.{bit_of}
-use Rattle.bits.specs.Rows.{digit, digit_at, Row, row_made, row_of-row, row_ext, row_ones}
+use Rattle.bits.specs.Rows.{digit, digit_at, Row, row_made, row_of-row, row_ones}
+use Rattle.bits.proofs.Rows.{row_ext}
 use Rattle.bits.specs.Marking.{with_bit}
-use Rattle.bits.specs.Pairs.{Pair, clear_words, apart_words}
+use Rattle.bits.specs.Pairs.{Pair}
+use Rattle.bits.proofs.Pairs.{clear_words, apart_words}
 use Rattle.graph.specs.Limits.{max_edges}
 use Rattle.graph.specs.Network.{Mark, free, required, excluded}
 use Rattle.tree_theory.specs.Valid.{is_required, is_excluded}

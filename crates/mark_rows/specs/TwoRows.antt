@@ -13,8 +13,10 @@ use Rattle.lists.specs.Select.{select}
 use Rattle.lists.specs.Numbers.{up_to}
 use Rattle.lists.specs.Rows.{row, row-size, row_at, row_same, row_of}
 use Rattle.bits.specs.Counting.{count, count_low, count_same}
-use Rattle.bits.specs.Rows.{digit, digit_past, row_of-row, digit-row_of, row_of_clear, row_ext, row_ones, ones_clear}
-use Rattle.bits.specs.Pairs.{Apart, apart_from_one, Pair, neither}
+use Rattle.bits.specs.Rows.{digit, digit_past, row_of-row, digit-row_of, row_ones}
+use Rattle.bits.proofs.Rows.{row_of_clear, row_ext, ones_clear}
+use Rattle.bits.specs.Pairs.{Apart, apart_from_one, Pair}
+use Rattle.bits.proofs.Pairs.{neither}
 use Rattle.graph.specs.Network.{Network, Mark, free, required, excluded}
 use Rattle.tree_theory.specs.Valid.{is_required, is_excluded}
 use Rattle.machine.specs.Machine.{Marks, marks_of, with_marks, is_free, frees, first_free}

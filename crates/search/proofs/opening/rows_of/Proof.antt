@@ -7,7 +7,8 @@ use borrow.Author.Rules.{rules}
 use lib.ListN.{get_or}
 use Rattle.graph.specs.Network.{Mark, mark_of}
 use Rattle.mark_rows.specs.MarkRows.{rows_of}
-use Rattle.mark_rows.specs.Building.{partly, partly_none, partly_all}
+use Rattle.mark_rows.specs.Building.{partly, partly_all}
+use Rattle.mark_rows.proofs.Building.{partly_none}
 use Rattle.node.specs.Marks.{marks_in}
 use Rattle.search.specs.Begun.{Reaches}
 use Rattle.search.proofs.opening.rows_of.Statement.{statement}

@@ -1,0 +1,4 @@
+pub mod Building
+pub mod Remarking
+pub mod SixWords
+pub mod TwoRows

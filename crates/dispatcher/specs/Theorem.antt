@@ -10,7 +10,7 @@ use Rattle.tours.specs.OneNetwork.{OneNetwork}
 use Rattle.machine.specs.Machine.{Opening, Progress, State, no_search, searching}
 use Rattle.machine.specs.Calls as calls
 use Rattle.machine.specs.Calls.{Verdict, going_on, none, best, since, history, free_at_start, step}
-use Rattle.machine.specs.Claim.{machine_agrees, machine_ends}
+use Rattle.machine.proofs.Claim.{machine_agrees, machine_ends}
 use Rattle.machine.specs.Claim as claim
 use Rattle.machine.specs.Demand3.{Finished, LeavesFinished, Otherwise}
 use Rattle.search.specs.Record.{encode}

@@ -8,7 +8,7 @@ use Rattle.machine.specs.Calls.{Call, tell, show, Verdict, going_on, none, best,
 use Rattle.machine.specs.Calls as plainly
 use Rattle.machine.specs.Demand3.{Finished, Otherwise}
 use Rattle.machine.specs.Demand3 as machine
-use Rattle.machine.specs.Claim.{machine_agrees, machine_ends}
+use Rattle.machine.proofs.Claim.{machine_agrees, machine_ends}
 use Rattle.machine.specs.Claim as claim
 use Rattle.search.specs.Replies.{said}
 use Rattle.search.specs.declared.Answer.{Answer}

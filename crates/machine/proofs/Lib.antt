@@ -1,0 +1,10 @@
+pub mod BranchAndBound
+pub mod Claim
+pub mod Depth
+pub mod Following
+pub mod Inherited
+pub mod Invariant
+pub mod NodeTours
+pub mod OpeningLaws
+pub mod Preserved
+pub mod ScaledLaws

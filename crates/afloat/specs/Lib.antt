@@ -26,6 +26,5 @@ pub mod Computed
 pub mod Gaining
 pub mod Passes
 pub mod PassesNone
-pub mod PassesComputed
 -- document 01's sea with a buoy ashore
 pub mod Example

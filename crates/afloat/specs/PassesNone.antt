@@ -27,34 +27,8 @@ module _ (s : Ashore) (none : (v : ℕ) → s v ≡ false) (g : Network) where
   unfolding multipliers_over
   multipliers_none d size = ap (row g.n) (multiplier_none s none (multiplier d)) ∙ list_row g.n d size
 
-  -- A PASS
-  applied_none : (d : ℕ → ℤ) (upper : ℤ) → applied_over s g d upper ≡ applied g d upper
-  unfolding applied_over applied
-  applied_none d upper = λ i. row g.m (λ k. mark_by (ruling_none s none g d upper k i))
-
-  pub pass_none : (d : ℕ → ℤ) (upper : ℤ) → pass_over s g d upper ≡ pass g d upper
-  unfolding pass_over pass
-  pass_none d upper = ap (pass_by_over s g d upper) (least_tree_none s none g d) ∙ go (least_tree g d)
-    where
-      go : (x : Tree) → pass_by_over s g d upper x ≡ pass_by g d upper x
-      go no_tree = unfold pass_by_over pass_by in refl
-      go (a_tree b t) =
-          unfold pass_by_over pass_by in
-          ap₂ (λ (y : Bool) (x : Marks). cond (lt_z upper b) shut (cond y (found t) (unclosed t x))) (is_tour_none s none g t) (applied_none d upper)
-
   pub gained_none : (step : ℕ) (t : Edges) (d : List ℤ) → gained_over s g step t d ≡ gained g step t d
   unfolding gained_over
   gained_none step t d =
       (λ i. row g.n (λ v. cond (none v i) (multiplier d v) (multiplier (gained g step t d) v)))
       ∙ list_row g.n (gained g step t d) (unfold gained in row-size g.n _)
-
--- THE PASSES OF A NODE
-pub passes_none : (s : Ashore) → ((v : ℕ) → s v ≡ false) → (g : Network) (step : ℕ) (upper : ℤ) (left : ℕ) (d : List ℤ) (x : Marks)
-    → passes_over s g step upper left d x ≡ passes g step upper left d x
-unfolding passes_over passes
-passes_none s none g step upper zero d x =
-    ap (λ (p : Pass). concluded g.m p (λ t y. branch d y)) (pass_none s none (with_marks g x) (multiplier d) upper)
-passes_none s none g step upper (suc left) d x = λ i.
-    concluded g.m (pass_none s none (with_marks g x) (multiplier d) upper i)
-    (λ t y. (ap (λ (e : List ℤ). passes_over s g step upper left e y) (gained_none s none g step t d)
-    ∙ passes_none s none g step upper left (gained g step t d) y) i)

@@ -1,0 +1,10 @@
+pub mod Compact
+pub mod Computed
+pub mod Decided
+pub mod Gaining
+pub mod Meaning
+pub mod NoneAshore
+pub mod Passes
+pub mod PassesComputed
+pub mod PassesNone
+pub mod Trees

@@ -1,0 +1,2 @@
+pub mod Rulings
+pub mod Verdict

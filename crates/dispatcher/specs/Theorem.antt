@@ -24,7 +24,7 @@ use Rattle.dispatch_theory.specs.Dispatcher as theory
 use Rattle.dispatch_theory.specs.Dispatcher.{tell_at, show_at, turn, fresh, state_at, is_held, place_fault, dispatch_answer, dispatch_lent, routed}
 use Rattle.dispatch_theory.specs.Alone.{alone, size-after}
 use Rattle.dispatch_theory.specs.Stretches.{Quiet, turns}
-use Rattle.dispatch_theory.specs.Fairness.{fair}
+use Rattle.dispatch_theory.proofs.Fairness.{fair}
 use Rattle.dispatch_theory.specs.Records.{encode_all, decode_all, alone-bytes}
 use Rattle.dispatcher.specs.Searches.{machine, held, made, codec}
 use Rattle.dispatcher.specs.Steady.{steady}

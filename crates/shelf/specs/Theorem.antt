@@ -20,9 +20,12 @@ use Rattle.search_records.specs.Calls.{search_calls}
 use Rattle.search_records.specs.Same.{same-leaves, same-history, calls-follow}
 use Rattle.shelf_theory.specs.Shelves.{Shelved, plain}
 use Rattle.shelf_theory.specs.ShelfRecords.{answer_on, list_on}
-use Rattle.shelf_theory.specs.Paths.{path, current_is, history_is}
+use Rattle.shelf_theory.specs.Paths.{path}
+use Rattle.shelf_theory.proofs.Paths.{current_is, history_is}
 use Rattle.shelf_theory.specs.Paths as paths
-use Rattle.shelf_theory.specs.ShelfFollows.{shelf_list, plain-answer, plain_list, restores_record}
+use Rattle.shelf_theory.specs.ShelfFollows.{shelf_list}
+use Rattle.shelf_theory.proofs.ShelfFollows.{restores_record}
+use Rattle.shelf_theory.proofs.ShelfFollows.{plain-answer, plain_list}
 use Rattle.shelf.specs.Demand3.{AnyCall, search_shelved, search_left, history, LeavesFinished, calls_said, SaysAfter, ShowAlikeAfter, Demand3}
 
 -- ---- the path of a list

@@ -8,27 +8,38 @@ WHERE := $(patsubst ~/%,$(HOME)/%,$(PREFIX))
 TO := $(DESTDIR)$(WHERE)
 CC ?= cc
 VERSION := $(shell sed -n 's/^version = "\(.*\)"/\1/p' rust/planner/Cargo.toml)
-SOURCES := crates.txt $(shell find crates -type f)
+# What the library and the programs are made from, and not what a check leaves.
+SOURCES := crates.txt $(shell find crates -type f -not -path '*/out/*')
+# How many crates are proved at a time: one for each processor, with 4 GB of memory.
+JOBS ?= $(shell awk -v most="$$(nproc)" '/^MemAvailable/ { n = int($$2 / 4000000); print n < 1 ? 1 : n < most ? n : most }' /proc/meminfo)
 SHELL := /bin/bash
 .SHELLFLAGS := -o pipefail -c
 .DELETE_ON_ERROR:
 .PHONY: all test install clean
 
-all: build/libplanner.a build/libplanner.so build/planner.pc
+all: build/libplanner.a build/libplanner.so build/planner.pc target/bin/hunt target/bin/rulings
 	@echo "ready: ./planner, target/bin/hunt, target/bin/rulings, build/libplanner.a, build/libplanner.so"
 
 # The prover's notes go to the log; of each crate one line is shown.
 build/proved: $(SOURCES)
 	@command -v rt > /dev/null || { echo "make: rt, the Rattle toolchain, is not on the PATH" >&2; exit 1; }
 	@mkdir -p build
-	@echo "proving every crate (some five minutes on two cores; notes in build/prove.log)"
-	@rt check 2>&1 | tee build/prove.log | sed -un 's/^rt: \([a-z_]* \(NOT PROVED\|proved\).*\)/\1/p' \
+	@echo "proving every crate, $(JOBS) at a time (notes in build/prove.log)"
+	@rt all check --jobs $(JOBS) 2>&1 | tee build/prove.log \
+	    | awk '/^== / { if (crate) print crate ": " verdict; crate = $$2; verdict = "as it was proved before"; fflush() } /^logic=/ { verdict = $$1 }' \
 	    || { tail -n 20 build/prove.log; exit 1; }
 	@touch $@
 
+# Over what that check kept.
 build/libplanner.a: build/proved
-	@rt staticlib ffi > build/library.log 2>&1 || { tail -n 20 build/library.log; exit 1; }
-	@cp target/staticlib/libffi.a $@
+	@(cd crates/ffi && rt lib) > build/library.log 2>&1 || { tail -n 20 build/library.log; exit 1; }
+	@cp crates/ffi/out/libffi.a $@
+
+# A program is built as it is run; it runs once here, on its own example.
+target/bin/%: build/proved
+	@mkdir -p target/bin
+	@(cd crates/$* && rt run < stdin) 2> build/$*.log | cmp - crates/$*/stdout || { tail -n 20 build/$*.log; exit 1; }
+	@install -m 755 crates/$*/out/$* $@
 
 build/libplanner.so: build/libplanner.a
 	@$(CC) -shared -Wl,-soname,libplanner.so -Wl,--whole-archive $< -Wl,--no-whole-archive -o $@
@@ -55,4 +66,4 @@ install: all
 	@echo "installed below $(TO)"
 
 clean:
-	@rm -rf build target tests/target bench/target rust/planner/target examples/rust/target
+	@rm -rf build target crates/*/out tests/target bench/target rust/planner/target examples/rust/target

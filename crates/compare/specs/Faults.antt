@@ -1,6 +1,6 @@
 -- The fault of a comparison, test by test, as its code goes; that each pair's opening has none where there is none; the answer and the report by
 -- the fault. Assumes nothing.
-use Rattle.std.specs.Prelude.{◌≡◌, Bool, true, false, not, cond, ◌&&◌, List, eqb, leb, length, ℤ}
+use Rattle.std.specs.Prelude.{◌≡◌, Bool, true, false, ◌&&◌, List, eqb, leb, length, ℤ}
 use Rattle.std.proofs.Math.Path.{refl}
 use Rattle.std.proofs.Common.{sym, ◌∙◌, arith, eqb-true}
 use Prim.Native.Nat.{ℕ, zero, suc, ◌<◌}

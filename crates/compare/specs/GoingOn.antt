@@ -1,5 +1,5 @@
 -- 0 IS 'GOING ON' AND NOTHING ELSE: a search that finishes has opened a node, so that no count of a finished one is 0. Assumes nothing.
-use Rattle.std.specs.Prelude.{◌≡◌, refl, ◌↔◌, Bool, true, false, List, ◌∷◌, ℕ, suc, ◌≤◌, ◌<◌}
+use Rattle.std.specs.Prelude.{◌≡◌, ◌↔◌, true, false, List, ◌∷◌, ℕ, ◌≤◌, ◌<◌}
 use Rattle.std.proofs.Common.{sym, ◌∙◌, true≢false, arith}
 use Rattle.lists.specs.Bools.{by_cases}
 use Rattle.graph.specs.Limits.{max_count}

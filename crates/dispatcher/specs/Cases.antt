@@ -13,7 +13,7 @@ use Rattle.lists.specs.All.{every_of}
 use Rattle.lists.specs.Bools.{and_both}
 use Rattle.graph.specs.Network.{network}
 use Rattle.machine.specs.Outcomes.{Incumbent, no_tour, a_tour}
-use Rattle.machine.specs.Machine.{Opening, Progress, State, no_search, searching, finished}
+use Rattle.machine.specs.Machine.{Opening, State, no_search, searching, finished}
 use Rattle.machine.specs.Calls as calls
 use Rattle.machine.specs.Calls.{Verdict, going_on, none, best, tell, step, verdict, verdict_of}
 use Rattle.search.specs.Record.{fresh, decode, encode}
@@ -42,7 +42,6 @@ use Rattle.dispatcher.specs.Steady.{steady}
 use Rattle.dispatcher.specs.declared.Dispatcher.{Dispatcher}
 use Rattle.dispatcher.specs.declared.Answer.{Answer}
 use Rattle.dispatcher.specs.declared.Answer.TheVariants.{Placed, Served, Idle, OfSearch}
-use Rattle.dispatcher.specs.declared.Outcome.{Outcome}
 
 -- ---- one place
 

@@ -1,7 +1,7 @@
 -- C-24'S CLAIMS, over whole lists of calls on a fresh dispatcher, refused calls included: the statement, once, for every way in which the
 -- calls can be made (an Interface of the dispatcher's machine). Nothing is proved here. This crate has the calls on a lent dispatcher
 -- (`calls`), crate ffi the exported ones; each proves `Dispatches` of its own, by Theorem.
-use Rattle.std.specs.Prelude.{◌≡◌, true, List, [], ◌∷◌, ◌++◌, ℕ, suc, ◌-◌, ◌^◌, ◌≤◌}
+use Rattle.std.specs.Prelude.{◌≡◌, true, List, ◌∷◌, ◌++◌, ℕ, suc, ◌-◌, ◌^◌, ◌≤◌}
 use Rattle.graph.specs.Network.{network}
 use Rattle.tours.specs.OneNetwork.{OneNetwork}
 use Rattle.machine.specs.Machine.{Opening, State}

@@ -4,7 +4,6 @@ use Rattle.std.specs.Prelude.{◌≡◌, refl, List, ℕ}
 use Rattle.machine.specs.Machine.{Opening}
 use Rattle.machine.specs.Calls as calls
 use Rattle.search.specs.Replies as search
-use Rattle.search.specs.declared.Search.{Search}
 use Rattle.search.specs.declared.Answer.TheVariants.{Refused}
 use Rattle.lent_records.specs.Machine.{Machine}
 use Rattle.lent_records.specs.Records.{Codec, lent_on}

@@ -1,7 +1,6 @@
 -- Crate search's machine and record as lent_records and dispatch_theory take them: what a place of the dispatcher holds, and the calls that
 -- the dispatcher makes there. Definitions only, with the laws that are asked of them.
-use Rattle.std.specs.Prelude.{Bool, true, false, List, ℕ}
-use Rattle.std.proofs.Common.{true≢false}
+use Rattle.std.specs.Prelude.{Bool, false}
 use Rattle.machine.specs.Machine.{Opening, State, no_search, searching, finished}
 use Rattle.machine.specs.Calls as calls
 use Rattle.machine.specs.Kept.{KeptState}

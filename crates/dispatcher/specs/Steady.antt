@@ -1,6 +1,6 @@
 -- Tell and show leave document 01's machine as it is, and so does a refused close: what dispatch_theory asks of a machine whose searches get
 -- their turns. Assumes nothing.
-use Rattle.std.specs.Prelude.{◌≡◌, refl, Bool, true, false, cond, List, ℕ, eqb, length}
+use Rattle.std.specs.Prelude.{◌≡◌, refl, Bool, true, false, List, ℕ, eqb, length}
 use Rattle.std.proofs.Common.{true≢false}
 use Rattle.lists.specs.Bools.{by_cases}
 use Rattle.machine.specs.Outcomes.{Incumbent, no_tour, a_tour}

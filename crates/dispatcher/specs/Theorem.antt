@@ -1,13 +1,12 @@
 -- C-24'S CLAIMS HOLD OF THE CALLS, however their answers are said: dispatch_theory's at document 01's machine and crate search's record, and
 -- demand 3's of the machine. Assumes nothing.
-use Rattle.std.specs.Prelude.{◌≡◌, refl, Bool, true, false, not, cond, List, [], ◌∷◌, ◌++◌, ℕ, zero, suc, ◌-◌, ◌^◌, ◌≤◌, length}
+use Rattle.std.specs.Prelude.{◌≡◌, refl, true, List, [], ◌∷◌, ◌++◌, ℕ, zero, suc, ◌-◌, ◌^◌, ◌≤◌, length}
 use Rattle.std.proofs.Common.{sym, ap, ◌∙◌, subst, arith, le-leb}
-use Rattle.std.proofs.lemmas.Bool.{false≢true}
 use Rattle.std.proofs.Math.Decide.{dec_le}
 use Rattle.std.proofs.Math.ListN.{get_or-eq_default}
 use Rattle.graph.specs.Network.{network}
 use Rattle.tours.specs.OneNetwork.{OneNetwork}
-use Rattle.machine.specs.Machine.{Opening, Progress, State, no_search, searching}
+use Rattle.machine.specs.Machine.{Opening, State, no_search, searching}
 use Rattle.machine.specs.Calls as calls
 use Rattle.machine.specs.Calls.{Verdict, going_on, none, best, since, history, free_at_start, step}
 use Rattle.machine.proofs.Claim.{machine_agrees, machine_ends}
@@ -15,21 +14,20 @@ use Rattle.machine.specs.Claim as claim
 use Rattle.machine.specs.Demand3.{Finished, LeavesFinished, Otherwise}
 use Rattle.search.specs.Record.{encode}
 use Rattle.search.specs.Record as search
-use Rattle.lent_records.specs.Places.{is_name, under}
+use Rattle.lent_records.specs.Places.{under}
 use Rattle.lent_records.specs.Machine.{after, leaves, leaves-append}
 use Rattle.lent_records.specs.Records.{Interface, record_of, AsTheMachine, replies, Outcome}
-use Rattle.lent_records.specs.Records as records
 use Rattle.lent_records.specs.Following.{Follows, as_the_machine, replies_follow, reply_is, lent_is}
 use Rattle.dispatch_theory.specs.Dispatcher as theory
 use Rattle.dispatch_theory.specs.Dispatcher.{tell_at, show_at, turn, fresh, state_at, is_held, place_fault, dispatch_answer, dispatch_lent, routed}
 use Rattle.dispatch_theory.specs.Alone.{alone, size-after}
 use Rattle.dispatch_theory.specs.Stretches.{Quiet, turns}
 use Rattle.dispatch_theory.proofs.Fairness.{fair}
-use Rattle.dispatch_theory.specs.Records.{encode_all, decode_all, alone-bytes}
+use Rattle.dispatch_theory.specs.Records.{alone-bytes}
 use Rattle.dispatcher.specs.Searches.{machine, held, made, codec}
 use Rattle.dispatcher.specs.Steady.{steady}
-use Rattle.dispatcher.specs.Replies.{Call, dispatching, dispatchers, form, said, reply, lent}
-use Rattle.dispatcher.specs.Claims.{state_of, Unfinished, EightTurns, calls_at, Served, at, SaysAt, Dispatches, calls_said, calls_made}
+use Rattle.dispatcher.specs.Replies.{Call, dispatching, dispatchers, form, reply, lent}
+use Rattle.dispatcher.specs.Claims.{Unfinished, EightTurns, calls_at, Served, at, SaysAt, Dispatches, calls_said, calls_made}
 use Rattle.dispatcher.specs.declared.Dispatcher.{Dispatcher}
 use Rattle.dispatcher.specs.declared.Answer.{Answer}
 

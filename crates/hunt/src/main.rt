@@ -5,8 +5,8 @@
 ghost use Rattle.std.specs.Prelude.{◌≡◌, length};
 ghost use Rattle.reports.specs.Longest.{enough};
 
-use libc::{STDIN_FILENO, STDOUT_FILENO};
-use reports::INPUT_SIZE;
+use reports::{BUFFER_SIZE, INPUT_SIZE};
+use std::io;
 
 // One byte more than the longest input: of a longer one the same is printed as of these first bytes (`enough` and `first-bytes` in
 // specs/Longest.antt of crate reports).
@@ -16,10 +16,10 @@ fn room() -> [u8; INPUT_SIZE]
     [0; INPUT_SIZE]
 }
 
-fn main() {
+fn main(rt: HostRuntime) -> io::Result<()> {
     let mut input = room();
-    let n = io::read_full(STDIN_FILENO, &mut input);
-    let mut out = io::buffer();
+    let n = intake::read_full(&mut rt.stdin(), &mut input)?;
+    let mut out = [0; BUFFER_SIZE];
     let k = reports::search_text(&input[..n], &mut out);
-    io::write_all(STDOUT_FILENO, &out[..k]);
+    rt.write_all(&out[..k])
 }

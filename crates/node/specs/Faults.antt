@@ -1,10 +1,10 @@
 -- The fault of an opening, test by test, as its code goes; what no fault means; and what is left to test once the tree part refuses nothing.
 -- Assumes nothing.
-use Rattle.std.specs.Prelude.{◌≡◌, refl, Bool, true, false, not, cond, ◌&&◌, ℕ, zero, suc, ◌≤◌, ◌<◌, length, eqb, leb}
+use Rattle.std.specs.Prelude.{◌≡◌, refl, Bool, true, false, not, cond, ◌&&◌, ℕ, ◌≤◌, ◌<◌, length, eqb, leb}
 use Rattle.std.proofs.Common.{◌∙◌, arith}
 use borrow.Author.Tests.{eq-eqb, ne_eqb, le-leb, lt-leb, eqb-true, leb-true}
 use Rattle.lists.specs.Bools.{and_both}
-use Rattle.graph.specs.Limits.{max_vertices, max_sweeps, max_step, max_denominator}
+use Rattle.graph.specs.Limits.{max_vertices, max_sweeps, max_step}
 use Rattle.graph.specs.Valid.{Valid, valid}
 use Rattle.graph.specs.Meaning.{valid_true, true_valid, not_valid}
 use Rattle.tree_theory.specs.Inputs.{or_else, input_fault, multipliers_fit, ceiling_fits, denominator_fits, denominator_fault}

@@ -9,7 +9,6 @@ use Rattle.lists.specs.Numbers.{up_to}
 use Rattle.lists.specs.Rows.{row, row_same}
 use Rattle.graph.specs.declared.Graph.{Graph}
 use Rattle.graph.specs.Network.{network}
-use Rattle.graph.specs.Valid as value
 use Rattle.tree_theory.specs.OneTree.{Edges, bound}
 use Rattle.tree_theory.specs.Scaled.{scaled_by}
 use Rattle.tree_theory.specs.Inputs.{multiplier, denominator_fault}

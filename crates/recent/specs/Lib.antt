@@ -6,9 +6,9 @@ pub mod Answers
 pub mod Remainders
 pub mod Places
 pub mod Greatest
--- the loop's window, one entry of it, and that after every entry its costs are those worked out afresh
+-- the loop's window, what it keeps of a log (proofs/Exact: after every entry its costs are those worked out afresh)
 pub mod Windows
 pub mod Exact
--- the loop itself, and the call's answer test by test
+-- the loop itself (proofs/Turn: one turn of it), and the call's answer test by test
 pub mod Replay
 pub mod Faults

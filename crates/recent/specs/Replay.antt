@@ -14,7 +14,7 @@ use Rattle.graph.specs.Limits.{max_edges, max_cost}
 use Rattle.recent.specs.Costs.{Entry, log_of, times_of, recent_cost, recent_costs}
 use Rattle.recent.specs.Answers.{max_window, entry_ok, bad_from}
 use Rattle.recent.specs.Windows.{Window, unused, entered, entered_all, max_counted, CanEnter, Replayed}
-use Rattle.recent.specs.Exact.{Keeps, keeps_none, keeps_next}
+use Rattle.recent.specs.Exact.{Keeps, keeps_none}
 
 -- ---- the log of two lists
 
@@ -113,28 +113,11 @@ module _ (w m : ℕ) (cost : List ℤ) (log : List Entry) (i : ℕ) (x : Window)
       }
 
   module _ (e : Entry) (h : i < length log) (at : get_or log i e ≡ e) where
-    next : take (i + 1) log ≡ take i log ++ e ∷ []
+    pub next : take (i + 1) log ≡ take i log ++ e ∷ []
     next = rw add-one (take-suc log i e h) ∙ ap (λ (d : Entry). take i log ++ d ∷ []) at
 
-    rest : drop i log ≡ e ∷ drop (i + 1) log
+    pub rest : drop i log ≡ e ∷ drop (i + 1) log
     rest = rw add-one (drop-cons log i e h) ∙ ap (λ (d : Entry). d ∷ drop (i + 1) log) at
-
-    -- entry i is not refused
-    pub replaying_next : entry_ok m e ≡ true → Replaying w m cost log (i + 1) (entered w x e)
-    unfolding bad_from
-    replaying_next ok =
-        let k = ok_edge m e ok in
-        record {
-          low = r.low;
-          high = r.high;
-          few = r.few;
-          at_most = omega arith;
-          folded =
-              ap (λ (y : Window). entered w y e) r.folded ∙ sym (entered-next w (take i log) (unused cost) e)
-              ∙ ap (entered_all w (unused cost)) (sym next);
-          keeps = rw next (keeps_next w r.low r.high cost x (take i log) e (k.0, omega (arith, k.1, r.few)) r.keeps);
-          good = r.good ∙ rw (rest, ok) (ap (λ (p : ℕ). bad_from m p (drop (i + 1) log)) (omega arith));
-        }
 
     -- entry i is refused
     pub replayed_bad : entry_ok m e ≡ false → Replayed w m cost log (i + 1) x.costs

@@ -22,7 +22,8 @@ use Rattle.recent.specs.Costs.{Entry, log_of, times_of, latest, recent_cost, rec
 use Rattle.recent.specs.Greatest.{or-greatest}
 use Rattle.recent.specs.Places.{at_in, in_latest, latest_some}
 use Rattle.recent.specs.Answers.{max_window, made, refused, entry_ok, bad_from, unless_bad, recent_reply}
-use Rattle.recent.specs.Exact.{cost_none, exact}
+use Rattle.recent.specs.Exact.{cost_none}
+use Rattle.recent.proofs.Exact.{exact}
 use Rattle.recent.specs.Replay.{ok_edge, ok_time}
 use Rattle.recent.specs.Faults.{refused-graph, refused_lengths, refused_window, refused-entry, accepted, reply_log, leaves-refused, leaves-made}
 use Rattle.tree_theory.specs.OneTree.{Edges}

@@ -12,7 +12,6 @@ use Rattle.lists.specs.All.{every_of}
 use Rattle.lent_records.specs.Places.{is_name, name_range, under, under-map, put}
 use Rattle.machine.specs.Machine.{State, no_search, searching}
 use Rattle.machine.specs.Calls.{tell, Verdict, going_on, none, best, tells, verdict, step}
-use Rattle.machine.specs.Calls as machine
 use Rattle.search.specs.Record.{fresh, decode, encode}
 use Rattle.search.specs.Check.{check}
 use Rattle.search.specs.Inverse.{decode-encode}

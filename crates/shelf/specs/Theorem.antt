@@ -3,7 +3,7 @@
 use Rattle.std.specs.Prelude.{◌≡◌, List, ℕ, suc, ◌-◌, ◌^◌, ◌≤◌}
 use Rattle.std.proofs.Math.Path.{sym}
 use Rattle.std.proofs.Common.{ap, ◌∙◌, subst, arith}
-use Rattle.machine.specs.Machine.{Opening, State, no_search}
+use Rattle.machine.specs.Machine.{Opening, State}
 use Rattle.machine.specs.Calls.{Call, tell, show, Verdict, going_on, none, best, step, History, no_opening, since, free_at_start}
 use Rattle.machine.specs.Calls as plainly
 use Rattle.machine.specs.Demand3.{Finished, Otherwise}
@@ -13,20 +13,17 @@ use Rattle.machine.specs.Claim as claim
 use Rattle.search.specs.Replies.{said}
 use Rattle.search.specs.declared.Answer.{Answer}
 use Rattle.search.specs.declared.Answer.TheVariants.{Refused, Accepted}
-use Rattle.lent_records.specs.Machine.{leaves, noted}
 use Rattle.lent_records.specs.Records.{record_of, AsTheMachine}
 use Rattle.search_records.specs.Searching.{search_machine, searches, note}
 use Rattle.search_records.specs.Calls.{search_calls}
 use Rattle.search_records.specs.Same.{same-leaves, same-history, calls-follow}
 use Rattle.shelf_theory.specs.Shelves.{Shelved, plain}
-use Rattle.shelf_theory.specs.ShelfRecords.{answer_on, list_on}
 use Rattle.shelf_theory.specs.Paths.{path}
 use Rattle.shelf_theory.proofs.Paths.{current_is, history_is}
 use Rattle.shelf_theory.specs.Paths as paths
 use Rattle.shelf_theory.specs.ShelfFollows.{shelf_list}
-use Rattle.shelf_theory.proofs.ShelfFollows.{restores_record}
-use Rattle.shelf_theory.proofs.ShelfFollows.{plain-answer, plain_list}
-use Rattle.shelf.specs.Demand3.{AnyCall, search_shelved, search_left, history, LeavesFinished, calls_said, SaysAfter, ShowAlikeAfter, Demand3}
+use Rattle.shelf_theory.proofs.ShelfFollows.{plain-answer, plain_list, restores_record}
+use Rattle.shelf.specs.Demand3.{AnyCall, search_left, history, LeavesFinished, calls_said, SaysAfter, ShowAlikeAfter, Demand3}
 
 -- ---- the path of a list
 

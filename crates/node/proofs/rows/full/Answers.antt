@@ -1,0 +1,19 @@
+-- By the number of bits.
+use native.Mathlib.Omega.{arith}
+use Rattle.node.specs.Words.{full_none, full_all, full_some, shifted}
+use lib.Pow.{pow_pos}
+use Prim.Native.Nat.{◌-◌, ◌*◌}
+use Rattle.node.proofs.rows.full.Goals as goal
+
+pub returns-then-m-low : goal.returns-then-m-low
+returns-then-m-low c = full_none c.args.m c.args.w (omega (arith, c.if-m-low.true))
+
+pub returns-then-m-low-ge-WORD_BITS : goal.returns-then-m-low-ge-WORD_BITS
+returns-then-m-low-ge-WORD_BITS c = full_all c.args.m c.args.w (omega (arith, c.if-m-low-ge-WORD_BITS.true))
+
+pub overflow_sub-result-2 : goal.overflow_sub-result-2
+overflow_sub-result-2 c = let a = c.args in
+    omega (arith, shifted (a.m - 64 * a.w) (omega (arith, c.if-m-low-ge-WORD_BITS.false)), pow_pos (a.m - 64 * a.w))
+
+pub returns : goal.returns
+returns c = full_some c.args.m c.args.w (omega (arith, c.if-m-low-ge-WORD_BITS.false))

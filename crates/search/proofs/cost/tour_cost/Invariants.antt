@@ -1,0 +1,22 @@
+-- The loop keeps: the sum is that of the first k edges that are in.
+use Prim.Native.Nat.{◌≤◌, ◌-◌}
+use mathlib.Core.Path.{◌≡◌, sym, ◌∙◌, subst}
+use mathlib.Core.List.{List}
+use native.Mathlib.Omega.{arith}
+use lib.ListN.{get_or}
+use lib.IntN.{ℤ, pos}
+use mir.Val.{to_z}
+use mir.Syntax.{w64}
+use Rattle.integers.specs.Words.{back32, back64}
+use Rattle.integers.specs.Range.{InRange, within_range}
+use Rattle.graph.specs.declared.Graph.{Graph}
+use Rattle.graph.specs.Limits.{max_cost}
+use Rattle.graph.specs.Valid.{Valid}
+use Rattle.search.specs.Runs.Costs.{CostTo, Ticked, cost_none, cost_all, ticked}
+use Rattle.search.proofs.cost.tour_cost.Given as goal
+
+abbrev pub invariant-loop-k : goal.invariant-loop-k
+invariant-loop-k l = (l.k ≤ l.m) × (l.m ≤ 190) × ((g : Graph) → Valid g → g.m ≡ l.m → g.cost ≡ l.costs → CostTo l.k g l.w (l.sum))
+
+abbrev pub decreases-loop-k : goal.decreases-loop-k
+decreases-loop-k l = l.m - l.k

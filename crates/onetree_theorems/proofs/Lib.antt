@@ -1,0 +1,2 @@
+pub mod LowerCeiling
+pub mod PreviewLaws

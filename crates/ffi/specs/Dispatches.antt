@@ -5,7 +5,6 @@ use Rattle.lent_records.specs.Records.{Interface}
 use Rattle.dispatcher.specs.Replies.{Call, dispatching, reply, lent}
 use Rattle.dispatcher.specs.Claims.{calls_said}
 use Rattle.dispatcher.specs.declared.Dispatcher.{Dispatcher}
-use Rattle.dispatcher.specs.declared.Outcome.{Outcome}
 use Rattle.dispatcher.specs.declared.Answer.{Answer}
 use Rattle.dispatcher.specs.declared.Answer.TheVariants as at
 use Rattle.ffi.specs.declared.Reply.{Reply}

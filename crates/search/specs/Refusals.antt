@@ -15,10 +15,9 @@ use Rattle.search.specs.Record.{fresh, decode, encode}
 use Rattle.search.specs.Check.{check, check_yes, check_is}
 use Rattle.search.specs.Inverse.{Typed, encode_canonical, encode-decode, decode-kept}
 use Rattle.search.specs.Replies.{means, reply, lent}
-use Rattle.search.specs.ReplyCases.{reply_24, lent_24, lent_same}
+use Rattle.search.specs.ReplyCases.{lent_24, lent_same}
 use Rattle.search.specs.Theorem.{means-said}
 use Rattle.search.specs.declared.Search.{Search}
-use Rattle.search.specs.declared.Outcome.{Outcome}
 
 -- 'What the record can be unfit for': "24 the record fails its own check, which docs/ states and which a fresh record and every record left
 -- by an accepted call pass". A fresh record passes:
@@ -57,29 +56,27 @@ module _ (s : Search) (t : Typed s) where
   -- DEMAND 1: "a refusal leaves each lent list and the hunt record unchanged", whatever its number, 24 included
   pub refused-same : (c : Call) (number place : ℕ) → means (reply s c).answer ≡ refused number place
       → ((reply s c).search ≡ s) × (lent s c ≡ lent_by c)
-  refused-same c number place h = go (check s) refl
-    where
-      go : (b : Bool) → check s ≡ b → ((reply s c).search ≡ s) × (lent s c ≡ lent_by c)
-      go false e = (ap (λ (o : Outcome). o.search) (reply_24 s c e), lent_24 s c e)
-      go true e = let r = refused-leaves (decode s) c number place (sym (answer_is c e) ∙ h) in (
+  refused-same c number place h = by_cases (check s)
+      (λ e. let r = refused-leaves (decode s) c number place (sym (answer_is c e) ∙ h) in (
         search_is c e ∙ ap encode r.state ∙ encode-decode s t (check_is s e),
         lent_same s t e c (decode s) (lent_by c) refl r.lent,
-      )
+      ))
+      (λ e. (unfold reply in rw e, lent_24 s c e))
+
+  -- a call that leaves the machine's state leaves the record, where a refusal 24 does
+  same_by : (c : Call) → (step (decode s) c).state ≡ decode s → (check s ≡ false → (reply s c).search ≡ s) → (reply s c).search ≡ s
+  same_by c h k = by_cases (check s) (λ e. search_is c e ∙ ap encode h ∙ encode-decode s t (check_is s e)) k
 
   -- a call that leaves the machine's state leaves the record
   state-same : (c : Call) → (step (decode s) c).state ≡ decode s → (reply s c).search ≡ s
-  state-same c h = go (check s) refl
-    where
-      go : (b : Bool) → check s ≡ b → (reply s c).search ≡ s
-      go false e = ap (λ (o : Outcome). o.search) (reply_24 s c e)
-      go true e = search_is c e ∙ ap encode h ∙ encode-decode s t (check_is s e)
+  state-same c h = same_by c h (λ e. unfold reply in rw e)
 
   -- "Tell and show leave the state as it is": and every record
   pub tell_same : (reply s tell).search ≡ s
-  tell_same = state-same tell (tell_leaves (decode s))
+  tell_same = same_by tell (tell_leaves (decode s)) (λ e. unfold reply in rw e)
 
   pub show_same : (l : List ℕ) → (reply s (show l)).search ≡ s
-  show_same l = state-same (show l) (show_leaves (decode s) l)
+  show_same l = same_by (show l) (show_leaves (decode s) l) (λ e. unfold reply in rw e)
 
   -- a call on a record that passes, accepted or refused, leaves one that passes
   pub reply-passes : (c : Call) → check s ≡ true → check (reply s c).search ≡ true
@@ -90,8 +87,7 @@ module _ (s : Search) (t : Typed s) where
 
   -- and every record left by an accepted call passes: the call has itself tested the record that it got
   pub accepted_passes : (c : Call) → is_accepted (means (reply s c).answer) ≡ true → check (reply s c).search ≡ true
-  accepted_passes c h = go (check s) refl
+  accepted_passes c h = by_cases (check s) (reply-passes c) (λ e. absurd (false≢true (sym (refuses_24 e) ∙ h)))
     where
-      go : (b : Bool) → check s ≡ b → check (reply s c).search ≡ true
-      go true e = reply-passes c e
-      go false e = absurd (false≢true (sym (ap (λ (o : Outcome). is_accepted (means o.answer)) (reply_24 s c e)) ∙ h))
+      refuses_24 : check s ≡ false → is_accepted (means (reply s c).answer) ≡ false
+      refuses_24 e = unfold reply in rw e

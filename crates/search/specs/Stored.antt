@@ -7,7 +7,7 @@ use Rattle.tree_theory.specs.Inputs.{ceiling_fits}
 use Rattle.machine.specs.Machine.{Opening, Progress, State, no_search, searching, held}
 use Rattle.machine.specs.Calls.{fault}
 use Rattle.machine.specs.Trimmed.{Trim, trimmed_trim}
-use Rattle.machine.specs.Kept.{Nodes, Sized, Kept, KeptState}
+use Rattle.machine.specs.Kept.{Nodes, Sized, KeptState}
 use Rattle.search.specs.Record.{decode, encode}
 use Rattle.search.specs.Canonical.{Canonical}
 use Rattle.search.specs.Check.{check, check_yes, check_is}

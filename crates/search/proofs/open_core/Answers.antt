@@ -2,7 +2,7 @@
 use mathlib.Core.Path.{◌≡◌, sym, ap, ◌∙◌}
 use mathlib.Core.Bool.{true}
 use lib.ListN.{length}
-use borrow.Author.Tests.{not-true, not-false, eq-eqb, ne_eqb}
+use borrow.Author.Tests.{eq-eqb, ne_eqb}
 use Rattle.machine.specs.Machine.{Opening}
 use Rattle.search.specs.Record.{opening_of}
 use Rattle.search.specs.Check.{check}
@@ -19,7 +19,7 @@ returns-then-not-sound c =
     let asked : Opening = opening_of c.args.g c.args.multipliers.now c.args.settings in
     let checked : c.sound.result ≡ check c.args.s = c.sound.ensures in
     let call = Calls.opens asked in
-    c.refuse.ensures ∙ sym (reply_24 _ call (sym checked ∙ not-true _ c.if-not-sound.true-raw))
+    c.refuse.ensures ∙ sym (reply_24 _ call (sym checked ∙ c.if-not-sound.true))
 
 pub returns-then-s-eq1 : goal.returns-then-s-eq1
 returns-then-s-eq1 c =
@@ -40,7 +40,7 @@ returns-then-s-eq1 c =
       best = l.3;
     } in
     let checked : c.sound.result ≡ check c.args.s = c.sound.ensures in
-    let passed : check c.args.s ≡ true = sym checked ∙ not-false _ c.if-not-sound.false-raw in
+    let passed : check c.args.s ≡ true = sym checked ∙ c.if-not-sound.false in
     c.refuse-then-s-eq1.ensures ∙ sym (open_21 c.args.s typed passed (eq-eqb _ 1 c.if-s-eq1.true) asked)
 
 pub returns-then-fault-ne0 : goal.returns-then-fault-ne0
@@ -62,7 +62,7 @@ returns-then-fault-ne0 c =
       best = l.3;
     } in
     let checked : c.sound.result ≡ check c.args.s = c.sound.ensures in
-    let passed : check c.args.s ≡ true = sym checked ∙ not-false _ c.if-not-sound.false-raw in
+    let passed : check c.args.s ≡ true = sym checked ∙ c.if-not-sound.false in
     let found = c.fault-fault.ensures in
     c.refuse-then-fault-ne0.ensures
     ∙ sym (open_fault c.args.s typed passed (ne_eqb _ 1 c.if-s-eq1.false) asked _ (sym found) c.if-fault-ne0.true)
@@ -86,7 +86,7 @@ returns c =
       best = l.3;
     } in
     let checked : c.sound.result ≡ check c.args.s = c.sound.ensures in
-    let passed : check c.args.s ≡ true = sym checked ∙ not-false _ c.if-not-sound.false-raw in
+    let passed : check c.args.s ≡ true = sym checked ∙ c.if-not-sound.false in
     let found = c.fault-fault.ensures in
     ap (λ (f : Search). record { search = f; answer = Accepted }) c.begin-t.ensures
     ∙ sym (open_done c.args.s typed passed (ne_eqb _ 1 c.if-s-eq1.false) asked (sym found ∙ c.if-fault-ne0.false))

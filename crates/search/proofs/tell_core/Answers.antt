@@ -1,7 +1,7 @@
 -- The cases of `reply` at tell, one for each return.
 use mathlib.Core.Path.{◌≡◌, refl, sym, ◌∙◌}
 use mathlib.Core.Bool.{true}
-use borrow.Author.Tests.{not-true, not-false, eq-eqb, ne_eqb}
+use borrow.Author.Tests.{eq-eqb, ne_eqb}
 use Rattle.integers.specs.Words.{back64}
 use Rattle.graph.specs.Valid.{Valid}
 use Rattle.search.specs.declared.Search.{Search}
@@ -17,27 +17,27 @@ pub returns-then-not-sound : goal.returns-then-not-sound
 returns-then-not-sound c =
     let checked : c.sound.result ≡ check c.args.s = c.sound.ensures in
     c.refuse.ensures
-    ∙ sym (reply_24 _ Calls.tell (sym checked ∙ not-true _ c.if-not-sound.true-raw))
+    ∙ sym (reply_24 _ Calls.tell (sym checked ∙ c.if-not-sound.true))
 
 pub returns-then-s-ne1 : goal.returns-then-s-ne1
 returns-then-s-ne1 c =
     let typed : Typed c.args.s = search rules in
     let checked : c.sound.result ≡ check c.args.s = c.sound.ensures in
-    let passed : check c.args.s ≡ true = sym checked ∙ not-false _ c.if-not-sound.false-raw in
+    let passed : check c.args.s ≡ true = sym checked ∙ c.if-not-sound.false in
     c.refuse-then-s-ne1.ensures ∙ sym (tell_20 c.args.s typed passed (ne_eqb _ 1 c.if-s-ne1.true))
 
 pub returns-then-s-ne0 : goal.returns-then-s-ne0
 returns-then-s-ne0 c =
     let typed : Typed c.args.s = search rules in
     let checked : c.sound.result ≡ check c.args.s = c.sound.ensures in
-    let passed : check c.args.s ≡ true = sym checked ∙ not-false _ c.if-not-sound.false-raw in
+    let passed : check c.args.s ≡ true = sym checked ∙ c.if-not-sound.false in
     sym (tell_going c.args.s typed passed (eq-eqb _ 1 c.if-s-ne1.false) c.if-s-ne0.true)
 
 pub returns-then-s-ne1-2 : goal.returns-then-s-ne1-2
 returns-then-s-ne1-2 c =
     let typed : Typed c.args.s = search rules in
     let checked : c.sound.result ≡ check c.args.s = c.sound.ensures in
-    let passed : check c.args.s ≡ true = sym checked ∙ not-false _ c.if-not-sound.false-raw in
+    let passed : check c.args.s ≡ true = sym checked ∙ c.if-not-sound.false in
     sym (tell_none c.args.s typed passed (eq-eqb _ 1 c.if-s-ne1.false) c.if-s-ne0.false
     (ne_eqb _ 1 c.if-s-ne1-2.true))
 
@@ -45,7 +45,7 @@ pub tour_cost-c-requires : goal.tour_cost-c-requires
 tour_cost-c-requires c =
     let typed : Typed c.args.s = search rules in
     let checked : c.sound.result ≡ check c.args.s = c.sound.ensures in
-    let passed : check c.args.s ≡ true = sym checked ∙ not-false _ c.if-not-sound.false-raw in
+    let passed : check c.args.s ≡ true = sym checked ∙ c.if-not-sound.false in
     let given : Search = c.args.s in
     let edges : given.graph.m ≡ c.wide.result = sym c.wide.ensures.0 in
     let valid : Valid given.graph = graph-valid given typed passed (eq-eqb _ 1 c.if-s-ne1.false) in
@@ -55,7 +55,7 @@ pub returns : goal.returns
 returns c =
     let typed : Typed c.args.s = search rules in
     let checked : c.sound.result ≡ check c.args.s = c.sound.ensures in
-    let passed : check c.args.s ≡ true = sym checked ∙ not-false _ c.if-not-sound.false-raw in
+    let passed : check c.args.s ≡ true = sym checked ∙ c.if-not-sound.false in
     let given : Search = c.args.s in
     let edges : given.graph.m ≡ c.wide.result = sym c.wide.ensures.0 in
     let valid : Valid given.graph = graph-valid given typed passed (eq-eqb _ 1 c.if-s-ne1.false) in

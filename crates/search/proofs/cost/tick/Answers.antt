@@ -10,7 +10,6 @@ use Rattle.integers.specs.Parts.{add-up, add-dn, mag_of_parts}
 use Rattle.integers.specs.Range.{InRange}
 use Rattle.graph.specs.Limits.{max_cost, max_edges}
 use Rattle.graph.specs.Fits.{total_fits}
-use Rattle.std.proofs.Common.{rules}
 use Rattle.search.proofs.cost.tick.Goals as goal
 
 widened : (x : ℤ) → SFits w32 x → SFits w64 x
@@ -30,11 +29,11 @@ overflow_add-result c = rw (to_z-of_z c.ranges.x, to_z-of_z (widened c.args.x c.
 
 pub returns-then-b-eq1 : goal.returns-then-b-eq1
 returns-then-b-eq1 c = rw (
-      to_z-of_z c.ranges.x,
-      to_z-of_z (widened c.args.x c.ranges.x),
-      to_z-of_z c.ranges.sum,
-      to_z-of_z (sum_fits c.args.x c.args.sum c.requires.0 c.requires.1),
-    )
+  to_z-of_z c.ranges.x,
+  to_z-of_z (widened c.args.x c.ranges.x),
+  to_z-of_z c.ranges.sum,
+  to_z-of_z (sum_fits c.args.x c.args.sum c.requires.0 c.requires.1),
+)
     (record { yes' = λ e. refl; no' = λ n. absurd (n c.if-b-eq1.true) })
 
 pub returns : goal.returns

@@ -1,5 +1,4 @@
 -- The loop keeps: the sum is that of the first k edges that are in.
-use Prim.Native.Nat.{◌≤◌, ◌-◌}
 use mathlib.Core.Path.{◌≡◌, sym, ◌∙◌, subst}
 use mathlib.Core.List.{List}
 use native.Mathlib.Omega.{arith}
@@ -9,10 +8,8 @@ use mir.Val.{to_z}
 use mir.Syntax.{w64}
 use Rattle.integers.specs.Words.{back32, back64}
 use Rattle.integers.specs.Range.{InRange, within_range}
-use Rattle.graph.specs.declared.Graph.{Graph}
 use Rattle.graph.specs.Limits.{max_cost}
-use Rattle.graph.specs.Valid.{Valid}
-use Rattle.search.specs.Runs.Costs.{CostTo, Ticked, cost_none, cost_all, ticked}
+use Rattle.search.specs.Runs.Costs.{Ticked, cost_none, cost_all, ticked}
 use Rattle.std.proofs.Common.{rules}
 use Rattle.search.proofs.cost.tour_cost.Goals as goal
 
@@ -27,7 +24,7 @@ pub tick-sum-requires : goal.tick-sum-requires
 tick-sum-requires c = let l = c.loop-k in
     let g = c.requires.0 in
     let sum = l.invariant.2 g c.requires.1 c.requires.2 c.requires.3 in
-    rw (back32 (get_or c.args.costs.now l.k (pos 0)) c.tick-arg-in-loop-k-1.given) (
+    rw (back32 (get_or c.args.costs.now l.k (pos 0)) (search rules)) (
       subst (λ (x : List ℤ). InRange max_cost (get_or x l.k (pos 0))) c.requires.3
           (within_range max_cost _ (c.requires.1.each l.k (omega (arith, c.requires.2))).range),
       record { high = omega (arith, sum.high); low = omega (arith, sum.low) },
@@ -36,7 +33,7 @@ tick-sum-requires c = let l = c.loop-k in
 pub loop-k-preserved : goal.loop-k-preserved
 loop-k-preserved c = let l = c.loop-k in
     let w = c.args.w.now in
-    let t = rw (back32 (get_or c.args.costs.now l.k (pos 0)) c.tick-arg-in-loop-k-1.given) at c.tick-sum.ensures in
+    let t = rw (back32 (get_or c.args.costs.now l.k (pos 0)) (search rules)) at c.tick-sum.ensures in
     rw (back64 c.tick-sum.result c.tick-sum.type_inv) (
       omega arith,
       l.invariant.1,

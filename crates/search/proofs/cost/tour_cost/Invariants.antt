@@ -1,18 +1,9 @@
 -- The loop keeps: the sum is that of the first k edges that are in.
 use Prim.Native.Nat.{◌≤◌, ◌-◌}
-use mathlib.Core.Path.{◌≡◌, sym, ◌∙◌, subst}
-use mathlib.Core.List.{List}
-use native.Mathlib.Omega.{arith}
-use lib.ListN.{get_or}
-use lib.IntN.{ℤ, pos}
-use mir.Val.{to_z}
-use mir.Syntax.{w64}
-use Rattle.integers.specs.Words.{back32, back64}
-use Rattle.integers.specs.Range.{InRange, within_range}
+use mathlib.Core.Path.{◌≡◌}
 use Rattle.graph.specs.declared.Graph.{Graph}
-use Rattle.graph.specs.Limits.{max_cost}
 use Rattle.graph.specs.Valid.{Valid}
-use Rattle.search.specs.Runs.Costs.{CostTo, Ticked, cost_none, cost_all, ticked}
+use Rattle.search.specs.Runs.Costs.{CostTo}
 use Rattle.search.proofs.cost.tour_cost.Given as goal
 
 abbrev pub invariant-loop-k : goal.invariant-loop-k

@@ -1,5 +1,5 @@
 -- The loop keeps: which of the two comes first, by the first k edges.
-use Prim.Native.Nat.{ℕ, ◌≤◌, ◌-◌}
+use Prim.Native.Nat.{ℕ}
 use mathlib.Core.Path.{◌≡◌, sym, ap, ◌∙◌}
 use mathlib.Core.Bool.{Bool}
 use native.Mathlib.Omega.{arith}
@@ -8,7 +8,6 @@ use lib.ListN.{get_or}
 use Rattle.tree_theory.specs.OneTree.{lacks_first, unless}
 use Rattle.tree_theory.specs.Arrays.{bytes}
 use Rattle.search.specs.Runs.Keeping.{first_none, first_more}
-use Rattle.std.proofs.Common.{rules}
 use Rattle.search.proofs.keeping.comes_first.Goals as goal
 
 pub loop-k-init : goal.loop-k-init

@@ -1,13 +1,8 @@
 -- The loop keeps: which of the two comes first, by the first k edges.
-use Prim.Native.Nat.{ℕ, ◌≤◌, ◌-◌}
-use mathlib.Core.Path.{◌≡◌, sym, ap, ◌∙◌}
-use mathlib.Core.Bool.{Bool}
-use native.Mathlib.Omega.{arith}
-use lib.Dec.{eqb}
-use lib.ListN.{get_or}
-use Rattle.tree_theory.specs.OneTree.{lacks_first, unless}
+use Prim.Native.Nat.{◌≤◌, ◌-◌}
+use mathlib.Core.Path.{◌≡◌}
+use Rattle.tree_theory.specs.OneTree.{lacks_first}
 use Rattle.tree_theory.specs.Arrays.{bytes}
-use Rattle.search.specs.Runs.Keeping.{first_none, first_more}
 use Rattle.search.proofs.keeping.comes_first.Given as goal
 
 abbrev pub invariant-loop-k : goal.invariant-loop-k

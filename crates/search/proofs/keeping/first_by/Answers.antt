@@ -1,6 +1,5 @@
 -- Each way out is a case of `unless`.
 use borrow.Author.Tests.{eq-eqb, ne_eqb}
-use Rattle.std.proofs.Common.{rules}
 use Rattle.search.proofs.keeping.first_by.Goals as goal
 
 pub returns-then-y-eq1 : goal.returns-then-y-eq1

@@ -7,7 +7,6 @@ use lib.Dec.{eqb}
 use Rattle.integers.specs.Words.{back64}
 use Rattle.graph.specs.declared.Graph.{Graph}
 use Rattle.graph.specs.Network.{network}
-use Rattle.graph.specs.Valid.{Valid}
 use Rattle.machine.specs.Machine as machine
 use Rattle.search.specs.Record.{bits}
 use Rattle.search.specs.Runs.Keeping.{replaces_by, kept_of, replaces_is}

@@ -4,7 +4,6 @@ use mathlib.Core.Bool.{true, false}
 use lib.Signed.{lt_z}
 use mir.Facts.{to_z-of_z}
 use Rattle.search.specs.Runs.Keeping.{replaces_by}
-use Rattle.std.proofs.Common.{rules}
 use Rattle.search.proofs.keeping.replaces.Goals as goal
 
 pub returns-then-x-y : goal.returns-then-x-y

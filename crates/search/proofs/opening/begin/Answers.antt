@@ -4,7 +4,6 @@ use mathlib.Core.Path.{◌≡◌, ap, subst}
 use native.Mathlib.Omega.{arith}
 use Rattle.integers.specs.Words.{back64}
 use Rattle.machine.specs.Machine.{Opening}
-use Rattle.machine.specs.Calls.{close}
 use Rattle.graph.specs.declared.Graph.{Graph}
 use Rattle.mark_rows.specs.MarkRows.{rows_of}
 use Rattle.node.specs.Marks.{marks_in}
@@ -32,6 +31,6 @@ pub returns : goal.returns
 returns c =
     let asked : Opening = opening_of c.args.g c.args.multipliers.now c.args.settings in
     begun asked c.requires _ c.trim-t.ensures _ c.padded-d.ensures
-    _ (back64 c.args.settings.ceiling c.struct_told-1.given.0.1) _ _
+    _ (back64 c.args.settings.ceiling (search rules)) _ _
     (subst (λ (m : ℕ). c.rows_of-rows.result ≡ rows_of (marks_in m c.trim-t.result.mark)) c.wide.ensures.0 c.rows_of-rows.ensures)
     c.put.ensures _ c.put_carried.ensures

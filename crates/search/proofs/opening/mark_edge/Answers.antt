@@ -2,7 +2,6 @@
 use mathlib.Core.Path.{◌∙◌}
 use native.Mathlib.Omega.{arith}
 use Rattle.search.specs.Begun.{reaches_size, sets-room, sets_none, sets_required, sets_excluded, byte_free, byte_required, byte_excluded}
-use Rattle.std.proofs.Common.{rules}
 use Rattle.search.proofs.opening.mark_edge.Goals as goal
 
 pub returns-then-x-eq-FREE : goal.returns-then-x-eq-FREE

@@ -1,13 +1,11 @@
 -- The loop keeps: the first k places are those of d, the others zero.
-use Prim.Native.Nat.{◌≤◌, ◌-◌}
 use mathlib.Core.Path.{refl}
 use native.Mathlib.Omega.{arith}
-use lib.ListN.{length, get_or}
+use lib.ListN.{get_or}
 use lib.IntN.{pos}
 use Rattle.lists.specs.Fill.{fit}
-use Rattle.lists.specs.Filling.{Filling, filling_none, filling_more, filling_is}
+use Rattle.lists.specs.Filling.{filling_none, filling_more, filling_is}
 use Rattle.integers.specs.Words.{back32}
-use Rattle.machine.specs.Calls.{close}
 use lib.ListN.{get_or-eq_default}
 use Rattle.std.proofs.Common.{rules}
 use Rattle.search.proofs.opening.padded.Goals as goal
@@ -18,7 +16,7 @@ loop-k-init c = (c.requires, omega arith, filling_none (pos 0) 20 _)
 pub loop-k-preserved : goal.loop-k-preserved
 loop-k-preserved c = let l = c.loop-k in
     let d = c.args.d.now in
-    let at = back32 (get_or d l.k (pos 0)) c.r-1.given in
+    let at = back32 (get_or d l.k (pos 0)) (search rules) in
     (l.invariant.0, omega arith, filling_more (pos 0) 20 (λ i. get_or d i (pos 0)) l.k l.r _ (omega (arith, l.invariant.0)) at l.invariant.2)
 
 pub returns : goal.returns

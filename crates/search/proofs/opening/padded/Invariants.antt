@@ -1,14 +1,8 @@
 -- The loop keeps: the first k places are those of d, the others zero.
 use Prim.Native.Nat.{◌≤◌, ◌-◌}
-use mathlib.Core.Path.{refl}
-use native.Mathlib.Omega.{arith}
 use lib.ListN.{length, get_or}
 use lib.IntN.{pos}
-use Rattle.lists.specs.Fill.{fit}
-use Rattle.lists.specs.Filling.{Filling, filling_none, filling_more, filling_is}
-use Rattle.integers.specs.Words.{back32}
-use Rattle.machine.specs.Calls.{close}
-use lib.ListN.{get_or-eq_default}
+use Rattle.lists.specs.Filling.{Filling}
 use Rattle.search.proofs.opening.padded.Given as goal
 
 abbrev pub invariant-loop-k : goal.invariant-loop-k

@@ -1,16 +1,12 @@
 -- The loop keeps: the words of the first k edges.
-use Prim.Native.Nat.{ℕ, ◌≤◌, ◌-◌}
-use mathlib.Core.Path.{◌≡◌, refl, sym, ap, ◌∙◌}
-use mathlib.Core.List.{List}
+use Prim.Native.Nat.{ℕ}
+use mathlib.Core.Path.{refl, sym, ap, ◌∙◌}
 use native.Mathlib.Omega.{arith}
-use lib.ListN.{get_or}
-use Rattle.graph.specs.Network.{Mark, mark_of}
 use Rattle.mark_rows.specs.MarkRows.{rows_of}
 use Rattle.mark_rows.specs.Building.{partly, partly_all}
 use Rattle.mark_rows.proofs.Building.{partly_none}
 use Rattle.node.specs.Marks.{marks_in}
 use Rattle.search.specs.Begun.{Reaches}
-use Rattle.std.proofs.Common.{rules}
 use Rattle.search.proofs.opening.rows_of.Invariants.{marked}
 use Rattle.search.proofs.opening.rows_of.Goals as goal
 

@@ -1,9 +1,8 @@
 -- The loop keeps: the places from m up to k are cleared.
-use Prim.Native.Nat.{ℕ, ◌≤◌, ◌-◌}
+use Prim.Native.Nat.{ℕ}
 use mathlib.Core.Path.{◌≡◌, sym, subst}
 use native.Mathlib.Omega.{arith}
 use lib.ListN.{length}
-use Rattle.machine.specs.Calls.{close}
 use Rattle.search.specs.Trimming.{Trimming, trimming_none, trimming_more, trimming_is}
 use Rattle.std.proofs.Common.{rules}
 use Rattle.search.proofs.opening.trim.Goals as goal

@@ -1,10 +1,6 @@
 -- The loop keeps: the places from m up to k are cleared.
-use Prim.Native.Nat.{ℕ, ◌≤◌, ◌-◌}
-use mathlib.Core.Path.{◌≡◌, sym, subst}
-use native.Mathlib.Omega.{arith}
-use lib.ListN.{length}
-use Rattle.machine.specs.Calls.{close}
-use Rattle.search.specs.Trimming.{Trimming, trimming_none, trimming_more, trimming_is}
+use Prim.Native.Nat.{◌≤◌, ◌-◌}
+use Rattle.search.specs.Trimming.{Trimming}
 use Rattle.search.proofs.opening.trim.Given as goal
 
 abbrev pub invariant-loop-k : goal.invariant-loop-k

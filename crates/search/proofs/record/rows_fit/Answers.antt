@@ -16,9 +16,6 @@ bounds-rows-i c = omega arith
 pub bounds-rows-i-in-loop-i : goal.bounds-rows-i-in-loop-i
 bounds-rows-i-in-loop-i c = omega arith
 
-pub returns-then-x-y-ne0 : goal.returns-then-x-y-ne0
-returns-then-x-y-ne0 c = λ w. c.if-x-y-ne0.true (w c.loop-i.i (omega arith)).0
-
 pub edges_from-from-requires : goal.edges_from-from-requires
 edges_from-from-requires c = omega arith
 

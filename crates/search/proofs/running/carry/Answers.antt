@@ -1,12 +1,11 @@
 -- By the fate: the places of the node, and where it splits those of its upper half.
-use Prim.Native.Nat.{ℕ, ◌+◌, ◌<◌}
+use Prim.Native.Nat.{ℕ}
 use mathlib.Core.Path.{◌≡◌, sym, ◌∙◌, subst}
 use mathlib.Core.List.{List}
 use native.Mathlib.Omega.{arith}
 use lib.IntN.{ℤ}
 use Rattle.node.specs.declared.Fate.{Fate}
 use Rattle.search.specs.Runs.Frames.{CarriedBy}
-use Rattle.std.proofs.Common.{rules}
 use Rattle.search.proofs.running.carry.Goals as goal
 
 -- what is promised of one fate, of the fate that it is

@@ -5,7 +5,6 @@ use mathlib.Core.List.{List}
 use native.Mathlib.Omega.{arith}
 use Rattle.node.specs.declared.Fate.{Fate}
 use Rattle.search.specs.Runs.Frames.{PiledBy}
-use Rattle.std.proofs.Common.{rules}
 use Rattle.search.proofs.running.push.Goals as goal
 
 -- what is promised of one fate, of the fate that it is

@@ -10,8 +10,6 @@ use mathlib.Core.List.{List}
 use native.Mathlib.Omega.{arith}
 use lib.ListN.{length}
 use lib.IntN.{ℤ, pos}
-use mir.Val.{to_z, of_z}
-use mir.Syntax.{w64}
 use Rattle.lists.specs.Fill.{fit, fit-size}
 use Rattle.integers.specs.Words.{back64}
 use Rattle.graph.specs.declared.Graph.{Graph}
@@ -20,7 +18,7 @@ use Rattle.graph.specs.Valid.{Valid, graph_of}
 use Rattle.graph.specs.Parts.{own_parts}
 use Rattle.tree_theory.specs.Inputs.{multipliers_fit}
 use Rattle.tree_theory.specs.Scaled.{scaled_by}
-use Rattle.machine.specs.Machine.{Opening, Progress, passes, ran}
+use Rattle.machine.specs.Machine.{Opening, Progress, passes}
 use Rattle.mark_rows.specs.MarkRows.{marks_in_rows}
 use Rattle.node.specs.Marks.{bytes_of}
 use Rattle.node.specs.Opened as Node
@@ -29,12 +27,11 @@ use Rattle.node.specs.Faults.{Fit}
 use Rattle.node.specs.OnePass.{top_of}
 use Rattle.node.specs.Passes.{with_bytes}
 use Rattle.node.specs.Opens.{opens_node}
-use Rattle.search.specs.Runs.Frames.{Top, Opens, holds_mag, holds_size, holds_deep, holds_valid, top_of_lem, top-high, split_room, next_carried}
+use Rattle.search.specs.Runs.Frames.{Opens, holds_mag, holds_size, holds_deep, holds_valid, top_of_lem, top-high, split_room, next_carried}
 use Rattle.search.specs.Record.{multiplier_at, rows_at, multipliers_at}
 use Rattle.search.specs.Cells.{carried_places, cells-size}
 use Rattle.search.specs.Runs.Running.{runs_ceiling, runs_sweeps, runs_step, runs_denominator, top_fits, top_is, runs_next}
-use Rattle.search.specs.Runs.Running.{Runs, RunsTo, run_stops, run_spent, run_turn}
-use Rattle.std.proofs.Common.{rules}
+use Rattle.search.specs.Runs.Running.{Runs, run_stops, run_spent, run_turn}
 use Rattle.search.proofs.running.run_frame.Goals as goal
 
 -- what a node with the multipliers d is opened with, where n and m are the numbers of vertices and edges of g and u the upper bound
@@ -121,10 +118,10 @@ push-requires c =
     let came : Opened = opened c.open-fate.result c.open-fate.new.rows c.open-fate.new.top c.open-fate.new.tour c.open-fate.new.last in
     let k = c.loop-left.invariant c.requires.0 c.requires.1 in
     let t : Opens c.wide-m.result c.args.g.cost c.loop-left.t c.loop-left.stack c.loop-left.best came
-            = opens c.args.g c.args.settings c.loop-left.t c.loop-left.stack c.loop-left.best c.loop-left.carried k.search k.runs
-            c.wide-n.result c.wide-m.result _ c.wide-n.ensures.0 c.wide-m.ensures.0
-            (back64 c.loop-left.t.upper (holds_mag _ _ _ _ _ k.runs.holds)) (omega arith) (omega (arith, c.if-t-ge-MAX_COUNT.false))
-            c.get-rows.result _ _ c.get_carried-d.result _ c.get-rows.ensures c.get_carried-d.ensures _ c.open-fate.ensures in
+    = opens c.args.g c.args.settings c.loop-left.t c.loop-left.stack c.loop-left.best c.loop-left.carried k.search k.runs
+    c.wide-n.result c.wide-m.result _ c.wide-n.ensures.0 c.wide-m.ensures.0
+    (back64 c.loop-left.t.upper (holds_mag _ _ _ _ _ k.runs.holds)) (omega arith) (omega (arith, c.if-t-ge-MAX_COUNT.false))
+    c.get-rows.result _ _ c.get_carried-d.result _ c.get-rows.ensures c.get_carried-d.ensures _ c.open-fate.ensures in
     (top-high _ _ _ _ _ _ t, holds_size _ _ _ _ _ k.runs.holds, split_room _ _ _ _ _ _ t)
 
 -- and for what they carry
@@ -133,10 +130,10 @@ carry-requires c =
     let came : Opened = opened c.open-fate.result c.open-fate.new.rows c.open-fate.new.top c.open-fate.new.tour c.open-fate.new.last in
     let k = c.loop-left.invariant c.requires.0 c.requires.1 in
     let t : Opens c.wide-m.result c.args.g.cost c.loop-left.t c.loop-left.stack c.loop-left.best came
-            = opens c.args.g c.args.settings c.loop-left.t c.loop-left.stack c.loop-left.best c.loop-left.carried k.search k.runs
-            c.wide-n.result c.wide-m.result _ c.wide-n.ensures.0 c.wide-m.ensures.0
-            (back64 c.loop-left.t.upper (holds_mag _ _ _ _ _ k.runs.holds)) (omega arith) (omega (arith, c.if-t-ge-MAX_COUNT.false))
-            c.get-rows.result _ _ c.get_carried-d.result _ c.get-rows.ensures c.get_carried-d.ensures _ c.open-fate.ensures in (
+    = opens c.args.g c.args.settings c.loop-left.t c.loop-left.stack c.loop-left.best c.loop-left.carried k.search k.runs
+    c.wide-n.result c.wide-m.result _ c.wide-n.ensures.0 c.wide-m.ensures.0
+    (back64 c.loop-left.t.upper (holds_mag _ _ _ _ _ k.runs.holds)) (omega arith) (omega (arith, c.if-t-ge-MAX_COUNT.false))
+    c.get-rows.result _ _ c.get_carried-d.result _ c.get-rows.ensures c.get_carried-d.ensures _ c.open-fate.ensures in (
       top-high _ _ _ _ _ _ t,
       ap length k.runs.carried ∙ cells-size 20 440 carried_places multiplier_at k.search.stack,
       split_room _ _ _ _ _ _ t,
@@ -147,10 +144,10 @@ settle-t-requires c =
     let came : Opened = opened c.open-fate.result c.open-fate.new.rows c.open-fate.new.top c.open-fate.new.tour c.open-fate.new.last in
     let k = c.loop-left.invariant c.requires.0 c.requires.1 in
     let t : Opens c.wide-m.result c.args.g.cost c.loop-left.t c.loop-left.stack c.loop-left.best came
-            = opens c.args.g c.args.settings c.loop-left.t c.loop-left.stack c.loop-left.best c.loop-left.carried k.search k.runs
-            c.wide-n.result c.wide-m.result _ c.wide-n.ensures.0 c.wide-m.ensures.0
-            (back64 c.loop-left.t.upper (holds_mag _ _ _ _ _ k.runs.holds)) (omega arith) (omega (arith, c.if-t-ge-MAX_COUNT.false))
-            c.get-rows.result _ _ c.get_carried-d.result _ c.get-rows.ensures c.get_carried-d.ensures _ c.open-fate.ensures in
+    = opens c.args.g c.args.settings c.loop-left.t c.loop-left.stack c.loop-left.best c.loop-left.carried k.search k.runs
+    c.wide-n.result c.wide-m.result _ c.wide-n.ensures.0 c.wide-m.ensures.0
+    (back64 c.loop-left.t.upper (holds_mag _ _ _ _ _ k.runs.holds)) (omega arith) (omega (arith, c.if-t-ge-MAX_COUNT.false))
+    c.get-rows.result _ _ c.get_carried-d.result _ c.get-rows.ensures c.get_carried-d.ensures _ c.open-fate.ensures in
     (c.loop-left.stack, came.rows, came.top, came.last, t)
 
 pub loop-left-preserved : goal.loop-left-preserved
@@ -162,10 +159,10 @@ loop-left-preserved c =
     run_turn _ _ _ _ _ _ _ _ (l.invariant q r) (l.left - 1) (omega arith) (omega arith) (omega (arith, c.if-t-ge-MAX_COUNT.false)) _ _ _ _
     (λ p h.
     let t : Opens c.wide-m.result c.args.g.cost c.loop-left.t c.loop-left.stack c.loop-left.best came
-            = opens c.args.g c.args.settings c.loop-left.t c.loop-left.stack c.loop-left.best c.loop-left.carried p h
-            c.wide-n.result c.wide-m.result _ c.wide-n.ensures.0 c.wide-m.ensures.0
-            (back64 c.loop-left.t.upper (holds_mag _ _ _ _ _ h.holds)) (omega arith) (omega (arith, c.if-t-ge-MAX_COUNT.false))
-            c.get-rows.result _ _ c.get_carried-d.result _ c.get-rows.ensures c.get_carried-d.ensures _ c.open-fate.ensures in
+    = opens c.args.g c.args.settings c.loop-left.t c.loop-left.stack c.loop-left.best c.loop-left.carried p h
+    c.wide-n.result c.wide-m.result _ c.wide-n.ensures.0 c.wide-m.ensures.0
+    (back64 c.loop-left.t.upper (holds_mag _ _ _ _ _ h.holds)) (omega arith) (omega (arith, c.if-t-ge-MAX_COUNT.false))
+    c.get-rows.result _ _ c.get_carried-d.result _ c.get-rows.ensures c.get_carried-d.ensures _ c.open-fate.ensures in
     runs_next _ _ _ _ _ _ _ h t.top _ _ _ _ (c.settle-t.ensures _ _ _ _ _ t c.push.ensures)
     (next_carried _ _ _ _ _ _ t _ _ h.carried c.carry.ensures))
 

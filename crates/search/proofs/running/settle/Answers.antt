@@ -10,7 +10,6 @@ use Rattle.node.specs.Opened.{Opened}
 use Rattle.node.specs.Refusing.{never_refused}
 use Rattle.search.specs.Runs.Frames.{PiledBy, holds_mag, holds_valid, top_depth, top-high, top-room}
 use Rattle.search.specs.Runs.Frames.{next_closes, next_finds, next_splits}
-use Rattle.std.proofs.Common.{rules}
 use Rattle.search.proofs.running.settle.Goals as goal
 
 -- what is promised of the words of a fate, of the fate that it is

@@ -1,14 +1,11 @@
 -- The loop keeps: the first k bytes are those of `best`.
-use Prim.Native.Nat.{ℕ, ◌≤◌, ◌<◌, ◌-◌}
-use mathlib.Core.Path.{◌≡◌, refl, sym, ◌∙◌}
+use mathlib.Core.Path.{refl, sym, ◌∙◌}
 use native.Mathlib.Omega.{arith}
 use borrow.Author.Count.{below_more}
 use lib.ListN.{length, get_or, length-set}
 use lib.Seq.{get_or-set_same, get_or-set_other}
 use Rattle.lists.specs.Fill.{fit}
-use Rattle.machine.specs.Calls.{close}
 use Rattle.lists.specs.Fill.{fill_is}
-use Rattle.std.proofs.Common.{rules}
 use Rattle.search.proofs.shown.show_tour.Goals as goal
 
 pub loop-k-init : goal.loop-k-init

@@ -1,13 +1,7 @@
 -- The loop keeps: the first k bytes are those of `best`.
 use Prim.Native.Nat.{ℕ, ◌≤◌, ◌<◌, ◌-◌}
-use mathlib.Core.Path.{◌≡◌, refl, sym, ◌∙◌}
-use native.Mathlib.Omega.{arith}
-use borrow.Author.Count.{below_more}
-use lib.ListN.{length, get_or, length-set}
-use lib.Seq.{get_or-set_same, get_or-set_other}
-use Rattle.lists.specs.Fill.{fit}
-use Rattle.machine.specs.Calls.{close}
-use Rattle.lists.specs.Fill.{fill_is}
+use mathlib.Core.Path.{◌≡◌}
+use lib.ListN.{length, get_or}
 use Rattle.search.proofs.shown.show_tour.Given as goal
 
 abbrev pub invariant-loop-k : goal.invariant-loop-k

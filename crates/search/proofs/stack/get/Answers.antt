@@ -1,11 +1,10 @@
 -- The loop keeps: the first j words are those of node p.
-use Prim.Native.Nat.{ℕ, ◌+◌, ◌*◌, ◌≤◌, ◌<◌, ◌-◌}
+use Prim.Native.Nat.{ℕ, ◌+◌, ◌*◌}
 use mathlib.Core.Path.{refl}
 use native.Mathlib.Omega.{arith}
 use lib.ListN.{get_or}
-use Rattle.lists.specs.Filling.{Filling, filling_none, filling_more, filling_to, filling_full}
+use Rattle.lists.specs.Filling.{filling_none, filling_more, filling_to, filling_full}
 use Rattle.search.specs.Record.{rows_at}
-use Rattle.std.proofs.Common.{rules}
 use Rattle.search.proofs.stack.get.Goals as goal
 
 pub loop-j-init : goal.loop-j-init

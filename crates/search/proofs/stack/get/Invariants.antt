@@ -1,10 +1,7 @@
 -- The loop keeps: the first j words are those of node p.
-use Prim.Native.Nat.{ℕ, ◌+◌, ◌*◌, ◌≤◌, ◌<◌, ◌-◌}
-use mathlib.Core.Path.{refl}
-use native.Mathlib.Omega.{arith}
+use Prim.Native.Nat.{◌+◌, ◌*◌, ◌≤◌, ◌<◌, ◌-◌}
 use lib.ListN.{get_or}
-use Rattle.lists.specs.Filling.{Filling, filling_none, filling_more, filling_to, filling_full}
-use Rattle.search.specs.Record.{rows_at}
+use Rattle.lists.specs.Filling.{Filling}
 use Rattle.search.proofs.stack.get.Given as goal
 
 abbrev pub invariant-loop-j : goal.invariant-loop-j

@@ -1,9 +1,9 @@
 -- The loop keeps: the first j multipliers are those that node p carries.
-use Prim.Native.Nat.{ℕ, ◌+◌, ◌*◌, ◌≤◌, ◌<◌, ◌-◌}
+use Prim.Native.Nat.{ℕ, ◌+◌, ◌*◌}
 use native.Mathlib.Omega.{arith}
 use lib.ListN.{get_or}
 use lib.IntN.{ℤ, pos}
-use Rattle.lists.specs.Filling.{Filling, filling_none, filling_more, filling_to, filling_full}
+use Rattle.lists.specs.Filling.{filling_none, filling_more, filling_to, filling_full}
 use Rattle.integers.specs.Words.{back32}
 use Rattle.search.specs.Record.{multipliers_at}
 use Rattle.std.proofs.Common.{rules}
@@ -16,7 +16,7 @@ pub loop-j-preserved : goal.loop-j-preserved
 loop-j-preserved c = let l = c.loop-j in
     let a = c.args in
     let f : ℕ → ℤ = λ i. get_or a.carried.now (20 * a.p + i) (pos 0) in
-    (omega arith, l.invariant.1, filling_more (pos 0) 20 f l.j l.r _ (omega arith) (back32 (f l.j) c.r-1.given) l.invariant.2)
+    (omega arith, l.invariant.1, filling_more (pos 0) 20 f l.j l.r _ (omega arith) (back32 (f l.j) (search rules)) l.invariant.2)
 
 pub returns : goal.returns
 unfolding multipliers_at

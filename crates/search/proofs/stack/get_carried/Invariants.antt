@@ -1,11 +1,8 @@
 -- The loop keeps: the first j multipliers are those that node p carries.
-use Prim.Native.Nat.{ℕ, ◌+◌, ◌*◌, ◌≤◌, ◌<◌, ◌-◌}
-use native.Mathlib.Omega.{arith}
+use Prim.Native.Nat.{◌+◌, ◌*◌, ◌≤◌, ◌<◌, ◌-◌}
 use lib.ListN.{get_or}
-use lib.IntN.{ℤ, pos}
-use Rattle.lists.specs.Filling.{Filling, filling_none, filling_more, filling_to, filling_full}
-use Rattle.integers.specs.Words.{back32}
-use Rattle.search.specs.Record.{multipliers_at}
+use lib.IntN.{pos}
+use Rattle.lists.specs.Filling.{Filling}
 use Rattle.search.proofs.stack.get_carried.Given as goal
 
 abbrev pub invariant-loop-j : goal.invariant-loop-j

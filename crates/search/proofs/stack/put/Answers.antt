@@ -1,10 +1,8 @@
 -- The loop keeps: the first j words of x stand at node p.
-use Prim.Native.Nat.{◌*◌, ◌≤◌, ◌<◌, ◌-◌}
-use mathlib.Core.Path.{◌≡◌, refl}
+use Prim.Native.Nat.{◌*◌}
+use mathlib.Core.Path.{refl}
 use native.Mathlib.Omega.{arith}
-use lib.ListN.{length}
-use Rattle.search.specs.Pushing.{Put, put_none, put-more, put_to}
-use Rattle.std.proofs.Common.{rules}
+use Rattle.search.specs.Pushing.{put_none, put-more, put_to}
 use Rattle.search.proofs.stack.put.Goals as goal
 
 pub loop-j-init : goal.loop-j-init

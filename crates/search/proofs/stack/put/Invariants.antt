@@ -1,9 +1,8 @@
 -- The loop keeps: the first j words of x stand at node p.
 use Prim.Native.Nat.{◌*◌, ◌≤◌, ◌<◌, ◌-◌}
-use mathlib.Core.Path.{◌≡◌, refl}
-use native.Mathlib.Omega.{arith}
+use mathlib.Core.Path.{◌≡◌}
 use lib.ListN.{length}
-use Rattle.search.specs.Pushing.{Put, put_none, put-more, put_to}
+use Rattle.search.specs.Pushing.{Put}
 use Rattle.search.proofs.stack.put.Given as goal
 
 abbrev pub invariant-loop-j : goal.invariant-loop-j

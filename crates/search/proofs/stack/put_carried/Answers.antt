@@ -1,11 +1,10 @@
 -- The loop keeps: the first j multipliers of d stand at node p.
-use Prim.Native.Nat.{◌*◌, ◌≤◌, ◌<◌, ◌-◌}
-use mathlib.Core.Path.{◌≡◌}
+use Prim.Native.Nat.{◌*◌}
 use native.Mathlib.Omega.{arith}
-use lib.ListN.{length, get_or}
+use lib.ListN.{get_or}
 use lib.IntN.{pos}
 use Rattle.integers.specs.Words.{back32}
-use Rattle.search.specs.Pushing.{Put, put_none, put-more, put_to}
+use Rattle.search.specs.Pushing.{put_none, put-more, put_to}
 use Rattle.std.proofs.Common.{rules}
 use Rattle.search.proofs.stack.put_carried.Goals as goal
 
@@ -21,7 +20,7 @@ loop-j-preserved c = let l = c.loop-j in
       omega arith,
       l.invariant.1,
       l.invariant.2,
-      put-more (pos 0) _ _ _ l.j _ _ (back32 (get_or a.d.now l.j (pos 0)) c.carried-1.given) (omega (arith, l.invariant.3.size)) l.invariant.3,
+      put-more (pos 0) _ _ _ l.j _ _ (back32 (get_or a.d.now l.j (pos 0)) (search rules)) (omega (arith, l.invariant.3.size)) l.invariant.3,
     )
 
 pub returns : goal.returns

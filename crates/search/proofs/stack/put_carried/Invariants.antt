@@ -1,11 +1,9 @@
 -- The loop keeps: the first j multipliers of d stand at node p.
 use Prim.Native.Nat.{◌*◌, ◌≤◌, ◌<◌, ◌-◌}
 use mathlib.Core.Path.{◌≡◌}
-use native.Mathlib.Omega.{arith}
-use lib.ListN.{length, get_or}
+use lib.ListN.{length}
 use lib.IntN.{pos}
-use Rattle.integers.specs.Words.{back32}
-use Rattle.search.specs.Pushing.{Put, put_none, put-more, put_to}
+use Rattle.search.specs.Pushing.{Put}
 use Rattle.search.proofs.stack.put_carried.Given as goal
 
 abbrev pub invariant-loop-j : goal.invariant-loop-j

@@ -1,0 +1,20 @@
+-- By what `rule` says; the arm of the match says which answer it was.
+use Rattle.std.proofs.Common.{ap, ◌∙◌, arith}
+use Rattle.integers.specs.Words.{back64}
+use Rattle.onetree.specs.Answers.{rule_meaning}
+use Rattle.ffi.specs.Answers.{said_reply}
+use Rattle.ffi.proofs.trees.planner_rule.Goals as goal
+
+pub returns-in-Bound : goal.returns-in-Bound
+unfolding rule_meaning said_reply
+returns-in-Bound c =
+    let said = rw (back64 c.args.ceiling (omega arith)) at c.in-Bound.ensures in
+    (c.bound.ensures ∙ rw (back64 c.in-Bound.value (omega arith)) (ap said_reply said.0), said.1)
+
+pub returns-in-Infeasible : goal.returns-in-Infeasible
+unfolding rule_meaning said_reply
+returns-in-Infeasible c = let said = rw (back64 c.args.ceiling (omega arith)) at c.in-Infeasible.ensures in (c.plain.ensures ∙ ap said_reply said.0, said.1)
+
+pub returns-in-Refused : goal.returns-in-Refused
+unfolding rule_meaning said_reply
+returns-in-Refused c = let said = rw (back64 c.args.ceiling (omega arith)) at c.in-Refused.ensures in (c.plain-in-Refused.ensures ∙ ap said_reply said.0, said.1)

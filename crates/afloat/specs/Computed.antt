@@ -2,7 +2,7 @@
 -- the active vertices (`Renumbered`), made from the graph g; c are the kept edges. r is valid, so the functions that are proved of valid graphs
 -- serve it as they are, and its tree and rulings are those over the active vertices of g, in new numbers. (Of the passes of a node:
 -- PassesComputed.)
-use Rattle.std.specs.Prelude.{◌≡◌, true, List, ℕ, ℤ}
+use Rattle.std.specs.Prelude.{◌≡◌, true, List, ℕ}
 use Rattle.std.proofs.Common.{ap}
 use Rattle.graph.specs.declared.Graph.{Graph}
 use Rattle.graph.specs.Network.{Network, network}
@@ -14,17 +14,16 @@ use Rattle.afloat.specs.Reduced.{Fit}
 use Rattle.afloat.specs.Compact.{Keeping, compact}
 use Rattle.afloat.specs.Graphs.{Renumbered, renumbered_network, renumbered_valid}
 use Rattle.afloat.specs.Inputs.{ashore_zero, fit_of}
-use Rattle.afloat.specs.Lists.{reduced_list}
 
 module _ (l : List ℕ) (c : Edges) (g r : Graph) (v : value.Valid g) (fits : ashore_fits l g.n ≡ true) (keeping : Keeping (ashore l) (network g) c)
     (h : Renumbered (ashore l) c g r) (q : ℕ) where
-  abbrev pub s : Ashore
+  abbrev s : Ashore
   s = ashore l
 
-  abbrev pub scaled_all : Network
+  abbrev scaled_all : Network
   scaled_all = scaled_by q (network g)
 
-  pub fit : Fit s (network g)
+  fit : Fit s (network g)
   fit = fit_of g v l fits
 
   -- A VALID GRAPH
@@ -34,8 +33,3 @@ module _ (l : List ℕ) (c : Edges) (g r : Graph) (v : value.Valid g) (fits : as
   -- WHOSE NETWORK IS THE COMPACT ONE
   pub small-network : scaled_by q (network r) ≡ compact s c scaled_all
   small-network = ap (scaled_by q) (renumbered_network s (ashore_zero l) c g r v fit keeping h)
-
-  module _ (d : List ℤ) where
-    -- the multipliers of the active vertices
-    abbrev pub small : List ℤ
-    small = reduced_list s (network g).n d

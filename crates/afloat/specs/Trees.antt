@@ -1,6 +1,6 @@
 -- A SET OF EDGES IS A 1-TREE OVER THE ACTIVE VERTICES EXACTLY WHERE IT IS ONE OF THE REDUCED NETWORK, and its bound is the same; hence the least
 -- 1-tree, what is infeasible, barred and forced are the same.
-use Rattle.std.specs.Prelude.{◌≡◌, ◌↔◌, Bool, cond, ◌&&◌, List, [], ◌∷◌, map, ℕ, ◌+◌, eqb, length, ℤ, pos, ◌+ℤ◌, ◌-ℤ◌, ◌*ℤ◌, ◌<ℤ◌}
+use Rattle.std.specs.Prelude.{◌≡◌, Bool, cond, ◌&&◌, List, [], ◌∷◌, map, ℕ, ◌+◌, eqb, length, ℤ, pos, ◌+ℤ◌, ◌-ℤ◌, ◌*ℤ◌}
 use Rattle.std.proofs.Math.Path.{refl, ap}
 use Rattle.std.proofs.Common.{sym, ◌∙◌, subst, subst₂, true≢false}
 use Rattle.std.proofs.Math.Bool.{true, false, not}
@@ -13,10 +13,9 @@ use Rattle.lists.specs.Numbers.{up_to}
 use Rattle.integers.specs.Sums.{sum_z, sum_same, sum_map}
 use Rattle.graph.specs.Network.{Network}
 use Rattle.spanning.specs.Walks.{Walk, stay, along, back}
-use Rattle.tree_theory.specs.OneTree.{Edges, OneTree, Least, Infeasible, Barred, Forced, at_one, away, charge, bound}
+use Rattle.tree_theory.specs.OneTree.{Edges, OneTree, at_one, away, charge, bound}
 use Rattle.compaction.specs.Ranks.{rank, nth, nth-kept, select-thin}
 use Rattle.afloat.specs.Over.{Ashore, active, touched, multiplier_over, OneTreeOver, bound_over}
-use Rattle.afloat.specs.Over.{LeastOver, InfeasibleOver, BarredOver, ForcedOver}
 use Rattle.afloat.specs.Reduced.{reduced, reduced_multiplier, Fit, Live, live_back, live_same, count_is, over_live, others_there, others_again}
 use Rattle.afloat.specs.Reduced.{others_back, a_live, b_live, a_is, b_is, near_is, touched_excluded}
 
@@ -164,7 +163,7 @@ module _ (s : Ashore) (g : Network) (f : Fit s g) where
   over_free t o k i e = o.avoids k i (touched_excluded s g f k i e)
 
   module _ (d : ℕ → ℤ) where
-    abbrev pub δ : ℕ → ℤ
+    abbrev δ : ℕ → ℤ
     δ = reduced_multiplier s g.n d
 
     -- THEIR BOUNDS

@@ -93,12 +93,12 @@ module _ (g : Network) (d : ℕ → ℤ) (ceiling : ℤ) (e : ℕ) (me : e ∈ u
       go free false true h = refl
       go free false false h = cc
 
-  pub why_bars : (lifting : Bool) → ruling_with lifting g d ceiling e ≡ bars → (WhyBars g d ceiling e me)
+  pub why_bars : (lifting : Bool) → ruling_with lifting g d ceiling e ≡ bars → WhyBars g d ceiling e me
   unfolding ruling_with
   why_bars false h = inl (ordinary_bars h)
   why_bars true h = go (least_tree g d) refl (ruling g d ceiling e) refl h
     where
-      go : (x : Tree) → least_tree g d ≡ x → (r : Ruling) → ruling g d ceiling e ≡ r → retried g d ceiling e x r ≡ bars → (WhyBars g d ceiling e me)
+      go : (x : Tree) → least_tree g d ≡ x → (r : Ruling) → ruling g d ceiling e ≡ r → retried g d ceiling e x r ≡ bars → WhyBars g d ceiling e me
       go no_tree p r q h = inl (ordinary_bars (q ∙ h))
       go (a_tree b t) p keeps q h = by_cases (t e) (λ i. absurd (((tried_is t).1 i).1 h)) (λ i. inr (b, t, p, i, ((tried_is t).0 i).0.0 h))
       go (a_tree b t) p forces q h = inl (ordinary_bars (q ∙ h))
@@ -106,12 +106,12 @@ module _ (g : Network) (d : ℕ → ℤ) (ceiling : ℤ) (e : ℕ) (me : e ∈ u
       go (a_tree b t) p was_required q h = inl (ordinary_bars (q ∙ h))
       go (a_tree b t) p was_excluded q h = inl (ordinary_bars (q ∙ h))
 
-  pub why_forces : (lifting : Bool) → ruling_with lifting g d ceiling e ≡ forces → (WhyForces g d ceiling e me)
+  pub why_forces : (lifting : Bool) → ruling_with lifting g d ceiling e ≡ forces → WhyForces g d ceiling e me
   unfolding ruling_with
   why_forces false h = inl (ordinary_forces h)
   why_forces true h = go (least_tree g d) refl (ruling g d ceiling e) refl h
     where
-      go : (x : Tree) → least_tree g d ≡ x → (r : Ruling) → ruling g d ceiling e ≡ r → retried g d ceiling e x r ≡ forces → (WhyForces g d ceiling e me)
+      go : (x : Tree) → least_tree g d ≡ x → (r : Ruling) → ruling g d ceiling e ≡ r → retried g d ceiling e x r ≡ forces → WhyForces g d ceiling e me
       go no_tree p r q h = inl (ordinary_forces (q ∙ h))
       go (a_tree b t) p keeps q h = by_cases (t e) (λ i. inr (b, t, p, i, ((tried_is t).1 i).0.0 h)) (λ i. absurd (((tried_is t).0 i).1 h))
       go (a_tree b t) p forces q h = inl (ordinary_forces q)
@@ -127,7 +127,7 @@ module _ (g : Network) (d : ℕ → ℤ) (ceiling : ℤ) (e : ℕ) (me : e ∈ u
     unfolding Barred
     any_out h = by_cases (s e) (λ i. absurd (go i (why_bars lifting h))) (λ i. i)
       where
-        go : s e ≡ true → (WhyBars g d ceiling e me) → ⊥
+        go : s e ≡ true → WhyBars g d ceiling e me → ⊥
         go i (inl b) = le_lt_clash (bound g d s) ceiling (cheap d) (b s o i)
         go i (inr (b, t, p, q, w)) = le_lt_clash (bound g (raised g d t e) s) ceiling (cheap (raised g d t e)) (w s o i)
 
@@ -135,7 +135,7 @@ module _ (g : Network) (d : ℕ → ℤ) (ceiling : ℤ) (e : ℕ) (me : e ∈ u
     unfolding Forced
     any_in h = by_cases (s e) (λ i. i) (λ i. absurd (go i (why_forces lifting h)))
       where
-        go : s e ≡ false → (WhyForces g d ceiling e me) → ⊥
+        go : s e ≡ false → WhyForces g d ceiling e me → ⊥
         go i (inl b) = le_lt_clash (bound g d s) ceiling (cheap d) (b s o i)
         go i (inr (b, t, p, q, w)) = le_lt_clash (bound g (lowered g d t e) s) ceiling (cheap (lowered g d t e)) (w s o i)
 
@@ -159,7 +159,7 @@ module _ (g : Network) (d : ℕ → ℤ) (ceiling : ℤ) (e : ℕ) (me : e ∈ u
     unfolding Barred
     tree_out h = by_cases (t e) (λ i. absurd (go i (why_bars lifting h))) (λ i. i)
       where
-        go : t e ≡ true → (WhyBars g d ceiling e me) → ⊥
+        go : t e ≡ true → WhyBars g d ceiling e me → ⊥
         go i (inl w) = le_lt_clash (bound g d t) ceiling (rw right.0 at within) (w t right.1.tree i)
         go i (inr (c, r, p, q, w)) = true≢false (sym i ∙ ap (λ (x : Edges). x e) (one-tree (sym is ∙ p)) ∙ q)
           where
@@ -170,7 +170,7 @@ module _ (g : Network) (d : ℕ → ℤ) (ceiling : ℤ) (e : ℕ) (me : e ∈ u
     unfolding Forced
     tree_in h = by_cases (t e) (λ i. i) (λ i. absurd (go i (why_forces lifting h)))
       where
-        go : t e ≡ false → (WhyForces g d ceiling e me) → ⊥
+        go : t e ≡ false → WhyForces g d ceiling e me → ⊥
         go i (inl w) = le_lt_clash (bound g d t) ceiling (rw right.0 at within) (w t right.1.tree i)
         go i (inr (c, r, p, q, w)) = true≢false (sym q ∙ ap (λ (x : Edges). x e) (sym (one-tree (sym is ∙ p))) ∙ i)
           where

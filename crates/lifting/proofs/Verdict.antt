@@ -44,7 +44,7 @@ use Rattle.lifting.specs.Found.{
   least_rise,
   least_fall,
 }
-use Rattle.lifting.specs.Verdict.{still_of, end_move, room_of, decides, rise_at, fall_at}
+use Rattle.lifting.specs.Verdict.{still_of, end_move, room_of, decides}
 
 -- ---- rulings
 
@@ -120,7 +120,13 @@ module _ (g : Network) (vg : Valid g) (d : ℕ → ℤ) (K : ℕ) (c : ℕ → �
     best : BestGiver g c t (suc k) (suc (place_of none c meets false ins p k)) × (c (suc (place_of none c meets false ins p k)) ≡ top_of none c meets false ins p k)
     best = best_giver g c t none In Out meets on x ins outs p q li lo k ok some
 
-    rises_by : (i j : ℕ) → RisesBy g d c t (suc k) (suc (place_of none c meets false ins p k)) i j (rise_at g vg d K c off t l z slack within none wide In Out meets on x ins outs p q li lo cost cost_in_lem cost_out k me alone range kept ok te i j)
+    -- how far the end i rises
+    abbrev pub rise_at : ℕ → ℕ → ℕ
+    rise_at i j =
+        end_move false i j (on i (place_of none c meets false ins p k)) (degree g t i) (room_of false (d i)) (low_at none on cost ins p i)
+        (top_of none c meets false ins p k) (top_at none c meets on false ins p i k)
+
+    rises_by : (i j : ℕ) → RisesBy g d c t (suc k) (suc (place_of none c meets false ins p k)) i j (rise_at i j)
     unfolding still_of
     rises_by i j = by_cases (still_of false i (on i (place_of none c meets false ins p k)) (degree g t i)) still moves
       where
@@ -129,7 +135,7 @@ module _ (g : Network) (vg : Valid g) (d : ℕ → ℤ) (K : ℕ) (c : ℕ → �
             (x.back (place_of none c meets false ins p k) k best.0.pair).0
 
         still : still_of false i (on i (place_of none c meets false ins p k)) (degree g t i) ≡ true
-            → RisesBy g d c t (suc k) (suc (place_of none c meets false ins p k)) i j (rise_at g vg d K c off t l z slack within none wide In Out meets on x ins outs p q li lo cost cost_in_lem cost_out k me alone range kept ok te i j)
+            → RisesBy g d c t (suc k) (suc (place_of none c meets false ins p k)) i j (rise_at i j)
         still h = inr (
           unfold rises in
               ((still_rises (eqb i 1) (touches g i (suc (place_of none c meets false ins p k))) (leb 2 (degree g t i))).1 (rw end at h)),
@@ -137,7 +143,7 @@ module _ (g : Network) (vg : Valid g) (d : ℕ → ℤ) (K : ℕ) (c : ℕ → �
         )
 
         moves : still_of false i (on i (place_of none c meets false ins p k)) (degree g t i) ≡ false
-            → RisesBy g d c t (suc k) (suc (place_of none c meets false ins p k)) i j (rise_at g vg d K c off t l z slack within none wide In Out meets on x ins outs p q li lo cost cost_in_lem cost_out k me alone range kept ok te i j)
+            → RisesBy g d c t (suc k) (suc (place_of none c meets false ins p k)) i j (rise_at i j)
         moves h = inl (
           unfold rises in
               ((still_rises (eqb i 1) (touches g i (suc (place_of none c meets false ins p k))) (leb 2 (degree g t i))).0 (rw end at h)),
@@ -146,27 +152,27 @@ module _ (g : Network) (vg : Valid g) (d : ℕ → ℤ) (K : ℕ) (c : ℕ → �
         )
 
     pub lifts_outside : ruling_with true g d z (suc k)
-        ≡ cond (decides false slack (cost k) (rise_at g vg d K c off t l z slack within none wide In Out meets on x ins outs p q li lo cost cost_in_lem cost_out k me alone range kept ok te (g.a (suc k)) (g.b (suc k))) (degree g t (g.a (suc k))) (rise_at g vg d K c off t l z slack within none wide In Out meets on x ins outs p q li lo cost cost_in_lem cost_out k me alone range kept ok te (g.b (suc k)) (g.a (suc k)))
+        ≡ cond (decides false slack (cost k) (rise_at (g.a (suc k)) (g.b (suc k))) (degree g t (g.a (suc k))) (rise_at (g.b (suc k)) (g.a (suc k)))
         (degree g t (g.b (suc k)))) bars keeps
     unfolding decides
     lifts_outside = by_barred g d z t l (suc k) me kept _ te ((λ h. w.1 (omega (arith, n.0 h, i, best.1))), λ h. n.1 (omega (arith, w.0 h, i, best.1)))
       where
         w : Barred g (raised g d t (suc k)) z (suc k)
-            ↔ (slack + c (suc (place_of none c meets false ins p k)) + (rise_at g vg d K c off t l z slack within none wide In Out meets on x ins outs p q li lo cost cost_in_lem cost_out k me alone range kept ok te (g.a (suc k)) (g.b (suc k)) + (rise_at g vg d K c off t l z slack within none wide In Out meets on x ins outs p q li lo cost cost_in_lem cost_out k me alone range kept ok te) (g.b (suc k)) (g.a (suc k)))
-            < c (suc k) + (rise_at g vg d K c off t l z slack within none wide In Out meets on x ins outs p q li lo cost cost_in_lem cost_out k me alone range kept ok te (g.a (suc k)) (g.b (suc k)) * degree g t (g.a (suc k)) + (rise_at g vg d K c off t l z slack within none wide In Out meets on x ins outs p q li lo cost cost_in_lem cost_out k me alone range kept ok te) (g.b (suc k)) (g.a (suc k)) * degree g t (g.b (suc k))))
+            ↔ (slack + c (suc (place_of none c meets false ins p k)) + (rise_at (g.a (suc k)) (g.b (suc k)) + (rise_at) (g.b (suc k)) (g.a (suc k)))
+            < c (suc k) + (rise_at (g.a (suc k)) (g.b (suc k)) * degree g t (g.a (suc k)) + (rise_at) (g.b (suc k)) (g.a (suc k)) * degree g t (g.b (suc k))))
         w = raised_worked g vg d K c off t min z slack within (suc k) me alone (range (g.a (suc k))) (range (g.b (suc k)))
-            (rise_at g vg d K c off t l z slack within none wide In Out meets on x ins outs p q li lo cost cost_in_lem cost_out k me alone range kept ok te (g.a (suc k)) (g.b (suc k))) (rise_at g vg d K c off t l z slack within none wide In Out meets on x ins outs p q li lo cost cost_in_lem cost_out k me alone range kept ok te (g.b (suc k)) (g.a (suc k))) (suc (place_of none c meets false ins p k)) best.0
+            (rise_at (g.a (suc k)) (g.b (suc k))) (rise_at (g.b (suc k)) (g.a (suc k))) (suc (place_of none c meets false ins p k)) best.0
             (rises_by (g.a (suc k)) (g.b (suc k))) (rises_by (g.b (suc k)) (g.a (suc k)))
 
         i : cost k + c (suc (place_of none c meets false ins p k)) ≡ c (suc k)
         i = rw (cost_out k ok) (reduced_is g c t none In Out meets on x ins outs p q li lo k ok (suc (place_of none c meets false ins p k)) best.0)
 
-        n : (ltb (slack + (rise_at g vg d K c off t l z slack within none wide In Out meets on x ins outs p q li lo cost cost_in_lem cost_out k me alone range kept ok te (g.a (suc k)) (g.b (suc k)) + (rise_at g vg d K c off t l z slack within none wide In Out meets on x ins outs p q li lo cost cost_in_lem cost_out k me alone range kept ok te) (g.b (suc k)) (g.a (suc k))))
-            (cost k + (rise_at g vg d K c off t l z slack within none wide In Out meets on x ins outs p q li lo cost cost_in_lem cost_out k me alone range kept ok te (g.a (suc k)) (g.b (suc k)) * degree g t (g.a (suc k)) + (rise_at g vg d K c off t l z slack within none wide In Out meets on x ins outs p q li lo cost cost_in_lem cost_out k me alone range kept ok te) (g.b (suc k)) (g.a (suc k)) * degree g t (g.b (suc k)))) ≡ true)
-            ↔ (slack + (rise_at g vg d K c off t l z slack within none wide In Out meets on x ins outs p q li lo cost cost_in_lem cost_out k me alone range kept ok te (g.a (suc k)) (g.b (suc k)) + (rise_at g vg d K c off t l z slack within none wide In Out meets on x ins outs p q li lo cost cost_in_lem cost_out k me alone range kept ok te) (g.b (suc k)) (g.a (suc k)))
-            < cost k + (rise_at g vg d K c off t l z slack within none wide In Out meets on x ins outs p q li lo cost cost_in_lem cost_out k me alone range kept ok te (g.a (suc k)) (g.b (suc k)) * degree g t (g.a (suc k)) + (rise_at g vg d K c off t l z slack within none wide In Out meets on x ins outs p q li lo cost cost_in_lem cost_out k me alone range kept ok te) (g.b (suc k)) (g.a (suc k)) * degree g t (g.b (suc k))))
-        n = below_is (slack + (rise_at g vg d K c off t l z slack within none wide In Out meets on x ins outs p q li lo cost cost_in_lem cost_out k me alone range kept ok te (g.a (suc k)) (g.b (suc k)) + (rise_at g vg d K c off t l z slack within none wide In Out meets on x ins outs p q li lo cost cost_in_lem cost_out k me alone range kept ok te) (g.b (suc k)) (g.a (suc k))))
-            (cost k + (rise_at g vg d K c off t l z slack within none wide In Out meets on x ins outs p q li lo cost cost_in_lem cost_out k me alone range kept ok te (g.a (suc k)) (g.b (suc k)) * degree g t (g.a (suc k)) + (rise_at g vg d K c off t l z slack within none wide In Out meets on x ins outs p q li lo cost cost_in_lem cost_out k me alone range kept ok te) (g.b (suc k)) (g.a (suc k)) * degree g t (g.b (suc k))))
+        n : (ltb (slack + (rise_at (g.a (suc k)) (g.b (suc k)) + (rise_at) (g.b (suc k)) (g.a (suc k))))
+            (cost k + (rise_at (g.a (suc k)) (g.b (suc k)) * degree g t (g.a (suc k)) + (rise_at) (g.b (suc k)) (g.a (suc k)) * degree g t (g.b (suc k)))) ≡ true)
+            ↔ (slack + (rise_at (g.a (suc k)) (g.b (suc k)) + (rise_at) (g.b (suc k)) (g.a (suc k)))
+            < cost k + (rise_at (g.a (suc k)) (g.b (suc k)) * degree g t (g.a (suc k)) + (rise_at) (g.b (suc k)) (g.a (suc k)) * degree g t (g.b (suc k))))
+        n = below_is (slack + (rise_at (g.a (suc k)) (g.b (suc k)) + (rise_at) (g.b (suc k)) (g.a (suc k))))
+            (cost k + (rise_at (g.a (suc k)) (g.b (suc k)) * degree g t (g.a (suc k)) + (rise_at) (g.b (suc k)) (g.a (suc k)) * degree g t (g.b (suc k))))
 
   -- IN THE TREE
   module _ (ok : In k) (te : t (suc k) ≡ true) where
@@ -179,7 +185,13 @@ module _ (g : Network) (vg : Valid g) (d : ℕ → ℤ) (K : ℕ) (c : ℕ → �
     best' : BestTaker g c t (suc k) (suc (place_of none c meets true outs q k)) × (none - c (suc (place_of none c meets true outs q k)) ≡ top_of none c meets true outs q k)
     best' = best_taker g c t none In Out meets on x ins outs p q li lo k ok some'
 
-    falls_by : (i j : ℕ) → FallsBy g d c t (suc k) (suc (place_of none c meets true outs q k)) i j (fall_at g vg d K c off t l z slack within none wide In Out meets on x ins outs p q li lo cost cost_in_lem cost_out k me alone range kept ok te i j)
+    -- how far the end i falls
+    abbrev pub fall_at : ℕ → ℕ → ℕ
+    fall_at i j =
+        end_move true i j (on i (place_of none c meets true outs q k)) (degree g t i) (room_of true (d i)) (low_at none on cost outs q i)
+        (top_of none c meets true outs q k) (top_at none c meets on true outs q i k)
+
+    falls_by : (i j : ℕ) → FallsBy g d c t (suc k) (suc (place_of none c meets true outs q k)) i j (fall_at i j)
     unfolding still_of
     falls_by i j = by_cases (still_of true i (on i (place_of none c meets true outs q k)) (degree g t i)) still moves
       where
@@ -188,7 +200,7 @@ module _ (g : Network) (vg : Valid g) (d : ℕ → ℤ) (K : ℕ) (c : ℕ → �
             (x.back k (place_of none c meets true outs q k) best'.0.pair).1
 
         still : still_of true i (on i (place_of none c meets true outs q k)) (degree g t i) ≡ true
-            → FallsBy g d c t (suc k) (suc (place_of none c meets true outs q k)) i j (fall_at g vg d K c off t l z slack within none wide In Out meets on x ins outs p q li lo cost cost_in_lem cost_out k me alone range kept ok te i j)
+            → FallsBy g d c t (suc k) (suc (place_of none c meets true outs q k)) i j (fall_at i j)
         still h = inr (
           unfold falls in
               ((still_rises (eqb i 1) (touches g i (suc (place_of none c meets true outs q k))) (leb (degree g t i) 2)).1 (rw end at h)),
@@ -196,7 +208,7 @@ module _ (g : Network) (vg : Valid g) (d : ℕ → ℤ) (K : ℕ) (c : ℕ → �
         )
 
         moves : still_of true i (on i (place_of none c meets true outs q k)) (degree g t i) ≡ false
-            → FallsBy g d c t (suc k) (suc (place_of none c meets true outs q k)) i j (fall_at g vg d K c off t l z slack within none wide In Out meets on x ins outs p q li lo cost cost_in_lem cost_out k me alone range kept ok te i j)
+            → FallsBy g d c t (suc k) (suc (place_of none c meets true outs q k)) i j (fall_at i j)
         moves h = inl (
           unfold falls in
               ((still_rises (eqb i 1) (touches g i (suc (place_of none c meets true outs q k))) (leb (degree g t i) 2)).0 (rw end at h)),
@@ -205,25 +217,25 @@ module _ (g : Network) (vg : Valid g) (d : ℕ → ℤ) (K : ℕ) (c : ℕ → �
         )
 
     pub lifts_inside : ruling_with true g d z (suc k)
-        ≡ cond (decides true slack (cost k) (fall_at g vg d K c off t l z slack within none wide In Out meets on x ins outs p q li lo cost cost_in_lem cost_out k me alone range kept ok te (g.a (suc k)) (g.b (suc k))) (degree g t (g.a (suc k))) (fall_at g vg d K c off t l z slack within none wide In Out meets on x ins outs p q li lo cost cost_in_lem cost_out k me alone range kept ok te (g.b (suc k)) (g.a (suc k)))
+        ≡ cond (decides true slack (cost k) (fall_at (g.a (suc k)) (g.b (suc k))) (degree g t (g.a (suc k))) (fall_at (g.b (suc k)) (g.a (suc k)))
         (degree g t (g.b (suc k)))) forces keeps
     unfolding decides
     lifts_inside = by_forced g d z t l (suc k) me kept _ te ((λ h. w.1 (omega (arith, n.0 h, i))), λ h. n.1 (omega (arith, w.0 h, i)))
       where
         w : Forced g (lowered g d t (suc k)) z (suc k)
             ↔ (slack + c (suc k)
-            + (fall_at g vg d K c off t l z slack within none wide In Out meets on x ins outs p q li lo cost cost_in_lem cost_out k me alone range kept ok te (g.a (suc k)) (g.b (suc k)) * degree g t (g.a (suc k)) + (fall_at g vg d K c off t l z slack within none wide In Out meets on x ins outs p q li lo cost cost_in_lem cost_out k me alone range kept ok te) (g.b (suc k)) (g.a (suc k)) * degree g t (g.b (suc k)))
-            < c (suc (place_of none c meets true outs q k)) + (3 * (fall_at g vg d K c off t l z slack within none wide In Out meets on x ins outs p q li lo cost cost_in_lem cost_out k me alone range kept ok te) (g.a (suc k)) (g.b (suc k)) + 3 * (fall_at g vg d K c off t l z slack within none wide In Out meets on x ins outs p q li lo cost cost_in_lem cost_out k me alone range kept ok te) (g.b (suc k)) (g.a (suc k))))
+            + (fall_at (g.a (suc k)) (g.b (suc k)) * degree g t (g.a (suc k)) + (fall_at) (g.b (suc k)) (g.a (suc k)) * degree g t (g.b (suc k)))
+            < c (suc (place_of none c meets true outs q k)) + (3 * (fall_at) (g.a (suc k)) (g.b (suc k)) + 3 * (fall_at) (g.b (suc k)) (g.a (suc k))))
         w = lowered_worked g vg d K c off t min z slack within (suc k) me alone (range (g.a (suc k))) (range (g.b (suc k)))
-            (fall_at g vg d K c off t l z slack within none wide In Out meets on x ins outs p q li lo cost cost_in_lem cost_out k me alone range kept ok te (g.a (suc k)) (g.b (suc k))) (fall_at g vg d K c off t l z slack within none wide In Out meets on x ins outs p q li lo cost cost_in_lem cost_out k me alone range kept ok te (g.b (suc k)) (g.a (suc k))) (suc (place_of none c meets true outs q k)) best'.0
+            (fall_at (g.a (suc k)) (g.b (suc k))) (fall_at (g.b (suc k)) (g.a (suc k))) (suc (place_of none c meets true outs q k)) best'.0
             (falls_by (g.a (suc k)) (g.b (suc k))) (falls_by (g.b (suc k)) (g.a (suc k)))
 
         i : cost k + c (suc k) ≡ c (suc (place_of none c meets true outs q k))
         i = rw (cost_in_lem k ok) (replaced_is g c t none In Out meets on x ins outs p q li lo k ok (suc (place_of none c meets true outs q k)) best'.0)
 
-        n : (ltb (slack + (fall_at g vg d K c off t l z slack within none wide In Out meets on x ins outs p q li lo cost cost_in_lem cost_out k me alone range kept ok te (g.a (suc k)) (g.b (suc k)) * degree g t (g.a (suc k)) + (fall_at g vg d K c off t l z slack within none wide In Out meets on x ins outs p q li lo cost cost_in_lem cost_out k me alone range kept ok te) (g.b (suc k)) (g.a (suc k)) * degree g t (g.b (suc k))))
-            (cost k + (3 * (fall_at g vg d K c off t l z slack within none wide In Out meets on x ins outs p q li lo cost cost_in_lem cost_out k me alone range kept ok te) (g.a (suc k)) (g.b (suc k)) + 3 * (fall_at g vg d K c off t l z slack within none wide In Out meets on x ins outs p q li lo cost cost_in_lem cost_out k me alone range kept ok te) (g.b (suc k)) (g.a (suc k)))) ≡ true)
-            ↔ (slack + (fall_at g vg d K c off t l z slack within none wide In Out meets on x ins outs p q li lo cost cost_in_lem cost_out k me alone range kept ok te (g.a (suc k)) (g.b (suc k)) * degree g t (g.a (suc k)) + (fall_at g vg d K c off t l z slack within none wide In Out meets on x ins outs p q li lo cost cost_in_lem cost_out k me alone range kept ok te) (g.b (suc k)) (g.a (suc k)) * degree g t (g.b (suc k)))
-            < cost k + (3 * (fall_at g vg d K c off t l z slack within none wide In Out meets on x ins outs p q li lo cost cost_in_lem cost_out k me alone range kept ok te) (g.a (suc k)) (g.b (suc k)) + 3 * (fall_at g vg d K c off t l z slack within none wide In Out meets on x ins outs p q li lo cost cost_in_lem cost_out k me alone range kept ok te) (g.b (suc k)) (g.a (suc k))))
-        n = below_is (slack + (fall_at g vg d K c off t l z slack within none wide In Out meets on x ins outs p q li lo cost cost_in_lem cost_out k me alone range kept ok te (g.a (suc k)) (g.b (suc k)) * degree g t (g.a (suc k)) + (fall_at g vg d K c off t l z slack within none wide In Out meets on x ins outs p q li lo cost cost_in_lem cost_out k me alone range kept ok te) (g.b (suc k)) (g.a (suc k)) * degree g t (g.b (suc k))))
-            (cost k + (3 * (fall_at g vg d K c off t l z slack within none wide In Out meets on x ins outs p q li lo cost cost_in_lem cost_out k me alone range kept ok te) (g.a (suc k)) (g.b (suc k)) + 3 * (fall_at g vg d K c off t l z slack within none wide In Out meets on x ins outs p q li lo cost cost_in_lem cost_out k me alone range kept ok te) (g.b (suc k)) (g.a (suc k))))
+        n : (ltb (slack + (fall_at (g.a (suc k)) (g.b (suc k)) * degree g t (g.a (suc k)) + (fall_at) (g.b (suc k)) (g.a (suc k)) * degree g t (g.b (suc k))))
+            (cost k + (3 * (fall_at) (g.a (suc k)) (g.b (suc k)) + 3 * (fall_at) (g.b (suc k)) (g.a (suc k)))) ≡ true)
+            ↔ (slack + (fall_at (g.a (suc k)) (g.b (suc k)) * degree g t (g.a (suc k)) + (fall_at) (g.b (suc k)) (g.a (suc k)) * degree g t (g.b (suc k)))
+            < cost k + (3 * (fall_at) (g.a (suc k)) (g.b (suc k)) + 3 * (fall_at) (g.b (suc k)) (g.a (suc k))))
+        n = below_is (slack + (fall_at (g.a (suc k)) (g.b (suc k)) * degree g t (g.a (suc k)) + (fall_at) (g.b (suc k)) (g.a (suc k)) * degree g t (g.b (suc k))))
+            (cost k + (3 * (fall_at) (g.a (suc k)) (g.b (suc k)) + 3 * (fall_at) (g.b (suc k)) (g.a (suc k))))

@@ -1,4 +1,4 @@
--- 1-trees and rulings over the vertices afloat are those of the compact network, in which excluded edges are left out.
+-- The least 1-tree and the rulings of the reduced network without edges that are excluded in it are those over the active vertices.
 use Rattle.std.specs.Prelude.{◌≡◌, false, ℕ, ℤ}
 use Rattle.std.proofs.Common.{sym, ap, ◌∙◌, subst}
 use Rattle.lists.specs.Members.{◌∈◌}

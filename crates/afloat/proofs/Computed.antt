@@ -1,4 +1,5 @@
--- The small network of an opening: 1-trees, rulings and what is left of it, as they are over the vertices afloat.
+-- WHAT CODE COMPUTES ON THE SMALL GRAPH is what is said over the active vertices, for every denominator q: its tree and rulings are those over the
+-- active vertices of g, in new numbers. (Of the passes of a node: PassesComputed.)
 use Rattle.std.specs.Prelude.{◌≡◌, true, false, List, ℕ, ℤ}
 use Rattle.std.proofs.Common.{sym, ◌∙◌, subst}
 use Rattle.lists.specs.Members.{◌∈◌}

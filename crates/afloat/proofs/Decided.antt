@@ -1,5 +1,5 @@
--- 1-trees over the vertices afloat are decided by a test; the least one, what is barred and forced, and so the rulings, are those of the
--- reduced network.
+-- The least tree and the rulings over the active vertices are THOSE OF THE REDUCED NETWORK, value for value. So whatever is proved of a network's
+-- tree and rulings is so of those over the active vertices.
 use Rattle.std.specs.Prelude.{◌≡◌, ◌||◌, ℕ, ◌-◌, ℤ}
 use Rattle.std.proofs.Math.Path.{refl, ap}
 use Rattle.std.proofs.Common.{ap₂, ◌∙◌, inl, inr, true≢false}

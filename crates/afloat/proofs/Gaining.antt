@@ -1,4 +1,4 @@
--- A pass over the vertices afloat leaves the multipliers of those ashore at nothing.
+-- Where the inactive vertices have no multipliers, a pass leaves them none.
 use Rattle.std.specs.Prelude.{List}
 use Rattle.std.proofs.Common.{◌∙◌}
 use Prim.Native.Nat.{ℕ}

@@ -1,3 +1,4 @@
+-- over the active vertices as in the reduced network, and in the compact one; with no vertex inactive; the passes of a node
 pub mod Compact
 pub mod Computed
 pub mod Decided

@@ -1,4 +1,6 @@
--- What the definitions over the vertices afloat mean: they are document 02's of 1-trees, tours and rulings.
+-- What the values over the active vertices say, in Over's words and in no others: the tree is the least 1-tree or there is none, the rulings are
+-- exact, a touched edge is ruled 'already struck' whatever its mark, and an allowed tour is a 1-tree whose bound is its cost. The renumbering is in
+-- no statement here.
 use Rattle.std.specs.Prelude.{◌≡◌, ◌↔◌, true, ℕ, ℤ}
 use Rattle.std.proofs.Common.{sym, ◌∙◌, subst}
 use Rattle.lists.specs.Members.{◌∈◌}

@@ -1,4 +1,5 @@
--- Where no vertex is ashore: least 1-trees, infeasible networks, barred and forced edges are as without.
+-- "with none ashore they read as before": where no vertex is inactive, what is least, infeasible, barred and forced is so as without. Assumes nothing
+-- else.
 use Rattle.std.specs.Prelude.{◌≡◌, ◌↔◌, false, ℤ}
 use Rattle.std.proofs.Common.{sym, ◌∙◌}
 use Prim.Native.Nat.{ℕ}

@@ -1,4 +1,6 @@
--- Passes over the vertices afloat are those of the reduced network, and of the compact one.
+-- THE PASSES OF A NODE OVER THE ACTIVE VERTICES come to what those of the reduced network come to, its nodes' multipliers back in the network's
+-- numbers (`widened_opened`); and, where touched edges are left out with others that are excluded, to what those of the compact network come to. For
+-- the marks and the multipliers that every node has: touched edges excluded (`Strikes`), and 0 for an inactive vertex (`Grounded`).
 use Rattle.std.specs.Prelude.{◌≡◌, Bool, true, false, ltb, length, get_or, set, ℤ}
 use Rattle.std.proofs.Math.Path.{refl, sym, ap, ap₂}
 use Rattle.std.proofs.Common.{◌∙◌, subst, true≢false}

@@ -1,4 +1,4 @@
--- Where no vertex is ashore, the passes are as without.
+-- "with none ashore they read as before": where no vertex is inactive, a pass and the passes of a node are the machine's. Assumes nothing else.
 use Rattle.std.specs.Prelude.{◌≡◌, Bool, false, List, ℕ, zero, suc, ℤ}
 use Rattle.std.proofs.Math.Path.{refl, ap, ap₂}
 use Rattle.std.proofs.Common.{◌∙◌}

@@ -1,5 +1,5 @@
--- A set is a 1-tree over the vertices afloat exactly where it is one of the reduced network; so with the least, and with what is barred and
--- forced.
+-- A SET OF EDGES IS A 1-TREE OVER THE ACTIVE VERTICES EXACTLY WHERE IT IS ONE OF THE REDUCED NETWORK, and its bound is the same; hence the least
+-- 1-tree, what is infeasible, barred and forced are the same.
 use Rattle.std.specs.Prelude.{◌≡◌, ◌↔◌, [], ℕ, ℤ, ◌<ℤ◌}
 use Rattle.std.proofs.Common.{sym, ◌∙◌}
 use Rattle.std.proofs.Math.Bool.{true, false}

@@ -1,5 +1,6 @@
 -- The reduced network without edges that are excluded in it: what a program computes with. Its edges are the kept ones in new numbers, their ends
--- in new numbers of vertices; it is valid and has no pair twice. Its least 1-tree and its rulings are those over the active vertices.
+-- in new numbers of vertices; it is valid and has no pair twice. (Its least 1-tree and its rulings are those over the active vertices:
+-- proofs/Compact.)
 use Rattle.std.specs.Prelude.{◌≡◌, refl, Bool, true, false, not, cond, ℕ}
 use Rattle.std.proofs.Common.{sym, ap, ◌∙◌, true≢false}
 use Rattle.lists.specs.Bools.{by_cases}

@@ -1,7 +1,6 @@
--- WHAT CODE COMPUTES ON THE SMALL GRAPH is what is said over the active vertices, for every denominator q: r is the graph of the kept edges over
--- the active vertices (`Renumbered`), made from the graph g; c are the kept edges. r is valid, so the functions that are proved of valid graphs
--- serve it as they are, and its tree and rulings are those over the active vertices of g, in new numbers. (Of the passes of a node:
--- PassesComputed.)
+-- The small graph that code computes on, for every denominator q: r is the graph of the kept edges over the active vertices (`Renumbered`), made
+-- from the graph g; c are the kept edges. r is valid, so the functions that are proved of valid graphs serve it as they are. (Its tree and
+-- rulings: proofs/Computed.)
 use Rattle.std.specs.Prelude.{◌≡◌, true, List, ℕ}
 use Rattle.std.proofs.Common.{ap}
 use Rattle.graph.specs.declared.Graph.{Graph}

@@ -1,6 +1,5 @@
--- Going through all sets and all orders decides, over the active vertices too: the tests for a 1-tree and for a tour pass exactly these, and the
--- least tree and the rulings are THOSE OF THE REDUCED NETWORK, value for value. So whatever is proved of a network's tree and rulings is so of
--- those over the active vertices.
+-- Going through all sets and all orders decides, over the active vertices too: the tests for a 1-tree and for a tour pass exactly these. (The
+-- least tree and the rulings are those of the reduced network: proofs/Decided.)
 use Rattle.std.specs.Prelude.{◌≡◌, ◌&&◌, ℕ, ◌+◌, ◌-◌, eqb}
 use Rattle.std.proofs.Common.{arith}
 use Rattle.std.proofs.Math.Bool.{true, not}

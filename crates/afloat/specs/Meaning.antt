@@ -1,6 +1,5 @@
--- What the values over the active vertices say, in Over's words and in no others: the tree is the least 1-tree or there is none, the rulings are
--- exact, a touched edge is ruled 'already struck' whatever its mark, and an allowed tour is a 1-tree whose bound is its cost. The renumbering is in
--- no statement here.
+-- What the values over the active vertices say, in Over's words and in no others: an allowed tour's bound is its cost. (The tree, the rulings and
+-- the rest: proofs/Meaning.)
 use Rattle.std.specs.Prelude.{◌≡◌, ℕ, ℤ}
 use Rattle.std.proofs.Common.{◌∙◌}
 use Rattle.graph.specs.Network.{Network}

@@ -1,5 +1,6 @@
 -- "with none ashore they read as before": where no vertex is inactive, EVERY DEFINITION OVER THE ACTIVE VERTICES IS THE FORMER ONE, every value the
--- former value, and the reduced network is the network. Assumes nothing else.
+-- former value, and the reduced network is the network. (Of what is least, infeasible, barred and forced: proofs/NoneAshore.) Assumes nothing
+-- else.
 use Rattle.std.specs.Prelude.{◌≡◌, ◌↔◌, Bool, false, cond, ◌&&◌, ◌||◌, ℤ, pos}
 use Rattle.std.proofs.Math.Path.{refl, ap}
 use Rattle.std.proofs.Common.{sym, ◌∙◌}

@@ -1,6 +1,5 @@
--- THE PASSES OF A NODE OVER THE ACTIVE VERTICES come to what those of the reduced network come to, its nodes' multipliers back in the network's
--- numbers (`widened_opened`); and, where touched edges are left out with others that are excluded, to what those of the compact network come to. For
--- the marks and the multipliers that every node has: touched edges excluded (`Strikes`), and 0 for an inactive vertex (`Grounded`).
+-- What a pass over the active vertices leaves in a node, back in the network's numbers (`widened_opened`); and marks that leave out touched edges
+-- (`Strikes`). (THE PASSES OF A NODE are those of the reduced network, and of the compact one: proofs/Passes.)
 use Rattle.std.specs.Prelude.{◌≡◌, Bool, true, get_or}
 use Rattle.std.proofs.Math.Path.{sym, ap}
 use Rattle.std.proofs.Common.{◌∙◌, subst}

@@ -1,5 +1,5 @@
--- "with none ashore they read as before": where no vertex is inactive, the first node, a pass and the passes of a node are the machine's. Assumes
--- nothing else.
+-- "with none ashore they read as before": where no vertex is inactive, the first node and what it gains are the machine's. (A pass and the passes
+-- of a node: proofs/PassesNone.) Assumes nothing else.
 use Rattle.std.specs.Prelude.{◌≡◌, Bool, false, List, ℕ, zero, suc, length, ℤ}
 use Rattle.std.proofs.Math.Path.{refl, ap, ap₂}
 use Rattle.std.proofs.Common.{◌∙◌}

@@ -1,5 +1,5 @@
--- A SET OF EDGES IS A 1-TREE OVER THE ACTIVE VERTICES EXACTLY WHERE IT IS ONE OF THE REDUCED NETWORK, and its bound is the same; hence the least
--- 1-tree, what is infeasible, barred and forced are the same.
+-- A set of edges that is a 1-tree over the active vertices is one of the reduced network, and the other way, and its bound is the same. (Hence
+-- the least 1-tree, what is infeasible, barred and forced are the same: proofs/Trees.)
 use Rattle.std.specs.Prelude.{◌≡◌, Bool, cond, ◌&&◌, List, [], ◌∷◌, map, ℕ, ◌+◌, eqb, length, ℤ, pos, ◌+ℤ◌, ◌-ℤ◌, ◌*ℤ◌}
 use Rattle.std.proofs.Math.Path.{refl, ap}
 use Rattle.std.proofs.Common.{sym, ◌∙◌, subst, subst₂, true≢false}

@@ -1,5 +1,5 @@
--- One digit of a row set, where it is clear, or cleared, where it is set: the word's power of two is added or taken off. That digit
--- changes and no other, the row stays a row, and it has one set digit more or less. Assumes nothing.
+-- One digit of a row set, where it is clear, or cleared, where it is set: the word's power of two is added or taken off. (What that does
+-- to the row is proved in proofs/Marking.) Assumes nothing.
 use Rattle.std.specs.Prelude.{List, ℕ, ◌+◌, ◌-◌, ◌^◌, get_or, set}
 use Rattle.bits.specs.Rows.{word_no, bit_no}
 

@@ -1,5 +1,5 @@
--- Two rows for the numbers 1 to m, "with no leg in both and every bit past leg m clear": what the two say word by word, so that code can
--- test it, and how many numbers are in neither. Assumes nothing.
+-- Two rows for the numbers 1 to m, "with no leg in both and every bit past leg m clear". (What the two say word by word, so that code can
+-- test it, and how many numbers are in neither: proofs/Pairs.) Assumes nothing.
 use Rattle.std.specs.Prelude.{◌≡◌, refl, Bool, true, false, not, ◌&&◌, List, ℕ, zero, suc, ◌+◌, ◌*◌, ◌≤◌, ◌<◌}
 use Rattle.std.proofs.Common.{◌∙◌, true≢false, arith}
 use Rattle.lists.specs.Bools.{bit}

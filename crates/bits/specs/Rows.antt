@@ -1,6 +1,6 @@
 -- Rows of 64-bit words that hold a digit for each of the numbers 1, 2, ..: number k is digit (k − 1) % 64 of word (k − 1) / 64, for any
--- number of words W. A row is what its digits make, and two rows with the same digits are the same. Its set digits are counted word by
--- word. Assumes nothing.
+-- number of words W; and the row of given digits. (A row is what its digits make, and its set digits are counted word by word: proofs/Rows.)
+-- Assumes nothing.
 use Rattle.std.specs.Prelude.{◌≡◌, Bool, false, List, ℕ, suc, ◌+◌, ◌-◌, ◌*◌, ◌/◌, ◌%◌, ◌^◌, ◌≤◌, ◌<◌, length, get_or}
 use Rattle.std.proofs.Common.{ap, ap₂, ◌∙◌, arith}
 use Rattle.std.proofs.Math.Decide.{dec_le}

@@ -1,4 +1,6 @@
--- FAIRNESS: a search that waits has its turn within as many turns as there are searches that wait, and a turn serves no other twice before.
+-- NOBODY WAITS PAST EIGHT TURNS: in any stretch of calls with eight accepted turns and no accepted add or close, a search that is held and
+-- unfinished before it is served in one of these turns. What is measured is how many places the one last served stands before it in
+-- cyclic order, (i − 1 − last) mod 8 and so 7 at most: an accepted turn serves it, or another place on the way there. Assumes nothing.
 use Rattle.std.proofs.Math.Path.{◌≡◌, refl, ap, subst}
 use Rattle.std.proofs.Common.{sym, ◌∙◌, inl, inr, arith, lt-ltb, le-ltb}
 use Rattle.std.specs.Prelude.{◌⊎◌, Bool, cond, ◌&&◌, length}

@@ -1,6 +1,5 @@
--- NOBODY WAITS PAST EIGHT TURNS: in any stretch of calls with eight accepted turns and no accepted add or close, a search that is held and
--- unfinished before it is served in one of these turns. What is measured is how many places the one last served stands before it in
--- cyclic order, (i − 1 − last) mod 8 and so 7 at most: an accepted turn serves it, or another place on the way there. Assumes nothing.
+-- What "nobody waits past eight turns" says: a stretch of calls with eight accepted turns and no accepted add or close, and that a search is served in
+-- one of these turns. (It is proved in proofs/Fairness.) Assumes nothing.
 use Rattle.std.proofs.Math.Path.{◌≡◌, refl, ap, subst}
 use Rattle.std.proofs.Common.{◌∙◌, true≢false}
 use Rattle.std.specs.Prelude.{Bool, cond, set}

@@ -1,5 +1,5 @@
--- What the lifted rulings say: which edges they bar and force, that they lose no 1-tree within the ceiling, and that a free edge that they
--- keep is kept.
+-- The rulings of a pass with lifting, in plain words (lifts_exactly), and why they may be applied: a tour within the ceiling survives them, and so
+-- does the tree of the pass. Assumes nothing.
 use Rattle.std.specs.Prelude.{◌≡◌, ◌≢◌, ◌↔◌, Bool, cond, ℕ, ℤ, ◌≤ℤ◌}
 use Rattle.std.proofs.Math.Path.{refl, ap}
 use Rattle.std.proofs.Common.{sym, ◌∙◌, subst}

@@ -1,4 +1,4 @@
--- The lifted verdict on an edge: how far a multiplier may rise or fall, and that the edge is barred or forced then.
+-- The ruling that lifting gives to an edge which the ordinary pass keeps, by the numbers that the loops find. Assumes nothing.
 use Rattle.std.specs.Prelude.{◌≡◌, refl, ◌≢◌, ◌↔◌, Bool, not, cond, ◌&&◌, ◌||◌, List, ℕ, suc, ◌+◌, ◌*◌, ◌-◌, ◌<◌, ◌≤◌, eqb, leb, ltb, ℤ}
 use Rattle.std.proofs.Common.{sym, ◌∙◌, inl, inr, true≢false, arith, lt-ltb, le-ltb}
 use Rattle.std.proofs.Math.Bool.{true, false}

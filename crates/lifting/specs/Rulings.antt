@@ -1,5 +1,5 @@
--- The rulings of a pass with lifting, in plain words (lifts_exactly), and why they may be applied: a tour within the ceiling survives them, and so
--- does the tree of the pass. Assumes nothing.
+-- The rulings of a pass with lifting: what stays as the ordinary pass ruled it, and, in plain words, why an edge is barred or forced. (What they
+-- say and why they may be applied: proofs/Rulings.) Assumes nothing.
 use Rattle.std.specs.Prelude.{◌≡◌, ◌≢◌, ◌↔◌, ◌⊎◌, Bool, cond, ℕ, eqb, ℤ, ◌+ℤ◌}
 use Rattle.std.proofs.Math.Path.{refl, ap}
 use Rattle.std.proofs.Common.{sym, eq-eqb, ne_eqb}

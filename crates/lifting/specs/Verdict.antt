@@ -1,4 +1,4 @@
--- The ruling that lifting gives to an edge which the ordinary pass keeps, by the numbers that the loops find. Assumes nothing.
+-- The numbers by which lifting rules an edge that the ordinary pass keeps. (That these decide: proofs/Verdict.) Assumes nothing.
 use Rattle.std.specs.Prelude.{Bool, not, cond, ◌||◌, ℕ, ◌+◌, ◌*◌, ◌-◌, eqb, leb, ltb, ℤ}
 use Rattle.std.proofs.Math.Bool.{true, false}
 use Rattle.integers.specs.Parts.{up, dn}

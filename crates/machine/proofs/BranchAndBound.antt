@@ -1,5 +1,6 @@
--- The general theorem of branch and bound: from the first node on, what is known of the best tour is kept by every outcome, so that
--- with no node left the incumbent is optimal. Assumes nothing but the problem's laws.
+-- THE GENERAL THEOREM of branch and bound, over any nodes, tours and bounds, and any order of the tours. Where every opening obeys three
+-- laws, a search of a node holds the first of its tours once its stack is empty. Nothing is said of how a node is opened: another opening
+-- has to obey the laws, and the theorem stays. Assumes nothing.
 use Rattle.std.specs.Prelude.{◌≡◌, refl, ◌⊎◌, List, [], ◌∷◌}
 use Rattle.std.proofs.Common.{sym, subst, inl, inr}
 use Rattle.std.proofs.Math.Path.{subst⁻¹}

@@ -1,5 +1,6 @@
--- The statement for the machine itself: a finished search has found the best tour or shown that there is none, equal networks are told alike,
--- and every search that is run on ends. Assumes nothing.
+-- THE PROOF of demand 3's claims about the machine itself: two finished searches agree, and a budget suffices. It rests on the general theorem
+-- (BranchAndBound), on the invariant of lists of calls (Invariant), on the renumbering of one network (Renumbering) and, where edges are
+-- numbered alike, on the networks being one (Alike).
 use Rattle.std.specs.Prelude.{◌≡◌, ◌⊎◌, Bool, false, length, ℤ, ◌≤ℤ◌, ◌<ℤ◌, eqb}
 use Rattle.std.proofs.Math.Path.{refl, ap, subst}
 use Rattle.std.proofs.Common.{sym, ◌∙◌, inl, inr, arith}

@@ -1,4 +1,6 @@
--- A pass, and all passes of an opening, leave a node's halves no shallower than its required edges say.
+-- WHY THE STACK STAYS SHALLOW: a node that splits has at most n required edges, the half that requires an edge more has one more, and the
+-- other no fewer. For a pass only adds marks, and its tree, which has n edges, has every edge that the marks after it require. Nothing else
+-- is asked of the rulings.
 use Rattle.std.specs.Prelude.{◌≡◌, Bool, cond, List, ltb, length, ℤ, ◌≤ℤ◌}
 use Rattle.std.proofs.Math.Path.{refl}
 use Rattle.std.proofs.Common.{subst, arith, ltb-true}

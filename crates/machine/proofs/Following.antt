@@ -1,5 +1,6 @@
--- AN INTERFACE THAT FOLLOWS THE MACHINE MEETS DEMAND 3 (`follows_demand_3`): whole lists of calls do what single calls do, and the machine's
--- claims (Claim) are the interface's. Assumes nothing.
+-- AN INTERFACE THAT FOLLOWS THE MACHINE MEETS DEMAND 3 (`follows_demand_3`): where each call, on the record of a state that keeps to Kept, leaves
+-- the record of the machine's next state and says what the machine says, whole lists do, and the machine's claims (Claim) are the interface's.
+-- Assumes nothing.
 use Rattle.std.specs.Prelude.{◌≡◌, refl}
 use Rattle.std.proofs.Common.{sym, ap, ◌∙◌, subst}
 use mathlib.Core.List.{List, [], ◌∷◌}

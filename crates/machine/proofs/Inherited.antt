@@ -1,4 +1,4 @@
--- What a node's halves inherit (document 02, C-16) of one pass; and that nothing moves where a search makes no sweeps.
+-- Where no pass follows the first of a node, every node has the opening's multipliers (`no_sweeps`). Assumes nothing.
 use Rattle.std.specs.Prelude.{◌≡◌, ◌⊎◌, ℤ}
 use Rattle.std.proofs.Math.Path.{refl, ap}
 use Rattle.std.proofs.Common.{sym, ◌∙◌, subst, inl, inr}

@@ -1,4 +1,5 @@
--- What every state of a search keeps: it is reached from the first node by lawful openings, each of which took one node.
+-- What holds of a search after every list of calls: lawful openings led to it, and while a node waits every opening that was allowed was
+-- done. For Claim.
 use Rattle.std.specs.Prelude.{◌≡◌, refl, ◌⊎◌, Bool, true, false, cond, List, [], ◌∷◌, ℕ, zero, suc, ◌+◌, ◌-◌, ◌^◌, ◌≤◌, ◌<◌, length}
 use Rattle.std.proofs.Common.{sym, ap, ◌∙◌, subst, inl, inr, arith, pow_mono}
 use Rattle.graph.specs.Limits.{max_count}

@@ -1,3 +1,4 @@
+-- what rests on the definitions of the machine: the general theorem, the laws of an opening, what every state keeps, the proof of the statement
 pub mod BranchAndBound
 pub mod Claim
 pub mod Depth

@@ -1,5 +1,4 @@
--- Document 01's opening of a node obeys the laws of branch and bound: a found tour is the least and first, a split loses no tour, and a
--- closed node has none within the upper bound. Assumes nothing.
+-- DOCUMENT 01'S OPENING OF A NODE OBEYS THE THREE LAWS of branch and bound, whatever the multipliers, sweeps and step.
 use Rattle.std.specs.Prelude.{◌≡◌, Bool, cond, List, get_or, set, ℤ, ◌≤ℤ◌, ◌<ℤ◌}
 use Rattle.std.proofs.Math.Path.{refl, sym, subst}
 use Rattle.std.proofs.Common.{◌∙◌, inl, inr, true≢false, arith, get_or-set_same, get_or-set_other}

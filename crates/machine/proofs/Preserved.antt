@@ -1,4 +1,4 @@
--- Each call keeps what every state keeps (Kept): the openings are lawful, marks and multipliers are whole and in range, no node is too deep.
+-- EVERY CALL LEAVES A STATE THAT A RECORD OF FIXED SIZE CAN HOLD, where it finds one.
 use Rattle.std.specs.Prelude.{◌≡◌, refl, ◌⊎◌, Bool, true, false, cond, List, [], ◌∷◌, ltb, length, ℤ}
 use Rattle.std.proofs.Common.{◌∙◌, inl, inr, arith, length-set}
 use Rattle.std.proofs.Math.Path.{subst}

@@ -1,7 +1,6 @@
--- THE GENERAL THEOREM of branch and bound, over any nodes, tours and bounds, and any order of the tours. Where every opening obeys three
--- laws, a search of a node holds the first of its tours once its stack is empty, and it is empty after at most 2^(k+1) − 1 openings, k
--- being the node's size. Nothing is said of how a node is opened: another opening has to obey the laws, and the theorem stays. Assumes
--- nothing.
+-- Branch and bound, over any nodes, tours and bounds, and any order of the tours: what a problem is, the three laws that an opening obeys,
+-- where a search is then (`Reached`), and that a budget of 2^(k+1) − 1 openings suffices, k being the node's size. (THE GENERAL THEOREM,
+-- that it holds the first of the tours once its stack is empty, is proved in proofs/BranchAndBound.) Assumes nothing.
 use Rattle.std.specs.Prelude.{◌≡◌, ◌⊎◌, List, [], ◌∷◌}
 use Prim.Native.Nat.{ℕ, suc, ◌+◌, ◌-◌, ◌^◌, ◌≤◌, ◌<◌}
 use native.Mathlib.Omega.{arith}

@@ -1,6 +1,4 @@
--- THE PROOF of demand 3's claims about the machine itself: two finished searches agree, and a budget suffices. It rests on the general theorem
--- (BranchAndBound), on the invariant of lists of calls (Invariant), on the renumbering of one network (Renumbering) and, where edges are
--- numbered alike, on the networks being one (Alike).
+-- Demand 3's claims about the machine itself, in words: what it says after a list of calls. (They are proved in proofs/Claim.)
 use mathlib.Core.List.{List, []}
 use Prim.Native.Nat.{ℕ}
 use Rattle.graph.specs.Valid as value

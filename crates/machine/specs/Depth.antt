@@ -1,6 +1,4 @@
--- WHY THE STACK STAYS SHALLOW: a node that splits has at most n required edges, the half that requires an edge more has one more, and the
--- other no fewer. For a pass only adds marks, and its tree, which has n edges, has every edge that the marks after it require. Nothing else
--- is asked of the rulings.
+-- The stack stays shallow: how many required edges a node and its halves have. (That every opening keeps to this is proved in proofs/Depth.)
 use Rattle.std.specs.Prelude.{◌≡◌, eqb, length}
 use Rattle.std.proofs.Common.{arith, length-append}
 use Prim.Native.Nat.{ℕ, ◌≤◌, ◌<◌}

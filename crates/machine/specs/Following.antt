@@ -1,6 +1,5 @@
--- AN INTERFACE THAT FOLLOWS THE MACHINE MEETS DEMAND 3 (`follows_demand_3`): where each call, on the record of a state that keeps to Kept, leaves
--- the record of the machine's next state and says what the machine says, whole lists do, and the machine's claims (Claim) are the interface's.
--- Assumes nothing.
+-- What it is that an interface follows the machine: each call, on the record of a state that keeps to Kept, leaves the record of the machine's
+-- next state and says what the machine says. (Such an interface meets demand 3: proofs/Following.)
 use Rattle.std.specs.Prelude.{◌≡◌, true}
 use mathlib.Core.List.{[]}
 use Rattle.machine.specs.Machine.{State, no_search}

@@ -2,8 +2,7 @@
 --   siblings        both halves of a node have one list of multipliers
 --   stays           nodes below the top stay as they are, marks and multipliers, until they are the top
 --   second-branch   so the lower half of a node comes to the top as it was stored, whatever the upper half led to
---   no_sweeps       where no pass follows the first of a node, every node has the opening's multipliers
--- Assumes nothing.
+-- (Where no pass follows the first of a node, every node has the opening's multipliers: `no_sweeps`, proofs/Inherited.) Assumes nothing.
 use Rattle.std.specs.Prelude.{◌≡◌, ltb, length, ℤ}
 use Rattle.std.proofs.Math.Path.{refl, ap}
 use Rattle.std.proofs.Common.{◌∙◌, subst, inl, inr, arith}

@@ -1,5 +1,5 @@
--- The tours of a node, as a problem of branch and bound; and that the rulings lose none of them that is within the upper bound, since a
--- tour is a 1-tree whose bound is its cost.
+-- The tours of a node; and that the rulings lose none of them that is within the upper bound, since a tour is a 1-tree whose bound is its
+-- cost. (As a problem of branch and bound: proofs/NodeTours.)
 use Rattle.std.specs.Prelude.{◌≡◌, ◌⊎◌, Bool, length, ℤ, ◌≤ℤ◌, ◌<ℤ◌}
 use Rattle.std.proofs.Math.Path.{refl, ap, subst}
 use Rattle.std.proofs.Common.{sym, ◌∙◌}

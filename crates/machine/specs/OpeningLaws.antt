@@ -1,4 +1,4 @@
--- DOCUMENT 01'S OPENING OF A NODE OBEYS THE THREE LAWS of branch and bound, whatever the multipliers, sweeps and step.
+-- A row keeps the edges of a set. (THE THREE LAWS of branch and bound, which document 01's opening of a node obeys: proofs/OpeningLaws.)
 use Rattle.std.specs.Prelude.{◌≡◌, ◌∷◌, get_or}
 use Rattle.std.proofs.Math.Path.{sym, subst}
 use Rattle.std.proofs.Math.Bool.{false}

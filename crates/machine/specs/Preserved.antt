@@ -1,4 +1,5 @@
--- EVERY CALL LEAVES A STATE THAT A RECORD OF FIXED SIZE CAN HOLD, where it finds one.
+-- An accepted opening and the state at its start are such as a record of fixed size can hold; show leaves the state. (So is every state that a
+-- call leaves: proofs/Preserved.)
 use Rattle.std.specs.Prelude.{◌≡◌, refl, Bool, true, false, not, ◌&&◌, List, [], ◌∷◌, eqb, leb, length}
 use Rattle.std.proofs.Common.{arith, eqb-true, leb-true}
 use Prim.Native.Nat.{ℕ, ◌<◌}

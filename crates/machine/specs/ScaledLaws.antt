@@ -1,6 +1,6 @@
 -- Document 02's C-17 of tours, for every q: a tour's bound at q times the costs is q times its cost, whatever the multipliers. So for q ≥ 1 a bound is
--- within q times a ceiling exactly where the cost is within the ceiling, nothing is lost by rounding, and an opening that is lawful at q times the costs
--- and q times the upper bound is lawful in minutes. Assumes nothing.
+-- within q times a ceiling exactly where the cost is within the ceiling, and nothing is lost by rounding. (And an opening that is lawful at q times the
+-- costs and q times the upper bound is lawful in minutes: proofs/ScaledLaws.) Assumes nothing.
 use Rattle.std.specs.Prelude.{◌≡◌, refl, ◌↔◌, ℕ, ◌≤◌, ℤ, ◌≤ℤ◌}
 use Rattle.std.proofs.Common.{◌∙◌}
 use Rattle.lists.specs.Select.{select}

@@ -1,5 +1,5 @@
--- The six words of a node: marks become words and come back, words that fit become marks and come back, the free edges are counted
--- by set bits, and a free edge marked otherwise is one bit set.
+-- The six words of a node: marks become words and come back, words that fit become marks and come back ("the rows equal the machine's marks
+-- leg by leg"), the free edges are counted by set bits, and a free edge marked otherwise is one bit set.
 use Rattle.std.specs.Prelude.{◌≡◌, false, length}
 use Rattle.std.proofs.Math.Path.{sym, ap, ap₂}
 use Rattle.std.proofs.Common.{◌∙◌}

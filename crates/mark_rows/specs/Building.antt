@@ -1,5 +1,5 @@
 -- A node's words made edge by edge, from the first to the last: at k the first k edges have their marks and the others are still free
--- (`partly`), and the edge at place k sets one bit at most. No marks have no bits. Assumes nothing.
+-- (`partly`). (The edge at place k sets one bit at most, and no marks have no bits: proofs/Building.) Assumes nothing.
 use Rattle.std.specs.Prelude.{◌≡◌, refl, List, ◌++◌, ℕ, zero, suc, ltb, length}
 use Rattle.std.proofs.Common.{ap, ap₂, lt-ltb}
 use Rattle.std.proofs.Math.Bool.{cond}

@@ -1,5 +1,5 @@
--- One free edge of a node required, or excluded: one digit of one row is set, and the marks change in that place alone; there is one free
--- edge less.
+-- One free edge of a node required, or excluded: one digit of one row is set, and the marks change in that place alone. (There is one free
+-- edge less: proofs/Remarking.)
 use Rattle.std.specs.Prelude.{◌≡◌, ◌≢◌, Bool, false, List, ℕ, suc, ◌-◌, ◌≤◌, ◌<◌, length, get_or, set}
 use Rattle.std.proofs.Math.Path.{sym, ap}
 use Rattle.std.proofs.Common.{ap₂, ◌∙◌, arith, length-set, get_or-set_same, get_or-set_other}

@@ -1,6 +1,5 @@
--- The six words of a node: what two rows' laws say of them. Marks become words and come back, words that fit become marks and come back
--- ("the rows equal the machine's marks leg by leg"); the required and the free edges are counted by set bits; a free edge marked otherwise
--- is one bit set.
+-- The six words of a node: what two rows' laws say of them, and that marks become words. (There and back, the free edges, and a free edge
+-- marked otherwise: proofs/SixWords.)
 use Rattle.std.specs.Prelude.{◌≡◌, ◌↔◌, length}
 use Rattle.std.proofs.Math.Path.{sym, ap, ap₂}
 use Rattle.std.proofs.Common.{◌∙◌, subst, ext_get_or, get_or-append-add}

@@ -1,5 +1,5 @@
--- The two rows of a node's marks, and the marks in two rows: the same thing, edge by edge, once for any number of edges m and of words W
--- with m ≤ 64 · W. The number of free edges is m less the set bits of both rows.
+-- The two rows of a node's marks, and the marks in two rows, once for any number of edges m and of words W with m ≤ 64 · W: edge by edge,
+-- and the required edges. (There and back, the excluded and the free edges: proofs/TwoRows.)
 use Rattle.std.specs.Prelude.{◌≡◌, refl, Bool, true, ◌&&◌, List, length}
 use Rattle.std.proofs.Math.Path.{sym, ap, ap₂}
 use Rattle.std.proofs.Common.{◌∙◌}

@@ -1,4 +1,5 @@
--- A TIGHTER CEILING UNDOES NO RULING (`nothing_comes_back`): what TwoCeilings says of the rule call, for any low ≤ high. Assumes nothing.
+-- A TIGHTER CEILING UNDOES NO RULING: the plain facts of Infeasible, Barred and Forced under two ceilings, and from them what TwoCeilings says
+-- of the rule call, for any low ≤ high. Assumes nothing.
 use Rattle.std.proofs.Math.Path.{◌≡◌, refl}
 use Rattle.std.proofs.Common.{sym, ap, ◌∙◌, inl, inr, arith}
 use Rattle.std.specs.Prelude.{List, length, get_or, ℤ, ◌≤ℤ◌}

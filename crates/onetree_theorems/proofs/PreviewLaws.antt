@@ -1,4 +1,5 @@
--- What a preview of an edge that the rule call bars or forces says.
+-- WHAT Previews.antt SAYS OF PREVIEWS BESIDE THE RULE CALL: the rule call bars or forces a free edge exactly where its previews are beyond the
+-- ceiling. Assumes nothing.
 use Rattle.std.proofs.Math.Path.{◌≡◌, refl, subst}
 use Rattle.std.proofs.Common.{sym, ◌∙◌, inl, inr}
 use Rattle.std.specs.Prelude.{◌↔◌, ◌⊎◌, List, [], ℕ, zero, suc, ◌≤◌, ◌-◌, length, get_or, ℤ}

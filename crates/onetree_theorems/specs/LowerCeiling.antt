@@ -1,5 +1,5 @@
--- A TIGHTER CEILING UNDOES NO RULING: the plain facts of Infeasible, Barred and Forced under two ceilings, and from them what TwoCeilings says
--- of the rule call, for any low ≤ high. Assumes nothing.
+-- What is infeasible, barred or forced under a ceiling is so under every lower one. (And so a tighter ceiling undoes no ruling, which is what
+-- TwoCeilings says of the rule call: proofs/LowerCeiling.) Assumes nothing.
 use Rattle.std.proofs.Math.Path.{◌≡◌, refl}
 use Rattle.std.proofs.Common.{sym, ◌∙◌}
 use Rattle.std.specs.Prelude.{List, ℤ, ◌≤ℤ◌}

@@ -1,5 +1,6 @@
 -- WHAT Previews.antt SAYS OF PREVIEWS. A set is a 1-tree of the copy exactly when it is one of the graph and has the edge, or lacks it; so the
--- copy is infeasible exactly when the edge is barred, or forced. Assumes nothing.
+-- copy is infeasible exactly when the edge is barred, or forced. (That the rule call tells which: `preview_rules`, proofs/PreviewLaws.) Assumes
+-- nothing.
 use Rattle.std.proofs.Math.Path.{◌≡◌, refl, subst}
 use Rattle.std.proofs.Common.{sym, ap, ◌∙◌, inl, inr, eqb-true, eq-eqb, leb-true, le-leb, get_or-set_same, get_or-set_other}
 use Rattle.std.specs.Prelude.{◌↔◌, ◌⊎◌, Bool, true, false, ◌&&◌, ◌||◌, List, [], ◌∷◌, ℕ, zero, suc, ◌≤◌, ◌<◌, ◌-◌, eqb, leb, length, get_or, set, ℤ}

@@ -1,4 +1,5 @@
--- The search that a shelf holds is the one that its path of calls leads to, and so are its saved ones.
+-- EVERY LIST OF THE SEVEN CALLS HAS A PATH: a list of plain calls that leaves the state which the list leaves, and so under every name. It is
+-- the plain calls, and at an accepted back the path saved with the state. So what holds of plain lists holds of these. Assumes nothing.
 use Rattle.std.specs.Prelude.{◌≡◌, ℕ}
 use Rattle.std.proofs.Math.Path.{refl, sym, ap}
 use Rattle.std.proofs.Common.{◌∙◌}

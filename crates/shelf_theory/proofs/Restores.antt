@@ -1,4 +1,5 @@
--- A state that was saved and brought back is the state as it was, whatever was called between.
+-- AN ACCEPTED BACK RESTORES THE LATEST ACCEPTED SAVE under its name: the list before it splits at that save, none under the name is
+-- accepted since, and the path and the state are those before it. Assumes nothing.
 use Rattle.std.specs.Prelude.{◌≡◌, ◌⊎◌, Bool, not, cond, replicate}
 use Rattle.std.proofs.Math.Path.{refl, sym, ap, subst}
 use Rattle.std.proofs.Common.{◌∙◌, arith}

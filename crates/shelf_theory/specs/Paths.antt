@@ -1,5 +1,5 @@
--- EVERY LIST OF THE SEVEN CALLS HAS A PATH: a list of plain calls that leaves the state which the list leaves, and so under every name. It is
--- the plain calls, and at an accepted back the path saved with the state. So what holds of plain lists holds of these. Assumes nothing.
+-- EVERY LIST OF THE SEVEN CALLS HAS A PATH: the plain calls, and at an accepted back the path saved with the state. (That it leaves the state which
+-- the list leaves, and so under every name: proofs/Paths.) Assumes nothing.
 use Rattle.std.specs.Prelude.{◌≡◌, Bool, ℕ}
 use Rattle.std.proofs.Math.Path.{refl, sym}
 use Rattle.std.proofs.Math.Bool.{true, false}

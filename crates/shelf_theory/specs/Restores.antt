@@ -1,5 +1,4 @@
--- AN ACCEPTED BACK RESTORES THE LATEST ACCEPTED SAVE under its name: the list before it splits at that save, none under the name is
--- accepted since, and the path and the state are those before it. Assumes nothing.
+-- What it is that an accepted back restores the latest accepted save under its name. (It does: proofs/Restores.) Assumes nothing.
 use Rattle.std.specs.Prelude.{◌≡◌}
 use Rattle.std.proofs.Math.Path.{refl}
 use Rattle.std.proofs.Math.Bool.{true, false}

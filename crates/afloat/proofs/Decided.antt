@@ -1,6 +1,6 @@
 -- The least tree and the rulings over the active vertices are THOSE OF THE REDUCED NETWORK, value for value. So whatever is proved of a network's
 -- tree and rulings is so of those over the active vertices.
-use Rattle.std.specs.Prelude.{◌≡◌, ◌||◌, ℕ, ◌-◌, ℤ}
+use Rattle.std.specs.Prelude.{◌≡◌, ◌||◌, ℕ, ℤ}
 use Rattle.std.proofs.Math.Path.{refl, ap}
 use Rattle.std.proofs.Common.{ap₂, ◌∙◌, inl, inr, true≢false}
 use Rattle.std.proofs.Math.Bool.{Bool, true, false, not}

@@ -1,6 +1,6 @@
 -- A SET OF EDGES IS A 1-TREE OVER THE ACTIVE VERTICES EXACTLY WHERE IT IS ONE OF THE REDUCED NETWORK, and its bound is the same; hence the least
 -- 1-tree, what is infeasible, barred and forced are the same.
-use Rattle.std.specs.Prelude.{◌≡◌, ◌↔◌, [], ℕ, ℤ, ◌<ℤ◌}
+use Rattle.std.specs.Prelude.{◌≡◌, ◌↔◌, ℕ, ℤ, ◌<ℤ◌}
 use Rattle.std.proofs.Common.{sym, ◌∙◌}
 use Rattle.std.proofs.Math.Bool.{true, false}
 use Rattle.graph.specs.Network.{Network}

@@ -4,8 +4,8 @@ use Rattle.std.proofs.Math.Path.{◌≡◌, refl, ap, subst}
 use Rattle.std.proofs.Common.{◌∙◌, true≢false}
 use Rattle.std.specs.Prelude.{Bool, cond, set}
 use Rattle.std.proofs.Math.Bool.{true, false}
-use mathlib.Core.List.{List, [], ◌∷◌, ◌++◌}
-use Prim.Native.Nat.{ℕ, zero, suc, ◌+◌, ◌-◌}
+use mathlib.Core.List.{List, ◌∷◌, ◌++◌}
+use Prim.Native.Nat.{ℕ, zero, suc}
 use Rattle.std.proofs.Math.Seq.{set-get_or}
 use Rattle.lent_records.specs.Machine.{Machine, Searches, after}
 use Rattle.lent_records.specs.Places.{under, put}

@@ -1,5 +1,5 @@
 -- The ruling that lifting gives to an edge which the ordinary pass keeps, by the numbers that the loops find. Assumes nothing.
-use Rattle.std.specs.Prelude.{◌≡◌, refl, ◌≢◌, ◌↔◌, Bool, not, cond, ◌&&◌, ◌||◌, List, ℕ, suc, ◌+◌, ◌*◌, ◌-◌, ◌<◌, ◌≤◌, eqb, leb, ltb, ℤ}
+use Rattle.std.specs.Prelude.{◌≡◌, refl, ◌↔◌, Bool, not, cond, ◌&&◌, ◌||◌, List, ℕ, suc, ◌+◌, ◌*◌, ◌-◌, ◌<◌, ◌≤◌, eqb, leb, ltb, ℤ}
 use Rattle.std.proofs.Common.{sym, ◌∙◌, inl, inr, true≢false, arith, lt-ltb, le-ltb}
 use Rattle.std.proofs.Math.Bool.{true, false}
 use Rattle.std.proofs.Math.Decide.{dec_le}
@@ -27,23 +27,7 @@ use Rattle.lifting.specs.Exactly.{kept-support, kept-replacement}
 use Rattle.lifting.specs.Agreeing.{same_test, raised_agree, lowered_agree}
 use Rattle.lifting.specs.Worked.{BestGiver, BestTaker, RisesBy, FallsBy, support-best, replacement-best, raised_worked, lowered_worked}
 use Rattle.lifting.specs.Folds.{Listed}
-use Rattle.lifting.specs.Found.{
-  Context,
-  top_of,
-  place_of,
-  top_at,
-  low_at,
-  cost_of,
-  move_of,
-  giver_some,
-  taker_some,
-  best_giver,
-  best_taker,
-  reduced_is,
-  replaced_is,
-  least_rise,
-  least_fall,
-}
+use Rattle.lifting.specs.Found.{Context, top_of, place_of, top_at, low_at, cost_of, giver_some, taker_some, best_giver, best_taker, reduced_is, replaced_is, least_rise, least_fall}
 use Rattle.lifting.specs.Verdict.{still_of, end_move, room_of, decides}
 
 -- ---- rulings

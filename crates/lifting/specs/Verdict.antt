@@ -3,23 +3,7 @@ use Rattle.std.specs.Prelude.{Bool, not, cond, ◌||◌, ℕ, ◌+◌, ◌*◌, 
 use Rattle.std.proofs.Math.Bool.{true, false}
 use Rattle.integers.specs.Parts.{up, dn}
 use Rattle.graph.specs.Limits.{max_multiplier}
-use Rattle.lifting.specs.Found.{
-  Context,
-  top_of,
-  place_of,
-  top_at,
-  low_at,
-  cost_of,
-  move_of,
-  giver_some,
-  taker_some,
-  best_giver,
-  best_taker,
-  reduced_is,
-  replaced_is,
-  least_rise,
-  least_fall,
-}
+use Rattle.lifting.specs.Found.{move_of}
 
 -- ---- what code works with
 

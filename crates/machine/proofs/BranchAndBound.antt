@@ -4,7 +4,7 @@
 use Rattle.std.specs.Prelude.{◌≡◌, refl, ◌⊎◌, List, [], ◌∷◌}
 use Rattle.std.proofs.Common.{sym, subst, inl, inr}
 use Rattle.std.proofs.Math.Path.{subst⁻¹}
-use Prim.Native.Nat.{ℕ, ◌-◌}
+use Prim.Native.Nat.{ℕ}
 use Rattle.lists.specs.Members.{◌∈◌}
 use Rattle.machine.specs.Outcomes.{Outcome, closes, finds, splits, Incumbent, no_tour, a_tour, best_of, next_stack, next_incumbent}
 use Rattle.machine.specs.Outcomes.{next_upper}

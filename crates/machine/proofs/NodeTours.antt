@@ -5,14 +5,13 @@ use Rattle.std.proofs.Common.{sym, ◌∙◌, true≢false}
 use Rattle.std.proofs.Math.Logic.{inl, inr}
 use Rattle.std.proofs.Math.Bool.{true, false, cond}
 use Rattle.std.proofs.lemmas.Bool.{false≢true}
-use mathlib.Core.List.{List, []}
-use Prim.Native.Nat.{ℕ, ◌≤◌, ◌<◌}
+use mathlib.Core.List.{List}
 use Rattle.std.specs.Int.Signed.{lt_z, ≤ℤ_refl, <ℤ-≤ℤ_trans}
 use Rattle.lists.specs.Bools.{by_cases}
 use Rattle.integers.specs.Order.{le_antisym, lt-le, test_lt, test_not_lt}
 use Rattle.graph.specs.Network.{Network}
 use Rattle.tree_theory.specs.OneTree.{Edges, lacks_first}
-use Rattle.tours.specs.Tours.{Tour, cost}
+use Rattle.tours.specs.Tours.{cost}
 use Rattle.machine.specs.Machine.{Node, frees, edges_of, cost_of, lowered, replaces, better}
 use Rattle.machine.specs.BranchAndBound.{Problem}
 use Rattle.machine.specs.Firsts.{lacks_once, lacks_past}

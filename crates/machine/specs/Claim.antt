@@ -1,7 +1,5 @@
 -- Demand 3's claims about the machine itself, in words: what it says after a list of calls. (They are proved in proofs/Claim.)
-use mathlib.Core.List.{List, []}
-use Prim.Native.Nat.{ℕ}
-use Rattle.graph.specs.Valid as value
+use mathlib.Core.List.{List}
 use Rattle.machine.specs.Machine.{Opening}
 use Rattle.machine.specs.Calls.{Call, Verdict}
 use Rattle.machine.specs.Calls.{step, leaves}

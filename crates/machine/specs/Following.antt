@@ -1,12 +1,10 @@
 -- What it is that an interface follows the machine: each call, on the record of a state that keeps to Kept, leaves the record of the machine's
 -- next state and says what the machine says. (Such an interface meets demand 3: proofs/Following.)
 use Rattle.std.specs.Prelude.{◌≡◌, true}
-use mathlib.Core.List.{[]}
 use Rattle.machine.specs.Machine.{State, no_search}
 use Rattle.machine.specs.Calls.{Call, step}
 use Rattle.machine.specs.Kept.{KeptState}
 use Rattle.machine.specs.Demand3.{Interface}
-use Rattle.machine.specs.Claim as machine
 
 pub record Follows (i : Interface) : Type 0 where
   pub starts : i.fresh ≡ i.made no_search

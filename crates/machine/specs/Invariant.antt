@@ -1,5 +1,4 @@
 -- The first node of a search. (What holds of a search after every list of calls: proofs/Invariant.)
-use Rattle.std.specs.Prelude.{[], ℕ}
 use Rattle.graph.specs.Network.{network}
 use Rattle.machine.specs.Machine.{Node, node_of, marks_of, Opening}
 

@@ -1,6 +1,6 @@
 -- An accepted opening and the state at its start are such as a record of fixed size can hold; show leaves the state. (So is every state that a
 -- call leaves: proofs/Preserved.)
-use Rattle.std.specs.Prelude.{◌≡◌, refl, Bool, true, false, not, ◌&&◌, List, [], ◌∷◌, eqb, leb, length}
+use Rattle.std.specs.Prelude.{◌≡◌, refl, Bool, true, false, not, ◌&&◌, List, ◌∷◌, eqb, leb, length}
 use Rattle.std.proofs.Common.{arith, eqb-true, leb-true}
 use Prim.Native.Nat.{ℕ, ◌<◌}
 use Rattle.std.proofs.lemmas.Bool.{not-false}
@@ -8,7 +8,7 @@ use Rattle.lists.specs.Bools.{by_cases, and_both, cond_zero}
 use Rattle.lists.specs.Rows.{row-size}
 use Rattle.integers.specs.Range.{within_range}
 use Rattle.graph.specs.Limits.{max_ceiling, max_sweeps, max_step, max_count}
-use Rattle.graph.specs.Network.{Network, required, network}
+use Rattle.graph.specs.Network.{Network, network}
 use Rattle.graph.specs.Valid as value
 use Rattle.graph.specs.Meaning.{valid_true}
 use Rattle.tree_theory.specs.Inputs.{multipliers_fit, ceiling_fits}
@@ -16,7 +16,7 @@ use Rattle.tree_theory.specs.Accepted.{denominator_range}
 use Rattle.machine.specs.Outcomes.{Incumbent, no_tour, a_tour}
 use Rattle.machine.specs.Machine.{Node, marks_of}
 use Rattle.machine.specs.Machine.{Opening, trimmed, held, Progress, searching, begin}
-use Rattle.machine.specs.Calls.{fault, shown_by, step}
+use Rattle.machine.specs.Calls.{fault, shown_by}
 use Rattle.machine.specs.Trimmed.{trimmed_trim, trimmed-valid}
 use Rattle.machine.specs.Kept.{Accepted, Kept}
 

@@ -2,14 +2,13 @@
 -- ceiling. Assumes nothing.
 use Rattle.std.proofs.Math.Path.{◌≡◌, refl, subst}
 use Rattle.std.proofs.Common.{sym, ◌∙◌, inl, inr}
-use Rattle.std.specs.Prelude.{◌↔◌, ◌⊎◌, List, [], ℕ, zero, suc, ◌≤◌, ◌-◌, length, get_or, ℤ}
+use Rattle.std.specs.Prelude.{◌↔◌, ◌⊎◌, List, ℕ, zero, suc, ◌≤◌, ◌-◌, length, get_or, ℤ}
 use native.Mathlib.Omega.{arith}
 use Rattle.integers.specs.Multiples.{◌times◌}
 use Rattle.graph.specs.declared.Graph.{Graph}
 use Rattle.graph.specs.Network.{free, mark_of, network}
 use Rattle.graph.specs.Places.{network_mark}
 use Rattle.graph.specs.Valid.{Valid}
-use Rattle.graph.specs.Valid as value
 use Rattle.tree_theory.specs.OneTree.{Infeasible, Barred, Forced}
 use Rattle.tree_theory.specs.Inputs.{multiplier}
 use Rattle.tree_theory.specs.Scaled.{scaled_by}

@@ -3,7 +3,7 @@
 use Rattle.std.proofs.Math.Path.{◌≡◌, refl}
 use Rattle.std.proofs.Common.{sym, ◌∙◌}
 use Rattle.std.specs.Prelude.{List, ℤ, ◌≤ℤ◌}
-use Prim.Native.Nat.{ℕ, zero, suc, ◌≤◌}
+use Prim.Native.Nat.{ℕ, zero, suc}
 use Rattle.integers.specs.Multiples.{◌times◌}
 use Rattle.integers.specs.Order.{le_lt_trans}
 use Rattle.graph.specs.declared.Graph.{Graph}

@@ -1,26 +1,21 @@
 -- The reduced network without edges that are excluded in it: what a program computes with. Its edges are the kept ones in new numbers, their ends
--- in new numbers of vertices; it is valid and has no pair twice. Its least 1-tree and its rulings are those over the active vertices.
-use Rattle.std.specs.Prelude.{◌≡◌, refl, Bool, true, false, not, cond, ℕ, ℤ}
-use Rattle.std.proofs.Common.{sym, ap, ◌∙◌, subst, true≢false}
+-- in new numbers of vertices; it is valid and has no pair twice. (Its least 1-tree and its rulings are those over the active vertices:
+-- proofs/Compact.)
+use Rattle.std.specs.Prelude.{◌≡◌, refl, Bool, true, false, not, cond, ℕ}
+use Rattle.std.proofs.Common.{sym, ap, ◌∙◌, true≢false}
 use Rattle.lists.specs.Bools.{by_cases}
 use Rattle.lists.specs.Members.{◌∈◌}
 use Rattle.lists.specs.Numbers.{up_to}
 use Rattle.graph.specs.Network.{Network, excluded}
-use Rattle.tree_theory.specs.OneTree.{Edges, Least}
+use Rattle.tree_theory.specs.OneTree.{Edges}
 use Rattle.tree_theory.specs.Agree.{Agree}
-use Rattle.tree_theory.specs.Enumeration.{Tree, no_tree, a_tree, least_tree, was_excluded, ruling}
-use Rattle.tree_theory.specs.LeastTree.{Right, tree_right, tree_found, tree_missing}
-use Rattle.tree_theory.specs.Rulings.{rules_excluded}
+use Rattle.tree_theory.specs.Enumeration.{Tree, no_tree, a_tree}
 use Rattle.tree_theory.specs.Valid.{Valid, is_excluded, excluded_is}
 use Rattle.tours.specs.Renumbering.{Simple}
-use Rattle.compaction.specs.Ranks.{rank, nth, nth_in, nth-kept, rank_back, down}
-use Rattle.compaction.specs.Thinned.{thin, spread, RestExcluded, tree_only, tree-down, spread_least, spread-bound}
-use Rattle.compaction.specs.Rulings.{ruling-thin}
-use Rattle.afloat.specs.Over.{Ashore, active, touched, mark_over, LeastOver}
-use Rattle.afloat.specs.Reduced.{reduced, reduced_multiplier, Fit, reduced-valid, a_live, b_live, a_is, b_is, live_same}
-use Rattle.afloat.specs.Trees.{least_iff}
-use Rattle.afloat.specs.Values.{tree_over, ruling_over}
-use Rattle.afloat.specs.Decided.{tree-reduced, ruling-reduced}
+use Rattle.compaction.specs.Ranks.{rank, nth, nth_in, nth-kept, rank_back}
+use Rattle.compaction.specs.Thinned.{thin, spread}
+use Rattle.afloat.specs.Over.{Ashore, active, touched, mark_over}
+use Rattle.afloat.specs.Reduced.{reduced, Fit, reduced-valid, a_live, b_live, a_is, b_is, live_same}
 
 -- fewer edges: a valid network stays one
 pub thin-valid : (c : Edges) (g : Network) → Valid g → Valid (thin c g)
@@ -62,16 +57,13 @@ Spread c m no_tree x = (x ≡ no_tree)
 Spread c m (a_tree b r) x = (t : Edges) × (x ≡ a_tree b t) × Agree m t (spread c r)
 
 module _ (s : Ashore) (g : Network) (f : Fit s g) (c : Edges) (keeping : Keeping s g c) where
-  rest_excluded : RestExcluded c (reduced s g)
-  rest_excluded k i e = keeping.rest k i e
-
   pub compact-valid : Valid (compact s c g)
   compact-valid = thin-valid c (reduced s g) (reduced-valid s g f)
 
   -- ---- a new edge number
 
   module _ (j : ℕ) (i : j ∈ up_to (rank c g.m)) where
-    abbrev old : ℕ
+    abbrev pub old : ℕ
     old = nth c g.m j
 
     old_in : old ∈ up_to g.m
@@ -90,19 +82,6 @@ module _ (s : Ashore) (g : Network) (f : Fit s g) (c : Edges) (keeping : Keeping
     pub compact_mark : (compact s c g).mark j ≡ g.mark (nth c g.m j)
     compact_mark = ap (λ (b : Bool). cond b excluded (g.mark old)) old_free
 
-    -- THE RULING OF A KEPT EDGE
-    pub compact-ruling : (d : ℕ → ℤ) (ceiling : ℤ)
-        → ruling_over s g d ceiling (nth c g.m j) ≡ ruling (compact s c g) (reduced_multiplier s g.n d) ceiling j
-    compact-ruling d ceiling =
-        ruling-reduced s g f d ceiling old
-        ∙ ruling-thin c (reduced s g) rest_excluded (reduced_multiplier s g.n d) ceiling j i
-
-  -- the ruling of any other
-  pub compact_rest : (k : ℕ) → k ∈ up_to g.m → c k ≡ false → (d : ℕ → ℤ) (ceiling : ℤ) → ruling_over s g d ceiling k ≡ was_excluded
-  compact_rest k i e d ceiling =
-      ruling-reduced s g f d ceiling k
-      ∙ rules_excluded (reduced s g) (reduced_multiplier s g.n d) ceiling k i (keeping.rest k i e)
-
   -- no pair twice
   pub compact_simple : Simple g → Simple (compact s c g)
   compact_simple simple j k i l ea eb =
@@ -114,28 +93,3 @@ module _ (s : Ashore) (g : Network) (f : Fit s g) (c : Edges) (keeping : Keeping
       (live_same s g f _ _ (b_live s g f (old j i) (old_in j i) (old_free j i)) (b_live s g f (old k l) (old_in k l) (old_free k l))
       (sym (compact_b j i) ∙ eb ∙ compact_b k l)))
       ∙ rank_back c g.m k l
-
-  module _ (d : ℕ → ℤ) where
-    abbrev δ : ℕ → ℤ
-    δ = reduced_multiplier s g.n d
-
-    -- THE LEAST 1-TREE
-    pub compact_least : (r : Edges) → Least (compact s c g) δ r → LeastOver s g d (spread c r)
-    compact_least r l = (least_iff s g f d (spread c r)).1 (spread_least c (reduced s g) rest_excluded r δ l)
-
-    -- THE TREE
-    pub compact-tree : Spread c g.m (least_tree (compact s c g) δ) (tree_over s g d)
-    compact-tree =
-        subst (Spread c g.m (least_tree (compact s c g) δ)) (sym (tree-reduced s g f d))
-        (go (least_tree (compact s c g) δ) (tree_right (compact s c g) δ))
-      where
-        go : (x : Tree) → Right (compact s c g) δ x → Spread c g.m x (least_tree (reduced s g) δ)
-        go no_tree h =
-            tree_missing (reduced s g) δ
-            (λ t o. h (down c g.m t) (tree-down c (reduced s g) t (tree_only c (reduced s g) rest_excluded t o) o))
-        go (a_tree b r) h =
-            let q = tree_found (reduced s g) δ (spread c r) (spread_least c (reduced s g) rest_excluded r δ h.1) in (
-              q.0,
-              q.1 ∙ ap (λ (z : ℤ). a_tree z q.0) (spread-bound c (reduced s g) rest_excluded r δ ∙ sym h.0),
-              q.2,
-            )

@@ -13,7 +13,7 @@ use Rattle.std.proofs.lemmas.Bool.{lt-leb, not-true}
 use Rattle.lists.specs.Members.{◌∈◌}
 use Rattle.lists.specs.Select.{select_cong}
 use Rattle.lists.specs.Numbers.{up_to, up_to_in, in_up_to}
-use Rattle.lists.specs.Rows.{row-size, row_same}
+use Rattle.lists.specs.Rows.{row_same}
 use Rattle.integers.specs.Range.{clamp}
 use Rattle.graph.specs.Limits.{max_multiplier}
 use Rattle.graph.specs.Network.{Network}
@@ -25,7 +25,7 @@ use Rattle.compaction.specs.Ranks.{rank, nth, rank_back}
 use Rattle.afloat.specs.Over.{Ashore, active}
 use Rattle.afloat.specs.Reduced.{reduced, Fit, Live, live_same, nth_live, nth-one, rank-one, a_live, b_live, a_is, b_is}
 use Rattle.afloat.specs.Trees.{Untouched, taken_free}
-use Rattle.afloat.specs.Lists.{reduced_list, Grounded, row-multiplier, list_multiplier}
+use Rattle.afloat.specs.Lists.{reduced_list, row-multiplier, list_multiplier}
 use Rattle.afloat.specs.Passing.{gained_over}
 
 module _ (s : Ashore) (g : Network) (step : ℕ) (t : Edges) (d : List ℤ) where
@@ -38,10 +38,6 @@ module _ (s : Ashore) (g : Network) (step : ℕ) (t : Edges) (d : List ℤ) wher
   pub gained-active : (v : ℕ) → v ∈ up_to g.n → s v ≡ false → multiplier (gained_over s g step t d) v ≡ multiplier (gained g step t d) v
   unfolding gained_over
   gained-active v i e = row-multiplier g.n _ v i ∙ rw e
-
-  pub grounded_gained : Grounded s g.n d → Grounded s g.n (gained_over s g step t d)
-  unfolding gained_over
-  grounded_gained z = record { size = row-size g.n _; zero_there = λ v i e. gained-ashore v i e ∙ z.zero_there v i e }
 
 -- ---- degrees
 

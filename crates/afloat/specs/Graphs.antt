@@ -13,7 +13,7 @@ use Rattle.lists.specs.Numbers.{up_to}
 use Rattle.integers.specs.Range.{within}
 use Rattle.graph.specs.declared.Graph.{Graph}
 use Rattle.graph.specs.Limits.{max_cost}
-use Rattle.graph.specs.Network.{free, excluded, mark_of, place, network}
+use Rattle.graph.specs.Network.{excluded, mark_of, place, network}
 use Rattle.graph.specs.Places.{place_at, place_zero, place_past, network_a, network_b}
 use Rattle.graph.specs.Valid as value
 use Rattle.tree_theory.specs.OneTree.{Edges}

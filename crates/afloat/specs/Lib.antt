@@ -22,10 +22,9 @@ pub mod Lists
 pub mod Compact
 pub mod Graphs
 pub mod Computed
--- the passes of a node: the same three, and on the small graph
+-- the passes of a node: the same three (on the small graph: proofs/PassesComputed)
 pub mod Gaining
 pub mod Passes
 pub mod PassesNone
-pub mod PassesComputed
 -- document 01's sea with a buoy ashore
 pub mod Example

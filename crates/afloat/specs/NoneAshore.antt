@@ -1,5 +1,6 @@
 -- "with none ashore they read as before": where no vertex is inactive, EVERY DEFINITION OVER THE ACTIVE VERTICES IS THE FORMER ONE, every value the
--- former value, and the reduced network is the network. Assumes nothing else.
+-- former value, and the reduced network is the network. (Of what is least, infeasible, barred and forced: proofs/NoneAshore.) Assumes nothing
+-- else.
 use Rattle.std.specs.Prelude.{◌≡◌, ◌↔◌, Bool, false, cond, ◌&&◌, ◌||◌, ℤ, pos}
 use Rattle.std.proofs.Math.Path.{refl, ap}
 use Rattle.std.proofs.Common.{sym, ◌∙◌}
@@ -13,13 +14,13 @@ use Rattle.lists.specs.Select.{select, select_cong, select_full}
 use Rattle.lists.specs.Numbers.{up_to, length-up_to}
 use Rattle.graph.specs.Network.{Network, excluded}
 use Rattle.spanning.specs.Walks.{label}
-use Rattle.tree_theory.specs.OneTree.{Edges, OneTree, Least, Infeasible, Barred, Forced, others, at_one, away, bound}
+use Rattle.tree_theory.specs.OneTree.{Edges, OneTree, others, at_one, away, bound}
 use Rattle.tree_theory.specs.Enumeration.{edge_sets, marked, alike, is_one_tree, one_trees, least_of, least_tree, barred_b, forced_b, ruled, ruling}
 use Rattle.tours.specs.Orders.{distinct, words}
 use Rattle.tours.specs.Tours.{Tour, Allowed, Feasible, is_trip, is_tour}
 use Rattle.compaction.specs.Ranks.{rank, rank_yes}
 use Rattle.afloat.specs.Over.{Ashore, active, active_count, others_over, touched, mark_over, multiplier_over, OneTreeOver, bound_over}
-use Rattle.afloat.specs.Over.{LeastOver, InfeasibleOver, BarredOver, ForcedOver, TourOver, AllowedOver, FeasibleOver}
+use Rattle.afloat.specs.Over.{TourOver, AllowedOver, FeasibleOver}
 use Rattle.afloat.specs.Values.{is_one_tree_over, one_trees_over, tree_over, is_barred_over, is_forced_over, ruling_over, is_tour_over}
 use Rattle.afloat.specs.Reduced.{reduced, active_of}
 
@@ -83,43 +84,6 @@ module _ (s : Ashore) (none : (v : ℕ) → s v ≡ false) where
     pub bound_none : (d : ℕ → ℤ) (t : Edges) → bound_over s g d t ≡ bound g d t
     unfolding bound_over
     bound_none d t = ap (λ (e : ℕ → ℤ). bound g e t) (multiplier_none d)
-
-    -- THE LEAST, AND WHAT RULINGS SPEAK OF
-    pub least_none : (d : ℕ → ℤ) (t : Edges) → LeastOver s g d t ↔ Least g d t
-    least_none d t = (
-      λ l. record {
-        tree = (tree_none t).0 l.tree;
-        least = λ r o. rw (← bound_none d t, ← bound_none d r) (l.least r ((tree_none r).1 o));
-        first = λ r o e. l.first r ((tree_none r).1 o) (bound_none d r ∙ e ∙ sym (bound_none d t));
-      },
-      λ l. record {
-        tree = (tree_none t).1 l.tree;
-        least = λ r o. rw (bound_none d t, bound_none d r) (l.least r ((tree_none r).0 o));
-        first = λ r o e. l.first r ((tree_none r).0 o) (sym (bound_none d r) ∙ e ∙ bound_none d t);
-      },
-    )
-
-    module _ (d : ℕ → ℤ) (ceiling : ℤ) where
-      pub infeasible_none : InfeasibleOver s g d ceiling ↔ Infeasible g d ceiling
-      unfolding InfeasibleOver Infeasible
-      infeasible_none = (
-        λ h t o. rw (← bound_none d t) (h t ((tree_none t).1 o)),
-        λ h t o. rw (bound_none d t) (h t ((tree_none t).0 o)),
-      )
-
-      pub barred_none : (e : ℕ) → BarredOver s g d ceiling e ↔ Barred g d ceiling e
-      unfolding BarredOver Barred
-      barred_none e = (
-        λ h t o i. rw (← bound_none d t) (h t ((tree_none t).1 o) i),
-        λ h t o i. rw (bound_none d t) (h t ((tree_none t).0 o) i),
-      )
-
-      pub forced_none : (e : ℕ) → ForcedOver s g d ceiling e ↔ Forced g d ceiling e
-      unfolding ForcedOver Forced
-      forced_none e = (
-        λ h t o i. rw (← bound_none d t) (h t ((tree_none t).1 o) i),
-        λ h t o i. rw (bound_none d t) (h t ((tree_none t).0 o) i),
-      )
 
     -- THE TOURS
     pub tour_none : (t : Edges) → TourOver s g t ↔ Tour g t

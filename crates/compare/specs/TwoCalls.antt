@@ -3,7 +3,7 @@ use Rattle.std.specs.Prelude.{◌≡◌, ℕ}
 use Rattle.std.proofs.Common.{◌∙◌, ap}
 use Rattle.machine.specs.Machine.{Opening, no_search}
 use Rattle.machine.specs.Calls.{Call, opens, run, step}
-use Rattle.machine.specs.Preserved.{step_kept}
+use Rattle.machine.proofs.Preserved.{step_kept}
 use Rattle.search.specs.Record.{fresh, encode}
 use Rattle.search.specs.Replies.{means, reply}
 use Rattle.search.specs.Theorem.{means-said, reply_is}

@@ -1,7 +1,7 @@
 -- THE DISPATCHER IN A LENT RECORD: eight records of the machine's states and the number last served, all of which 24 tests (`dispatch_codec`).
 -- Every list of calls on it is the dispatcher's to the byte (lent_records' `as_the_machine`), and the record at a place is a fresh record
 -- run alone with the calls at that place (`alone-bytes`). Assumes nothing.
-use Rattle.std.specs.Prelude.{◌≡◌, refl, Bool, true, ◌&&◌, ℕ, ◌≤◌}
+use Rattle.std.specs.Prelude.{◌≡◌, Bool, true, ◌&&◌, ℕ, ◌≤◌}
 use Rattle.std.proofs.Math.Path.{sym, ap}
 use Rattle.std.proofs.Common.{◌∙◌, le-leb}
 use mathlib.Core.List.{List, map}

@@ -1,7 +1,7 @@
 -- STRETCHES OF CALLS in which no search is added or closed (`Quiet`), and how many of their calls are accepted turns (`turns`), as C-24's claim on
 -- fairness speaks of them: "every list of accepted turns in which no hunt is added or closed". Other calls, refused ones too, may stand between the
 -- turns. Definitions only.
-use Rattle.std.specs.Prelude.{◌≡◌, Bool, true, false, List, [], ◌∷◌, ℕ, ◌+◌}
+use Rattle.std.specs.Prelude.{◌≡◌, Bool, false, List, [], ◌∷◌, ℕ, ◌+◌}
 use Rattle.lists.specs.Bools.{bit}
 use Rattle.lent_records.specs.Machine.{Machine, Searches}
 use Rattle.dispatch_theory.specs.Dispatcher.{Calls, Dispatcher, DispatchCall, add, turn, tell_at, show_at, close_at, dispatch_answer, dispatch_next, is_taken}

@@ -4,7 +4,7 @@ use Rattle.std.specs.Prelude.{Bool, false}
 use Rattle.machine.specs.Machine.{Opening, State, no_search, searching, finished}
 use Rattle.machine.specs.Calls as calls
 use Rattle.machine.specs.Kept.{KeptState}
-use Rattle.machine.specs.Preserved.{step_kept}
+use Rattle.machine.proofs.Preserved.{step_kept}
 use Rattle.search.specs.Record.{decode, encode}
 use Rattle.search.specs.Check.{check}
 use Rattle.search.specs.Inverse.{decode-encode}

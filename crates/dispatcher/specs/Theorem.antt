@@ -9,7 +9,7 @@ use Rattle.tours.specs.OneNetwork.{OneNetwork}
 use Rattle.machine.specs.Machine.{Opening, State, no_search, searching}
 use Rattle.machine.specs.Calls as calls
 use Rattle.machine.specs.Calls.{Verdict, going_on, none, best, since, history, free_at_start, step}
-use Rattle.machine.specs.Claim.{machine_agrees, machine_ends}
+use Rattle.machine.proofs.Claim.{machine_agrees, machine_ends}
 use Rattle.machine.specs.Claim as claim
 use Rattle.machine.specs.Demand3.{Finished, LeavesFinished, Otherwise}
 use Rattle.search.specs.Record.{encode}
@@ -22,7 +22,7 @@ use Rattle.dispatch_theory.specs.Dispatcher as theory
 use Rattle.dispatch_theory.specs.Dispatcher.{tell_at, show_at, turn, fresh, state_at, is_held, place_fault, dispatch_answer, dispatch_lent, routed}
 use Rattle.dispatch_theory.specs.Alone.{alone, size-after}
 use Rattle.dispatch_theory.specs.Stretches.{Quiet, turns}
-use Rattle.dispatch_theory.specs.Fairness.{fair}
+use Rattle.dispatch_theory.proofs.Fairness.{fair}
 use Rattle.dispatch_theory.specs.Records.{alone-bytes}
 use Rattle.dispatcher.specs.Searches.{machine, held, made, codec}
 use Rattle.dispatcher.specs.Steady.{steady}

@@ -2,7 +2,7 @@
 -- C-24's claims, which crate dispatcher proves. Assumes nothing.
 use Rattle.std.specs.Prelude.{◌≡◌, ℕ, suc}
 use Rattle.std.proofs.Common.{ap, arith}
-use Rattle.machine.specs.Following.{follows_demand_3}
+use Rattle.machine.proofs.Following.{follows_demand_3}
 use Rattle.onetree_theorems.specs.AtOne.{EveryAnswerIsTheOldOne, search-at_one}
 use Rattle.dispatcher.specs.Claims.{Dispatches}
 use Rattle.dispatcher.specs.Theorem.{dispatches}

@@ -1,22 +1,21 @@
 -- A tree counts only as far as the edges go: trees that agree on the edges 1 to m have the same supports, replacements and lifted multipliers.
-use Rattle.std.specs.Prelude.{◌≡◌, Bool, true, false, cond, ◌&&◌, ◌||◌, List, [], ◌∷◌, ◌++◌, map, ℕ, eqb, ℤ, ◌-ℤ◌}
+use Rattle.std.specs.Prelude.{◌≡◌, Bool, true, false, ◌&&◌, List, [], ◌∷◌, ℕ, ℤ}
 use Rattle.std.proofs.Math.Path.{refl}
-use Rattle.std.proofs.Common.{sym, ap, ap₂, ◌∙◌, inl, inr}
+use Rattle.std.proofs.Common.{sym, inl, inr}
 use Rattle.std.proofs.Math.Bool.{not}
 use Rattle.lists.specs.Members.{◌∈◌}
 use Rattle.lists.specs.Select.{select, select_cong}
 use Rattle.lists.specs.Numbers.{up_to}
 use Rattle.lists.specs.Sets.{◌⊕◌, ◌⊖◌}
 use Rattle.graph.specs.Network.{Network}
-use Rattle.tree_theory.specs.OneTree.{Edges, charge}
+use Rattle.tree_theory.specs.OneTree.{Edges}
 use Rattle.tree_theory.specs.Enumeration.{is_one_tree}
 use Rattle.tree_theory.specs.Decide.{test_tree, tree_test}
 use Rattle.tree_theory.specs.Agree.{Agree, tree_agree}
 use Rattle.tree_theory.specs.Valid.{is_required, is_excluded}
-use Rattle.tours.specs.Tours.{degree}
 use Rattle.tours.specs.Degrees.{degree_agree}
 use Rattle.lifting.specs.Lifted.{touches, is_giver, is_taker, support, replacement, reduced_cost, replacement_cost, gather, rise_limits, fall_limits}
-use Rattle.lifting.specs.Lifted.{rises, falls, rise, fall, rise_by, fall_by, Choice, none, one, moved, raised, lowered}
+use Rattle.lifting.specs.Lifted.{rises, falls, rise, fall, rise_by, fall_by, Choice, none, one, raised, lowered}
 
 -- tests that pass alike are one
 pub same_test : (x y : Bool) → (x ≡ true → y ≡ true) → (y ≡ true → x ≡ true) → x ≡ y

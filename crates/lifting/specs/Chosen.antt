@@ -1,30 +1,27 @@
 -- The values of Lifted are those that Plain tells of: the support and the replacement that are found are the ones, none is found only where there is none,
 -- and the change of an end is the least of what holds it. Assumes nothing.
-use Rattle.std.specs.Prelude.{◌≡◌, ◌≢◌, ◌↔◌, ◌⊎◌, Bool, cond, ◌&&◌, ℕ, zero, suc, ◌≤◌, eqb, ℤ, pos, ◌+ℤ◌, ◌-ℤ◌, ◌≤ℤ◌, ◌<ℤ◌}
+use Rattle.std.specs.Prelude.{◌≡◌, ◌≢◌, ◌↔◌, ◌⊎◌, Bool, cond, ◌&&◌, ℕ, zero, suc, ◌≤◌, eqb, ℤ, pos, ◌+ℤ◌, ◌-ℤ◌, ◌≤ℤ◌}
 use Rattle.std.proofs.Math.Path.{refl}
 use Rattle.std.proofs.Common.{sym, ap, ◌∙◌, subst, arith}
 use Rattle.std.proofs.Math.Logic.{inl, inr}
 use Rattle.std.proofs.Math.Bool.{true, false, not, true≢false}
-use Rattle.std.proofs.lemmas.Bool.{false≢true}
 use mathlib.Core.List.{List, [], ◌∷◌, ◌++◌, map}
-use Rattle.std.proofs.Math.Decide.{ℕ_discrete}
 use Rattle.std.specs.Int.Signed.{lt_z, ≤ℤ_refl}
-use borrow.Author.Tests.{eqb-false, eq-eqb, ne_eqb, not-true}
+use borrow.Author.Tests.{eqb-false, ne_eqb, not-true}
 use Rattle.lists.specs.Bools.{by_cases, and_both}
 use Rattle.lists.specs.Members.{◌∈◌, in_left, in_right, in_either, in_map, of_map}
 use Rattle.lists.specs.Select.{keep, select, select_in, in_select}
 use Rattle.lists.specs.Numbers.{up_to, in_up_to}
 use Rattle.lists.specs.Sets.{◌⊕◌, ◌⊖◌}
-use Rattle.integers.specs.Parts.{lt_lt_z, lt_parts, le_parts, parts_le}
 use Rattle.integers.specs.Order.{le_trans, lt-le, le_antisym, le_lt_clash, test_lt, test_not_lt}
 use Rattle.graph.specs.Limits.{max_multiplier}
 use Rattle.graph.specs.Network.{Network, Mark, free, required, excluded}
-use Rattle.tree_theory.specs.OneTree.{Edges, OneTree, charge}
+use Rattle.tree_theory.specs.OneTree.{Edges, charge}
 use Rattle.tree_theory.specs.Enumeration.{is_one_tree}
 use Rattle.tree_theory.specs.Decide.{test_tree, tree_test}
-use Rattle.tree_theory.specs.Valid.{is_required, is_excluded, required_is, excluded_is}
+use Rattle.tree_theory.specs.Valid.{is_required, is_excluded}
 use Rattle.lifting.specs.Lifted.{touches, is_giver, is_taker, Choice, none, one, or_better, best, support, replacement, limit, reduced_cost, replacement_cost}
-use Rattle.lifting.specs.Lifted.{gather, lesser, at_most, rise_limits, fall_limits, rises, falls, rise, fall, rise_by, fall_by}
+use Rattle.lifting.specs.Lifted.{gather, lesser, at_most, rise_limits, fall_limits, rises, falls, rise, fall}
 use Rattle.lifting.specs.Plain.{Giver, Taker, IsSupport, IsReplacement, IsLeast, ByReplacement, BySupport, HoldsRise, ByReduced, ByTaker, HoldsFall}
 
 -- ---- the best of a list

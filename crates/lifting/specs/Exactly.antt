@@ -2,7 +2,7 @@
 -- outside a minimal 1-tree t is barred exactly when the ceiling is below bound(t) + its reduced cost + the sum of v · (degree − 1) over its ends,
 -- and an edge of t forced exactly when it is below bound(t) + its replacement cost + the sum of v · (3 − degree), v being how far the end moves.
 -- And an edge without a support is barred already, one without a replacement forced.
-use Rattle.std.specs.Prelude.{◌≡◌, refl, ◌≢◌, ◌↔◌, ◌⊎◌, Bool, true, false, cond, ◌||◌, eqb, ℤ, pos, negsuc, neg_ℤ, ◌+ℤ◌, ◌-ℤ◌, ◌*ℤ◌, ◌≤ℤ◌, ◌<ℤ◌}
+use Rattle.std.specs.Prelude.{◌≡◌, refl, ◌≢◌, ◌↔◌, ◌⊎◌, true, false, eqb, ℤ, pos, negsuc, neg_ℤ, ◌+ℤ◌, ◌-ℤ◌, ◌*ℤ◌, ◌≤ℤ◌, ◌<ℤ◌}
 use Rattle.std.proofs.Common.{sym, ap, ◌∙◌, subst, inl, inr, true≢false, arith}
 use Prim.Native.Nat.{ℕ, ◌+◌, ◌*◌, ◌<◌}
 use Rattle.std.proofs.Math.Decide.{ℕ_discrete}
@@ -17,15 +17,15 @@ use Rattle.integers.specs.Range.{InRange}
 use Rattle.graph.specs.Limits.{max_multiplier}
 use Rattle.graph.specs.Network.{Network, required}
 use Rattle.tree_theory.specs.OneTree.{Edges, OneTree, charge, bound, Barred, Forced}
-use Rattle.tree_theory.specs.Valid.{Valid, is_required, is_excluded, is_near, needed, required_is, excluded_is}
-use Rattle.tree_theory.specs.Optimal.Link.{Parts, to_parts, of_parts, in_allowed, out_loose}
+use Rattle.tree_theory.specs.Valid.{Valid, is_required, is_excluded, is_near, needed}
+use Rattle.tree_theory.specs.Optimal.Link.{Parts, to_parts, of_parts}
 use Rattle.tree_theory.specs.Optimal.Bound.{Shifted}
 use Rattle.tree_theory.specs.Optimal.Exchange.{Minimal}
 use Rattle.tree_theory.specs.Optimal.Criteria.{MaySwap, Place, may_swap, swap_may}
 use Rattle.swaps.specs.Slack.{SlackIs}
 use Rattle.tours.specs.Tours.{degree}
 use Rattle.lifting.specs.Lifted.{touches, Choice, none, one, support, replacement, rises, falls, rise, fall, moved, raised, lowered}
-use Rattle.lifting.specs.Plain.{Giver, Taker, IsSupport, IsReplacement, IsLeast, ByReplacement, BySupport, HoldsRise, ByReduced, ByTaker, HoldsFall}
+use Rattle.lifting.specs.Plain.{Giver, Taker, IsSupport, IsReplacement, HoldsRise, HoldsFall}
 use Rattle.lifting.specs.Chosen.{no_support, no_replacement, support_is, replacement_is, rise_is, rise-not, fall_is, fall-not}
 use Rattle.lifting.specs.Local.{minimal_charges}
 use Rattle.lifting.specs.Changed.{Changed}

@@ -1,7 +1,7 @@
 -- What the loops of a pass with lifting find, by the places of the free edges (edge k + 1 stands at place k): the best of the swaps, their costs, and how far
 -- an end moves, are those of Worked. In the tree everything goes by the numbers turned round, so that the cheapest is the largest there. Assumes nothing.
-use Rattle.std.specs.Prelude.{◌≡◌, refl, ◌≢◌, ◌⊎◌, Bool, true, false, cond, ◌&&◌, ◌||◌, List, ℕ, suc, ◌+◌, ◌-◌, ◌<◌, ◌≤◌, eqb, ℤ}
-use Rattle.std.proofs.Common.{sym, ap, ◌∙◌, subst, inl, inr, arith, eq-eqb, ne_eqb}
+use Rattle.std.specs.Prelude.{◌≡◌, ◌≢◌, ◌⊎◌, Bool, true, false, cond, ◌&&◌, ◌||◌, List, ℕ, suc, ◌+◌, ◌-◌, ◌<◌, ◌≤◌, eqb, ℤ}
+use Rattle.std.proofs.Common.{sym, ◌∙◌, subst, inl, inr, arith, eq-eqb, ne_eqb}
 use Rattle.std.proofs.Math.Decide.{ℕ_discrete}
 use Rattle.lists.specs.Bools.{and_both}
 use Rattle.lists.specs.Members.{◌∈◌}
@@ -13,7 +13,7 @@ use Rattle.tree_theory.specs.OneTree.{Edges}
 use Rattle.tree_theory.specs.Arrays.{edge_of}
 use Rattle.lifting.specs.Lifted.{touches}
 use Rattle.lifting.specs.Worked.{Pair, BestGiver, BestTaker, LeastRise, LeastFall}
-use Rattle.lifting.specs.Folds.{more, less, less_is, most_to, place_to, least_to, Listed, listed_most, listed-one, listed-place, listed_low, listed_least, listed_least_one}
+use Rattle.lifting.specs.Folds.{less, less_is, most_to, place_to, least_to, Listed, listed_most, listed-one, listed-place, listed_low, listed_least, listed_least_one}
 
 -- ---- what code works with
 

@@ -14,7 +14,7 @@ use Rattle.integers.specs.Range.{InRange}
 use Rattle.graph.specs.Limits.{max_multiplier}
 use Rattle.tree_theory.specs.Inputs.{multiplier}
 use Rattle.tree_theory.specs.Arrays.{entry}
-use Rattle.lifting.specs.Folds.{Listed, more, less, most_to, place_to, least_to}
+use Rattle.lifting.specs.Folds.{more, less, most_to, place_to, least_to}
 use Rattle.lifting.specs.Found.{key_of, met, top_of, place_of, top_at, cost_of, low_at, move_of, move_is}
 use Rattle.lifting.specs.Meeting.{on_in}
 use Rattle.lifting.specs.Verdict.{end_move, room_of, decides}

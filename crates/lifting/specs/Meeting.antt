@@ -1,6 +1,6 @@
 -- Which edges change places, told by arrays: both at vertex 1; or neither, and the ends of the one outside lie on two sides of the other, which hangs above
 -- the deeper of its labels. Assumes nothing.
-use Rattle.std.specs.Prelude.{◌≡◌, refl, ◌≢◌, ◌↔◌, ◌⊎◌, Bool, true, false, not, cond, ◌||◌, List, eqb, ltb, ℤ, ◌≤ℤ◌}
+use Rattle.std.specs.Prelude.{◌≡◌, refl, ◌≢◌, ◌↔◌, Bool, true, false, not, cond, ◌||◌, List, eqb, ltb, ℤ}
 use Rattle.std.proofs.Common.{sym, ap, ◌∙◌, subst, inl, inr, true≢false}
 use Rattle.std.proofs.lemmas.Bool.{false≢true}
 use Prim.Native.Nat.{ℕ, suc, ◌+◌, ◌*◌, ◌<◌, ◌≤◌}
@@ -17,17 +17,16 @@ use Rattle.graph.specs.Network.{network}
 use Rattle.graph.specs.Places.{network_a, network_b}
 use Rattle.graph.specs.Valid as value
 use Rattle.tree_theory.specs.OneTree.{OneTree, charge}
-use Rattle.tree_theory.specs.Valid.{Valid}
 use Rattle.tree_theory.specs.Arrays.{entry, bytes, of_edge, network-valid}
 use Rattle.tree_theory.specs.Optimal.Bound.{Shifted}
 use Rattle.tree_theory.specs.Optimal.Exchange.{Minimal}
 use Rattle.tree_theory.specs.Scaled.{scaled_by}
-use Rattle.tree_theory.specs.Scaling.{valid_scaled, tree_scaled, swap_scaled}
+use Rattle.tree_theory.specs.Scaling.{valid_scaled, swap_scaled}
 use Rattle.swaps.specs.Hanging.{Shape, Vertex, above}
 use Rattle.swaps.specs.Visiting.{Rooting, edge_at}
 use Rattle.swaps.specs.Rooted.{Joins}
 use Rattle.swaps.specs.RootedTree.{RootedIn, Labelled, shape, label_of, edge_over}
-use Rattle.swaps.specs.Swaps.{Swaps, SamePlace, Below, Through, a_at, b_at, mark_at, swaps_may, may_swaps, over_all, over_in, over_once, ends_hang}
+use Rattle.swaps.specs.Swaps.{Swaps, SamePlace, Below, Through, a_at, b_at, mark_at, swaps_may, may_swaps, over_all, over_once, ends_hang}
 use Rattle.lifting.specs.Lifted.{touches}
 use Rattle.lifting.specs.Local.{minimal_charges}
 use Rattle.lifting.specs.Worked.{Pair}

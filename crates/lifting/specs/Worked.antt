@@ -1,6 +1,6 @@
 -- How a program works a change out: by the natural numbers that it keeps for the charges of the pass, over the pairs of edges that may change places. What it
 -- finds so is the support, the replacement, the rise and the fall of Lifted; and the two sums that then decide. Assumes nothing.
-use Rattle.std.specs.Prelude.{◌≡◌, refl, ◌≢◌, ◌↔◌, ◌⊎◌, true, false, ℕ, ◌+◌, ◌*◌, ◌<◌, ◌≤◌, ℤ, pos, ◌+ℤ◌, ◌-ℤ◌, ◌*ℤ◌, ◌≤ℤ◌, ◌<ℤ◌}
+use Rattle.std.specs.Prelude.{◌≡◌, ◌≢◌, ◌↔◌, ◌⊎◌, true, false, ℕ, ◌+◌, ◌*◌, ◌<◌, ◌≤◌, ℤ, pos, ◌+ℤ◌, ◌-ℤ◌, ◌*ℤ◌, ◌≤ℤ◌, ◌<ℤ◌}
 use Rattle.std.proofs.Common.{sym, ap, ◌∙◌, subst, inl, inr, true≢false, arith}
 use Rattle.lists.specs.Members.{◌∈◌}
 use Rattle.lists.specs.Numbers.{up_to}
@@ -20,7 +20,7 @@ use Rattle.tree_theory.specs.Optimal.Criteria.{MaySwap, may_swap, swap_may}
 use Rattle.swaps.specs.Slack.{SlackIs}
 use Rattle.tours.specs.Tours.{degree}
 use Rattle.lifting.specs.Lifted.{touches, rises, falls, rise, fall, raised, lowered}
-use Rattle.lifting.specs.Plain.{Giver, Taker, IsSupport, IsReplacement, IsLeast, ByReplacement, BySupport, HoldsRise, ByReduced, ByTaker, HoldsFall}
+use Rattle.lifting.specs.Plain.{Giver, Taker, IsSupport, IsReplacement, HoldsRise, HoldsFall}
 use Rattle.lifting.specs.Chosen.{rise_is, rise-not, fall_is, fall-not}
 use Rattle.lifting.specs.Moves.{Alone}
 use Rattle.lifting.specs.Exactly.{raised_exactly, lowered_exactly}

@@ -1,6 +1,6 @@
 -- What a pass's gains leave of the multipliers: as many, in their range, and vertex 1's as it was. Assumes nothing.
-use Rattle.std.specs.Prelude.{◌≡◌, true, false, cond, List, leb, length, get_or, ℤ, pos, ◌+ℤ◌, ◌-ℤ◌, ◌*ℤ◌}
-use Rattle.std.proofs.Common.{sym, ap, ◌∙◌, arith}
+use Rattle.std.specs.Prelude.{◌≡◌, true, cond, List, leb, length, get_or, ℤ, pos, ◌+ℤ◌, ◌-ℤ◌, ◌*ℤ◌}
+use Rattle.std.proofs.Common.{◌∙◌, arith}
 use Prim.Native.Nat.{ℕ, zero, suc, ◌≤◌, ◌<◌}
 use borrow.Author.Tests.{lt-leb}
 use Rattle.lists.specs.Bools.{and_right}

@@ -2,11 +2,10 @@
 --   siblings        both halves of a node have one list of multipliers
 --   stays           nodes below the top stay as they are, marks and multipliers, until they are the top
 --   second-branch   so the lower half of a node comes to the top as it was stored, whatever the upper half led to
---   no_sweeps       where no pass follows the first of a node, every node has the opening's multipliers
--- Assumes nothing.
-use Rattle.std.specs.Prelude.{◌≡◌, ◌⊎◌, true, false, ltb, length, ℤ}
+-- (Where no pass follows the first of a node, every node has the opening's multipliers: `no_sweeps`, proofs/Inherited.) Assumes nothing.
+use Rattle.std.specs.Prelude.{◌≡◌, ltb, length, ℤ}
 use Rattle.std.proofs.Math.Path.{refl, ap}
-use Rattle.std.proofs.Common.{sym, ◌∙◌, subst, inl, inr, arith}
+use Rattle.std.proofs.Common.{◌∙◌, subst, inl, inr, arith}
 use mathlib.Core.List.{List, [], ◌∷◌, ◌++◌}
 use Prim.Native.Nat.{ℕ, zero, suc, ◌≤◌, ◌<◌}
 use Rattle.std.proofs.Math.Decide.{dec_le}
@@ -21,7 +20,7 @@ use Rattle.integers.specs.Multiples.{◌times◌}
 use Rattle.machine.specs.Outcomes.{closes, finds, splits}
 use Rattle.machine.specs.Machine.{Marks, Node, with_marks, Pass, shut, found, unclosed, pass, gained, Opened, first_free, branch, concluded}
 use Rattle.machine.specs.Machine.{passes, Opening, Progress, open_node, settled, open_top, begin, ran}
-use Rattle.machine.specs.Runs.{ran-opens, ran_full, ran_keeps}
+use Rattle.machine.specs.Runs.{ran-opens, ran_full}
 
 -- ---- both halves
 
@@ -31,11 +30,11 @@ Halves P closes = Unit {0}
 Halves P (finds r) = Unit {0}
 Halves P (splits out into) = P into.multipliers × (out.multipliers ≡ into.multipliers)
 
-branch_halves : (P : List ℤ → Type 0) (d : List ℤ) → P d → (y : Marks) → Halves P (branch d y)
+pub branch_halves : (P : List ℤ → Type 0) (d : List ℤ) → P d → (y : Marks) → Halves P (branch d y)
 unfolding branch
 branch_halves P d p y = by_cases (ltb (first_free y) (length y)) (λ e. rw e (p, refl)) (λ e. rw e tt)
 
-concluded_halves : (P : List ℤ → Type 0) (m : ℕ) (p : Pass) (otherwise : Edges → Marks → Opened)
+pub concluded_halves : (P : List ℤ → Type 0) (m : ℕ) (p : Pass) (otherwise : Edges → Marks → Opened)
     → ((t : Edges) (y : Marks) → Halves P (otherwise t y)) → Halves P (concluded m p otherwise)
 concluded_halves P m shut otherwise later = tt
 concluded_halves P m (found t) otherwise later = tt
@@ -50,13 +49,6 @@ module _ (g : Network) (step : ℕ) (upper : ℤ) where
   passes_halves (suc left) d x =
       concluded_halves (λ e. Unit {0}) g.m (pass (with_marks g x) (multiplier d) upper) (λ t y. passes g step upper left (gained g step t d) y)
       (λ t y. passes_halves left (gained g step t d) y)
-
-  -- one pass gains nothing
-  pass_halves : (d : List ℤ) (x : Marks) → Halves (λ e. e ≡ d) (passes g step upper 0 d x)
-  unfolding passes
-  pass_halves d x =
-      concluded_halves (λ e. e ≡ d) g.m (pass (with_marks g x) (multiplier d) upper) (λ t y. branch d y)
-      (λ t y. branch_halves (λ e. e ≡ d) d refl y)
 
 pub siblings : (o : Opening) (upper : ℤ) (x out into : Node) → open_node o upper x ≡ splits out into → out.multipliers ≡ into.multipliers
 unfolding open_node
@@ -133,29 +125,3 @@ begin_unmoved o e = record { sweeps = e; each = λ y m. only y m }
     only : (y : Node) → y ∈ (begin o).stack → y.multipliers ≡ o.multipliers
     only y (inl q) = ap (λ (z : Node). z.multipliers) q
     only y (inr q) = absurd q
-
-top_unmoved : (s : Progress) (x : Node) (rest : List Node) → s.stack ≡ x ∷ rest → s.count < max_count → Unmoved s
-    → Unmoved (open_top s (x ∷ rest))
-unfolding open_top settled open_node
-top_unmoved s x rest e l h =
-    let scaled = scaled_by s.opening.settings.denominator (network s.opening.graph) in
-    let upper = s.opening.settings.denominator times s.upper in
-    go (open_node s.opening s.upper x)
-    (subst (λ (k : ℕ). Halves (λ d. d ≡ x.multipliers) (passes scaled s.opening.settings.step upper k x.multipliers x.marks))
-    (sym h.sweeps) (pass_halves scaled s.opening.settings.step upper x.multipliers x.marks))
-  where
-    waits : (y : Node) → y ∈ (x ∷ rest) → y.multipliers ≡ s.opening.multipliers
-    waits y m = h.each y (subst (λ (st : List Node). y ∈ st) (sym e) m)
-
-    go : (out : Opened) → Halves (λ d. d ≡ x.multipliers) out → Unmoved (settled s rest out)
-    go closes k = record { sweeps = h.sweeps; each = λ y m. waits y (inr m) }
-    go (finds r) k = record { sweeps = h.sweeps; each = λ y m. waits y (inr m) }
-    go (splits out into) k = record { sweeps = h.sweeps; each = λ y m. each y m }
-      where
-        each : (y : Node) → (y ≡ into) ⊎ ((y ≡ out) ⊎ (y ∈ rest)) → y.multipliers ≡ s.opening.multipliers
-        each y (inl q) = ap (λ (z : Node). z.multipliers) q ∙ k.0 ∙ waits x (inl refl)
-        each y (inr (inl q)) = ap (λ (z : Node). z.multipliers) q ∙ k.1 ∙ k.0 ∙ waits x (inl refl)
-        each y (inr (inr m)) = waits y (inr m)
-
-pub no_sweeps : (budget : ℕ) (s : Progress) → Unmoved s → Unmoved (ran budget s)
-no_sweeps = ran_keeps Unmoved top_unmoved

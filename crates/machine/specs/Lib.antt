@@ -5,9 +5,9 @@ pub mod Outcomes
 pub mod Machine
 pub mod Calls
 pub mod Demand3
--- the general theorem
+-- branch and bound (the general theorem is proved in proofs/)
 pub mod BranchAndBound
--- document 01's opening of a node obeys its laws
+-- document 01's opening of a node (that it obeys the laws: proofs/)
 pub mod Branching
 pub mod Requireds
 pub mod Firsts
@@ -24,7 +24,7 @@ pub mod Preserved
 pub mod Refusals
 -- document 02, C-16: what a node's halves inherit, and what waits below
 pub mod Inherited
--- the proof of the statement
+-- the statement about the machine itself, and what follows it (proved in proofs/)
 pub mod Alike
 pub mod Invariant
 pub mod Claim

@@ -2,11 +2,9 @@
 -- loop, in their words and order. Trees and rulings are those of onetree's definitions, which go through all 1-trees. Definitions only.
 -- (Our words: search for hunt, stack for pile, incumbent for best round, multipliers for dues, upper bound for the present ceiling U,
 -- budget for allowance.)
-use Rattle.std.specs.Prelude.{Bool, true, false, not, cond, ◌&&◌, ◌||◌, List, [], ◌∷◌, ℕ, zero, suc, ◌+◌, eqb, leb, ltb, length, get_or, set, ℤ, pos, ◌+ℤ◌, ◌-ℤ◌, ◌*ℤ◌}
+use Rattle.std.specs.Prelude.{Bool, true, false, not, cond, ◌&&◌, List, [], ◌∷◌, ℕ, zero, suc, ◌+◌, leb, ltb, length, get_or, set, ℤ, pos, ◌+ℤ◌, ◌-ℤ◌, ◌*ℤ◌}
 use Rattle.std.specs.Int.Signed.{lt_z}
 use Rattle.lists.specs.Bools.{bit}
-use Rattle.lists.specs.Select.{select}
-use Rattle.lists.specs.Numbers.{up_to}
 use Rattle.lists.specs.Rows.{row}
 use Rattle.integers.specs.Range.{clamp}
 use Rattle.integers.specs.Multiples.{◌times◌}

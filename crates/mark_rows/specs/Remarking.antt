@@ -1,17 +1,18 @@
--- One free edge of a node required, or excluded: one digit of one row is set, and the marks change in that place alone; there is one free
--- edge less.
+-- One free edge of a node required, or excluded: one digit of one row is set, and the marks change in that place alone. (There is one free
+-- edge less: proofs/Remarking.)
 use Rattle.std.specs.Prelude.{◌≡◌, ◌≢◌, Bool, false, List, ℕ, suc, ◌-◌, ◌≤◌, ◌<◌, length, get_or, set}
 use Rattle.std.proofs.Math.Path.{sym, ap}
 use Rattle.std.proofs.Common.{ap₂, ◌∙◌, arith, length-set, get_or-set_same, get_or-set_other}
 use Rattle.std.proofs.Math.Decide.{ℕ_discrete}
 use Rattle.lists.specs.Rows.{row, row_at, row_is}
 use Rattle.bits.specs.Rows.{digit}
-use Rattle.bits.specs.Marking.{with_bit, with_here, with_there, with_ones}
-use Rattle.bits.specs.Pairs.{Pair, pair_with, swapped, ones_most}
+use Rattle.bits.specs.Marking.{with_bit}
+use Rattle.bits.proofs.Marking.{with_here, with_there}
+use Rattle.bits.specs.Pairs.{Pair, swapped}
+use Rattle.bits.proofs.Pairs.{pair_with}
 use Rattle.graph.specs.Network.{Mark, free, required, excluded}
-use Rattle.machine.specs.Machine.{frees}
 use Rattle.mark_rows.specs.MarkRows.{mark_bits, marks_in_pair}
-use Rattle.mark_rows.specs.TwoRows.{marks-size, frees_pair}
+use Rattle.mark_rows.specs.TwoRows.{marks-size}
 
 -- marks of two rows, changed in one place
 changed : (m : ℕ) (r s r' s' : List ℕ) (k : ℕ) (y : Mark) → 1 ≤ k → k ≤ m → mark_bits (digit r' k) (digit s' k) ≡ y
@@ -63,14 +64,3 @@ module _ (W m : ℕ) (r s : List ℕ) (p : Pair W m r s) (k : ℕ) (l : 1 ≤ k)
 
   pub excluded_pair : Pair W m r (with_bit s k)
   excluded_pair = swapped W m (with_bit s k) r (pair_with W m s r (swapped W m r s p) k l u e c)
-
-  -- one free edge less
-  pub one_less : suc (frees (marks_in_pair m (with_bit r k) s)) ≡ frees (marks_in_pair m r s)
-  one_less =
-      omega (
-        arith,
-        frees_pair W m r s p,
-        frees_pair W m (with_bit r k) s required_pair,
-        with_ones W r p.first k l (omega (arith, p.within)) c,
-        ones_most W m (with_bit r k) s required_pair,
-      )

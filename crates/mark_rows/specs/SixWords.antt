@@ -1,43 +1,35 @@
--- The six words of a node: what two rows' laws say of them. Marks become words and come back, words that fit become marks and come back
--- ("the rows equal the machine's marks leg by leg"); the required and the free edges are counted by set bits; a free edge marked otherwise
--- is one bit set.
-use Rattle.std.specs.Prelude.{◌≡◌, ◌↔◌, false, length}
+-- The six words of a node: what two rows' laws say of them, and that marks become words. (There and back, the free edges, and a free edge
+-- marked otherwise: proofs/SixWords.)
+use Rattle.std.specs.Prelude.{◌≡◌, ◌↔◌, length}
 use Rattle.std.proofs.Math.Path.{sym, ap, ap₂}
 use Rattle.std.proofs.Common.{◌∙◌, subst, ext_get_or, get_or-append-add}
-use mathlib.Core.List.{List, [], ◌∷◌, ◌++◌}
+use mathlib.Core.List.{List, ◌++◌}
 use Prim.Native.Nat.{ℕ, zero, suc, ◌+◌, ◌-◌, ◌*◌, ◌/◌, ◌%◌, ◌^◌, ◌≤◌, ◌<◌}
 use native.Mathlib.Omega.{arith}
 use Rattle.std.proofs.Math.Decide.{dec_le}
 use Rattle.std.proofs.Math.ListN.{get_or, set, length-append, get_or-append}
-use Rattle.std.proofs.lemmas.List.{set-append_left}
 use Rattle.std.specs.Int.Bits.{bit_and}
 use Rattle.lists.specs.Fill.{fill-size, fill-at, fill_is, fit, fit-size, fit_at}
 use Rattle.bits.specs.Digits.{bit_of}
-use Rattle.bits.specs.Rows.{digit, digit_at, Row, row_made, row_of-row, row_ext, row_ones}
-use Rattle.bits.specs.Marking.{with_bit}
-use Rattle.bits.specs.Pairs.{Pair, clear_words, apart_words}
+use Rattle.bits.specs.Rows.{digit, digit_at, Row, row_made, row_of-row, row_ones}
+use Rattle.bits.proofs.Rows.{row_ext}
+use Rattle.bits.specs.Pairs.{Pair}
+use Rattle.bits.proofs.Pairs.{clear_words, apart_words}
 use Rattle.graph.specs.Limits.{max_edges}
-use Rattle.graph.specs.Network.{Mark, free, required, excluded}
+use Rattle.graph.specs.Network.{free}
 use Rattle.tree_theory.specs.Valid.{is_required, is_excluded}
-use Rattle.machine.specs.Machine.{Marks, frees}
+use Rattle.machine.specs.Machine.{Marks}
 use Rattle.machine.specs.Requireds.{requireds}
-use Rattle.mark_rows.specs.MarkRows.{mark_at, required_row, excluded_row, mark_bits, marks_in_pair}
+use Rattle.mark_rows.specs.MarkRows.{mark_at, required_row, excluded_row, mark_bits}
 use Rattle.mark_rows.specs.MarkRows.{row_words, node_words, rows_of, required_in, excluded_in, marks_in_rows, SixWords, RowsFit}
 use Rattle.mark_rows.specs.TwoRows as T
-use Rattle.mark_rows.specs.TwoRows.{rows_pair, marks_again, required_again, excluded_again, requireds_pair, frees_pair}
+use Rattle.mark_rows.specs.TwoRows.{rows_pair, requireds_pair}
 use Rattle.mark_rows.specs.TwoRows.{required_row-at, excluded_row-at}
-use Rattle.mark_rows.specs.Remarking.{now_required, required_pair, now_excluded, excluded_pair}
 
 -- ---- two rows one after the other
 
-append_right : (xs ys : List ℕ) (n i : ℕ) → length xs ≡ n → get_or (xs ++ ys) (n + i) 0 ≡ get_or ys i 0
+pub append_right : (xs ys : List ℕ) (n i : ℕ) → length xs ≡ n → get_or (xs ++ ys) (n + i) 0 ≡ get_or ys i 0
 append_right xs ys n i e = ap (λ (k : ℕ). get_or (xs ++ ys) (k + i) 0) (sym e) ∙ get_or-append-add xs ys i 0
-
-set_right : (xs ys : List ℕ) (i a : ℕ) → set (xs ++ ys) (length xs + i) a ≡ xs ++ set ys i a
-set_right [] ys i a = ap (λ (k : ℕ). set ys k a) (omega arith)
-set_right (x ∷ xs) ys i a =
-    let e : suc (length xs) + i ≡ suc (length xs + i) = omega arith in
-    ap (λ (k : ℕ). set (x ∷ xs ++ ys) k a) e ∙ ap (λ (l : List ℕ). x ∷ l) (set_right xs ys i a)
 
 -- ---- the two rows in six words
 
@@ -111,7 +103,7 @@ words-fit m l six = (
 -- ---- the words of marks
 
 module _ (x : Marks) where
-  required_size : length (required_row row_words x) ≡ row_words
+  pub required_size : length (required_row row_words x) ≡ row_words
   unfolding required_row
   required_size = (row_of-row row_words (λ k. is_required (mark_at x k))).size
 
@@ -150,33 +142,16 @@ module _ (x : Marks) where
           ∙ append_right (required_row row_words x) (excluded_row row_words x) row_words (i - row_words) required_size in
           rw f ((row_of-row row_words (λ k. is_excluded (mark_at x k))).fits (i - row_words))
 
-  pub rows_six : SixWords (rows_of x)
-  rows_six = record { size = rows_size; small = rows_small }
-
 -- MARKS, TO WORDS AND BACK
 module _ (m : ℕ) (x : Marks) (few : m ≤ max_edges) (long : length x ≡ m) where
-  within : length x ≤ 64 * row_words
+  pub within : length x ≤ 64 * row_words
   within = omega arith
 
   pub rows_pair_of : Pair row_words m (required_row row_words x) (excluded_row row_words x)
   rows_pair_of = subst (λ (n : ℕ). Pair row_words n (required_row row_words x) (excluded_row row_words x)) long (rows_pair row_words x within)
 
-  pub rows_fit : RowsFit m (rows_of x)
-  rows_fit = record {
-    apart = rw (required_of_lem x, excluded_of x) rows_pair_of.apart;
-    clear_required = rw (required_of_lem x) rows_pair_of.clear₁;
-    clear_excluded = rw (excluded_of x) rows_pair_of.clear₂;
-  }
-
-  pub rows_back : marks_in_rows m (rows_of x) ≡ x
-  unfolding marks_in_rows
-  rows_back =
-      ap₂ (marks_in_pair m) (required_of_lem x) (excluded_of x)
-      ∙ ap (λ (n : ℕ). marks_in_pair n (required_row row_words x) (excluded_row row_words x)) (sym long)
-      ∙ marks_again row_words x within
-
 -- WORDS THAT FIT, TO MARKS AND BACK
-halves : (l : List ℕ) → length l ≡ node_words → required_in l ++ excluded_in l ≡ l
+pub halves : (l : List ℕ) → length l ≡ node_words → required_in l ++ excluded_in l ≡ l
 halves l e =
     ext_get_or 0 (required_in l ++ excluded_in l) l (omega (arith, length-append (required_in l) (excluded_in l), size₁, size₂))
     (λ i h. go i (omega (arith, length-append (required_in l) (excluded_in l), size₁, size₂)) (dec_le (suc i) row_words))
@@ -197,25 +172,13 @@ halves l e =
         ∙ ap (λ (k : ℕ). get_or l k 0) (sym f)
 
 module _ (m : ℕ) (l : List ℕ) (few : m ≤ max_edges) (six : SixWords l) (f : RowsFit m l) where
-  p : Pair row_words m (required_in l) (excluded_in l)
+  pub p : Pair row_words m (required_in l) (excluded_in l)
   p = fit_pair m l few six f
-
-  pub rows_again : rows_of (marks_in_rows m l) ≡ l
-  unfolding rows_of marks_in_rows
-  rows_again =
-      ap₂ (λ (a b : List ℕ). a ++ b) (required_again row_words m (required_in l) (excluded_in l) p)
-      (excluded_again row_words m (required_in l) (excluded_in l) p)
-      ∙ halves l six.size
 
   -- THE REQUIRED EDGES: the set bits of their row
   pub requireds_rows : requireds (marks_in_rows m l) ≡ row_ones (required_in l)
   unfolding marks_in_rows
   requireds_rows = requireds_pair row_words m (required_in l) (excluded_in l) p
-
-  -- THE FREE EDGES: "m less the set bits of both rows"
-  pub frees_rows : frees (marks_in_rows m l) ≡ m - row_ones (required_in l) - row_ones (excluded_in l)
-  unfolding marks_in_rows
-  frees_rows = frees_pair row_words m (required_in l) (excluded_in l) p
 
 pub marks-length : (m : ℕ) (l : List ℕ) → length (marks_in_rows m l) ≡ m
 unfolding marks_in_rows
@@ -234,69 +197,6 @@ mark_bits_lem m l k few h =
 -- the bit of the edge at place k, set in the row that starts at word `from`
 abbrev pub with_edge : ℕ → List ℕ → ℕ → List ℕ
 with_edge from l k = set l (from + k / 64) (get_or l (from + k / 64) 0 + 2 ^ (k % 64))
-
-module _ (m : ℕ) (x : Marks) (few : m ≤ max_edges) (long : length x ≡ m) (k : ℕ) (low : k < m) (off : get_or x k free ≡ free) where
-  abbrev r : List ℕ
-  r = required_row row_words x
-
-  abbrev s : List ℕ
-  s = excluded_row row_words x
-
-  pair : Pair row_words m r s
-  pair = rows_pair_of m x few long
-
-  off₁ : digit r (suc k) ≡ false
-  off₁ = required_row-at row_words x (suc k) (omega arith) (omega arith) ∙ ap is_required off
-
-  off₂ : digit s (suc k) ≡ false
-  off₂ = excluded_row-at row_words x (suc k) (omega arith) (omega arith) ∙ ap is_excluded off
-
-  again : marks_in_pair m r s ≡ x
-  again = ap (λ (n : ℕ). marks_in_pair n r s) (sym long) ∙ marks_again row_words x (within m x few long)
-
-  same_place : (y : Mark) → set (marks_in_pair m r s) (suc k - 1) y ≡ set x k y
-  same_place y = let e : suc k - 1 ≡ k = omega arith in ap₂ (λ (l : Marks) (i : ℕ). set l i y) again e
-
-  same : suc k - 1 ≡ k
-  same = omega arith
-
-  room : k / 64 < length r
-  room = omega (arith, required_size x)
-
-  -- AN EDGE REQUIRED
-  pub rows_required : rows_of (set x k required) ≡ with_edge 0 (rows_of x) k
-  unfolding rows_of with_bit
-  rows_required =
-      ap rows_of (sym (now_required row_words m r s pair (suc k) (omega arith) (omega arith) off₁ off₂ ∙ same_place required))
-      ∙ ap₂ (λ (a b : List ℕ). a ++ b)
-      (required_again row_words m (with_bit r (suc k)) s (required_pair row_words m r s pair (suc k) (omega arith) (omega arith) off₁ off₂))
-      (excluded_again row_words m (with_bit r (suc k)) s (required_pair row_words m r s pair (suc k) (omega arith) (omega arith) off₁ off₂))
-      ∙ goal
-    where
-      goal : with_bit r (suc k) ++ s ≡ with_edge 0 (r ++ s) k
-      goal =
-          let z : k / 64 ≡ 0 + k / 64 = omega arith in
-          ap (λ (i : ℕ). set r (i / 64) (get_or r (i / 64) 0 + 2 ^ (i % 64)) ++ s) same
-          ∙ sym (set-append_left r s (k / 64) (get_or r (k / 64) 0 + 2 ^ (k % 64)) room)
-          ∙ ap₂ (λ (i v : ℕ). set (r ++ s) i (v + 2 ^ (k % 64))) z
-          (sym (get_or-append r s 0 (k / 64) room) ∙ ap (λ (i : ℕ). get_or (r ++ s) i 0) z)
-
-  -- AN EDGE EXCLUDED
-  pub rows_excluded : rows_of (set x k excluded) ≡ with_edge row_words (rows_of x) k
-  unfolding rows_of with_bit
-  rows_excluded =
-      ap rows_of (sym (now_excluded row_words m r s pair (suc k) (omega arith) (omega arith) off₁ off₂ ∙ same_place excluded))
-      ∙ ap₂ (λ (a b : List ℕ). a ++ b)
-      (required_again row_words m r (with_bit s (suc k)) (excluded_pair row_words m r s pair (suc k) (omega arith) (omega arith) off₁ off₂))
-      (excluded_again row_words m r (with_bit s (suc k)) (excluded_pair row_words m r s pair (suc k) (omega arith) (omega arith) off₁ off₂))
-      ∙ goal
-    where
-      goal : r ++ with_bit s (suc k) ≡ with_edge row_words (r ++ s) k
-      goal =
-          ap (λ (i : ℕ). r ++ set s (i / 64) (get_or s (i / 64) 0 + 2 ^ (i % 64))) same
-          ∙ sym (set_right r s (k / 64) (get_or s (k / 64) 0 + 2 ^ (k % 64)))
-          ∙ ap₂ (λ (i v : ℕ). set (r ++ s) (i + k / 64) (v + 2 ^ (k % 64))) (required_size x)
-          (sym (append_right r s row_words (k / 64) (required_size x)))
 
 -- ---- words by their bits
 

@@ -16,7 +16,8 @@ use Rattle.machine.specs.Machine as M
 use Rattle.machine.specs.Machine.{Marks, Opening, branch, passes}
 use Rattle.machine.specs.Calls.{fault}
 use Rattle.mark_rows.specs.MarkRows.{rows_of, marks_in_rows}
-use Rattle.mark_rows.specs.SixWords.{rows_back, marks-length}
+use Rattle.mark_rows.specs.SixWords.{marks-length}
+use Rattle.mark_rows.proofs.SixWords.{rows_back}
 use Rattle.compaction.specs.Spread.{spread_marks, spread_tour, spread_opened, spread-size, branch-spread}
 use Rattle.node.specs.declared.Fate.TheVariants as fate
 use Rattle.node.specs.Marks.{marks_in, bytes_of, bytes_of_tour, bytes_back}

@@ -22,7 +22,8 @@ use Rattle.machine.specs.Outcomes.{closes}
 use Rattle.machine.specs.Machine.{Marks, is_free, first_free, branch}
 use Rattle.machine.specs.Branching.{free_is, first_is}
 use Rattle.mark_rows.specs.MarkRows.{row_words, node_words, mark_at, mark_bits, rows_of, marks_in_rows}
-use Rattle.mark_rows.specs.SixWords.{marks-length, mark_bits_lem, rows_is, rows_required, rows_excluded}
+use Rattle.mark_rows.specs.SixWords.{marks-length, mark_bits_lem, rows_is}
+use Rattle.mark_rows.proofs.SixWords.{rows_required, rows_excluded}
 use Rattle.compaction.specs.Ranks.{rank}
 use Rattle.node.specs.declared.Fate.TheVariants as fate
 use Rattle.node.specs.Marks.{byte_of, bytes_of, bytes-at}

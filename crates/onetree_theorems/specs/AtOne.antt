@@ -4,18 +4,17 @@
 use Rattle.std.specs.Prelude.{◌≡◌, refl, Bool, true, false, not, cond, ◌&&◌, List, [], ◌∷◌, ℕ, zero, suc, ltb, length, ℤ}
 use Rattle.std.proofs.Common.{sym, ap, ◌∙◌, subst}
 use Rattle.std.proofs.Math.Path.{ap₂}
-use Rattle.integers.specs.Multiples.{◌times◌, times-one}
+use Rattle.integers.specs.Multiples.{times-one}
 use Rattle.graph.specs.declared.Graph.{Graph}
 use Rattle.graph.specs.Limits.{max_count}
 use Rattle.graph.specs.Network.{Network, network}
 use Rattle.tree_theory.specs.Inputs.{multiplier, ceiling_fits, denominator_fits, denominator_fault, input_fault}
 use Rattle.tree_theory.specs.Enumeration.{least_tree, ruling}
-use Rattle.tree_theory.specs.Scaled.{scaled_by}
 use Rattle.tree_theory.specs.Scaling.{scaled_one, at_one_lem}
 use Rattle.onetree.specs.Answers as tree
 use Rattle.preview.specs.Preview.{remarked, can_be_marked, is_free_edge, preview_fault, preview_reply, preview_leaves}
 use Rattle.machine.specs.Machine.{Node, passes, Opening, Progress, State, no_search, searching, held, begin, settled, open_node, open_top, finished, ran}
-use Rattle.machine.specs.Calls.{Call, opens, run, tell, show, close, Answer, Reply, fault, opened_by, run_by, shown_by, step, state_after, leaves}
+use Rattle.machine.specs.Calls.{Call, opens, run, tell, show, close, Reply, fault, opened_by, run_by, step, state_after, leaves}
 use Rattle.machine.specs.Preserved.{show_state}
 use Rattle.machine.specs.Demand3.{Interface, after, Demand3}
 use Rattle.onetree_theorems.specs.Former as former

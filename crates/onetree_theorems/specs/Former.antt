@@ -10,7 +10,7 @@ use Rattle.tree_theory.specs.Enumeration.{least_tree, ruling}
 use Rattle.onetree.specs.Answers as tree
 use Rattle.preview.specs.Preview.{remarked, can_be_marked, is_free_edge}
 use Rattle.machine.specs.Machine.{Node, Opened, passes, Opening, Progress, State, no_search, searching, held, begin, settled, finished}
-use Rattle.machine.specs.Calls.{Call, opens, run, tell, show, close, Answer, accepted, runs, tells, Reply, refuses, accepts, verdict, shown_by}
+use Rattle.machine.specs.Calls.{Call, opens, run, tell, show, close, accepted, runs, tells, Reply, refuses, accepts, verdict, shown_by}
 
 -- ---- the tree call, the rule call and the preview
 

@@ -1,34 +1,31 @@
 -- WHAT Previews.antt SAYS OF PREVIEWS. A set is a 1-tree of the copy exactly when it is one of the graph and has the edge, or lacks it; so the
--- copy is infeasible exactly when the edge is barred, or forced. Assumes nothing.
+-- copy is infeasible exactly when the edge is barred, or forced. (That the rule call tells which: `preview_rules`, proofs/PreviewLaws.) Assumes
+-- nothing.
 use Rattle.std.proofs.Math.Path.{◌≡◌, refl, subst}
 use Rattle.std.proofs.Common.{sym, ap, ◌∙◌, inl, inr, eqb-true, eq-eqb, leb-true, le-leb, get_or-set_same, get_or-set_other}
-use Rattle.std.specs.Prelude.{◌↔◌, ◌⊎◌, Bool, true, false, ◌&&◌, ◌||◌, List, [], ◌∷◌, ℕ, zero, suc, ◌≤◌, ◌<◌, ◌-◌, eqb, leb, length, get_or, set, ℤ, pos, ◌<ℤ◌}
+use Rattle.std.specs.Prelude.{◌↔◌, ◌⊎◌, Bool, true, false, ◌&&◌, ◌||◌, List, [], ◌∷◌, ℕ, zero, suc, ◌≤◌, ◌<◌, ◌-◌, eqb, leb, length, get_or, set, ℤ}
 use Rattle.std.proofs.lemmas.Bool.{false≢true, eqb-false}
 use native.Mathlib.Omega.{arith}
 use Rattle.lists.specs.Bools.{Says, by_cases, and_both}
 use Rattle.lists.specs.Members.{◌∈◌}
 use Rattle.lists.specs.Numbers.{up_to, up_to_in, in_up_to}
-use Rattle.integers.specs.Multiples.{◌times◌}
 use Rattle.graph.specs.declared.Graph.{Graph}
 use Rattle.graph.specs.Limits.{max_edges, max_mark}
-use Rattle.graph.specs.Network.{Mark, free, required, excluded, mark_of, Network, network}
+use Rattle.graph.specs.Network.{free, required, excluded, mark_of, network}
 use Rattle.graph.specs.Places.{network_mark}
 use Rattle.graph.specs.Valid.{Valid}
 use Rattle.graph.specs.Valid as value
 use Rattle.tree_theory.specs.OneTree.{Edges, OneTree, Infeasible, Barred, Forced, bound, charge, at_one, away, others}
-use Rattle.tree_theory.specs.Inputs.{input_fault, multiplier, multipliers_fit, denominator_fits}
+use Rattle.tree_theory.specs.Inputs.{input_fault, multipliers_fit, denominator_fits}
 use Rattle.tree_theory.specs.Scaled.{scaled_by}
 use Rattle.tree_theory.specs.Scaling.{tree_scaled}
-use Rattle.tree_theory.specs.Enumeration.{Tree, no_tree, a_tree, least_tree}
-use Rattle.tree_theory.specs.LeastTree.{Above, infeasible_tree}
-use Rattle.onetree.specs.Answers.{leaves, tree_fault, tree_says, tree_reply, tree_leaves, rule_reply, rule_leaves}
+use Rattle.onetree.specs.Answers.{leaves, tree_reply, tree_leaves}
 use Rattle.preview.specs.Preview.{remarked, can_be_marked, is_free_edge, preview_fault, preview_reply, preview_leaves}
-use Rattle.onetree_theorems.specs.Calls.{Asked, First, Fine, tree_asks, rule_asks, RuledExactly, GivesRulings}
+use Rattle.onetree_theorems.specs.Calls.{Asked, First, Fine, tree_asks}
 use Rattle.onetree_theorems.specs.Refusing.{Tests, fault_by, first-fault, fault_none, decides, graphs, lengths_fit, lengths, multipliers}
-use Rattle.onetree_theorems.specs.Refusing.{denominators, tree_tests, tree-fault}
+use Rattle.onetree_theorems.specs.Refusing.{denominators}
 use Rattle.onetree_theorems.specs.Theorems.{NoRefusal, refuses_exactly, tree_exactly}
-use Rattle.onetree_theorems.specs.LowerCeiling.{gave_fine, gave}
-use Rattle.onetree_theorems.specs.Previews.{preview_asks, PreviewExactly, Beyond, PreviewRules, Previewed}
+use Rattle.onetree_theorems.specs.Previews.{preview_asks, PreviewExactly}
 
 -- ---- the marks of the copy
 
@@ -225,7 +222,7 @@ module _ (g : Graph) (d : List ℤ) (den k mark : ℕ) (len : ℕ) where
   unfolding preview_fault input_fault preview_tests fault_by
   preview_fault_lem = refl
 
-  copy_fine : Fine (preview_asks g d den k mark len) → Fine (tree_asks (remarked g k mark) d den len)
+  pub copy_fine : Fine (preview_asks g d den k mark len) → Fine (tree_asks (remarked g k mark) d den len)
   unfolding remarked
   copy_fine f = (
     remarked-valid g k mark (go f.1.1.1.1.0.2) f.0,
@@ -270,73 +267,3 @@ module _ (g : Graph) (d : List ℤ) (den k mark : ℕ) (out : List ℕ) where
       go : (f : ℕ) → 0 < f → leaves f out (tree_leaves (remarked g k mark) d den out) ≡ out
       go zero h = absurd (let z : suc 0 ≤ 0 = h in omega arith)
       go (suc f) h = refl
-
--- ---- of rulings
-
-module _ (g : Graph) (d : List ℤ) (den k x : ℕ) (out : List ℕ) where
-  -- where nothing is wrong, 'beyond the ceiling' is 'infeasible' of the copy
-  beyond : (ceiling : ℤ) → Fine (preview_asks g d den k x (length out))
-      → Beyond ceiling (preview_reply g d den k x (length out)) ↔ Infeasible (scaled_by den (network (remarked g k x))) (multiplier d) ceiling
-  unfolding tree_reply
-  beyond ceiling f =
-      rw (((preview_exactly g d den k x out).as_tree f).0, tree_none (copy_fine g d den k x (length out) f))
-      (swap (says (least_tree (scaled_by den (network (remarked g k x))) (multiplier d)) (infeasible_tree (scaled_by den (network (remarked g k x))) (multiplier d) ceiling)))
-    where
-      tree_none : Fine (tree_asks (remarked g k x) d den (length out)) → tree_fault (remarked g k x) d den (length out) ≡ 0
-      tree_none h =
-          tree-fault (remarked g k x) d den (length out) ∙ (fault_none _ (tree_tests (remarked g k x) d den (length out))).1 h
-
-      says : (t : Tree) → Infeasible (scaled_by den (network (remarked g k x))) (multiplier d) ceiling
-          ↔ Above (scaled_by den (network (remarked g k x))) (multiplier d) ceiling t
-          → Infeasible (scaled_by den (network (remarked g k x))) (multiplier d) ceiling ↔ Beyond ceiling (tree_says t)
-      says no_tree i = i
-      says (a_tree b t) i = i
-
-      swap : {A B : Type 0} → A ↔ B → B ↔ A
-      swap h = (h.1, h.0)
-
-byte_free : (y : ℕ) → mark_of y ≡ free → y ≡ 0
-unfolding mark_of
-byte_free zero e = refl
-byte_free (suc zero) e = absurd (let z : ◌≡◌ {A = ℕ} 0 1 = cc in omega arith)
-byte_free (suc (suc y)) e = absurd (let z : ◌≡◌ {A = ℕ} 0 1 = cc in omega arith)
-
-both : {A B C : Type 0} → A ↔ B → C ↔ B → A ↔ C
-both p q = ((λ a. q.1 (p.0 a)), λ c. p.1 (q.0 c))
-
-pub preview_rules : Previewed
-preview_rules g d ceiling den out k long at least most is_free_lem = record {
-  bars =
-      both (ruled_bars (r.each k least most))
-      (both (beyond g d den k 1 out (den times ceiling) (asked 1 (inl refl))) (flip (required_barred g k long valid least most is_free_lem den (multiplier d) (den times ceiling))));
-  forces =
-      both (ruled_forces (r.each k least most))
-      (both (beyond g d den k 2 out (den times ceiling) (asked 2 (inr refl))) (flip (excluded_forced g k long valid least most is_free_lem den (multiplier d) (den times ceiling))));
-}
-  where
-    r : GivesRulings g d ceiling den (rule_reply g d ceiling den (length out)) (rule_leaves g d ceiling den out)
-    r = gave g d ceiling den out at
-
-    fine : Fine (rule_asks g d ceiling den (length out))
-    fine = gave_fine g d ceiling den (length out) at
-
-    valid : Valid g
-    valid = fine.0
-
-    flip : {A B : Type 0} → A ↔ B → B ↔ A
-    flip h = (h.1, h.0)
-
-    free_byte : get_or g.mark (k - 1) 0 ≡ 0
-    free_byte = byte_free _ (sym (network_mark g (k - 1) (omega (arith, least, most))) ∙ subst (λ (i : ℕ). (network g).mark i ≡ free) (back k least) is_free_lem)
-      where
-        back : (i : ℕ) → 1 ≤ i → i ≡ suc (i - 1)
-        back i h = omega (arith, h)
-
-    asked : (x : ℕ) → (x ≡ 1) ⊎ (x ≡ 2) → Fine (preview_asks g d den k x (length out))
-    asked x is = (fine.0, (fine.1.0, (fine.1.1.0, (fine.1.1.1.1.0, ((least, most, is), (free_byte, tt))))))
-
-    ruled_bars : {y : ℕ} → RuledExactly g d ceiling den k y → (y ≡ 2) ↔ Barred (scaled_by den (network g)) (multiplier d) (den times ceiling) k
-    ruled_bars e = ((λ h. (e.bars.0 h).1), λ b. e.bars.1 (is_free_lem, b))
-
-    ruled_forces : {y : ℕ} → RuledExactly g d ceiling den k y → (y ≡ 1) ↔ Forced (scaled_by den (network g)) (multiplier d) (den times ceiling) k
-    ruled_forces e = ((λ h. (e.forces.0 h).1), λ f. e.forces.1 (is_free_lem, f))

@@ -5,7 +5,7 @@ use Rattle.std.proofs.Common.{◌∙◌, ap}
 use Rattle.machine.specs.Machine.{Opening, State, no_search}
 use Rattle.machine.specs.Calls.{Call, opens, run, tell, step, is_accepted}
 use Rattle.machine.specs.Kept.{KeptState}
-use Rattle.machine.specs.Preserved.{step_kept}
+use Rattle.machine.proofs.Preserved.{step_kept}
 use Rattle.search.specs.Record.{fresh, encode}
 use Rattle.search.specs.Replies.{means, reply}
 use Rattle.search.specs.Theorem.{means-said, reply_is}

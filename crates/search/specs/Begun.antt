@@ -20,7 +20,8 @@ use Rattle.machine.specs.Trimmed.{valid-trimmed}
 use Rattle.machine.specs.Preserved.{accepts-held}
 use Rattle.mark_rows.specs.MarkRows.{row_words, node_words, rows_of}
 use Rattle.mark_rows.specs.SixWords.{rows_size, rows_small, with_edge}
-use Rattle.mark_rows.specs.Building.{no_bits, partly, partly_free, partly_required, partly_excluded}
+use Rattle.mark_rows.specs.Building.{partly}
+use Rattle.mark_rows.proofs.Building.{no_bits, partly_free, partly_required, partly_excluded}
 use Rattle.node.specs.Marks.{marks_in}
 use Rattle.search.specs.Record.{stack_size, carried_size, word_at, multiplier_at, stack_words, carried_of, has_incumbent, best_bytes, opening_of, record_of}
 use Rattle.search.specs.Cells.{rows_places, carried_places, cells_empty}

@@ -15,8 +15,9 @@ use Rattle.machine.specs.Machine.{Node, node_of}
 use Rattle.machine.specs.Requireds.{requireds}
 use Rattle.machine.specs.Kept.{Waits, Nodes}
 use Rattle.mark_rows.specs.MarkRows.{node_words, rows_of, marks_in_rows}
-use Rattle.mark_rows.specs.SixWords.{rows_size, rows_back, marks-length}
-use Rattle.mark_rows.specs.Building.{no_bits}
+use Rattle.mark_rows.specs.SixWords.{rows_size, marks-length}
+use Rattle.mark_rows.proofs.SixWords.{rows_back}
+use Rattle.mark_rows.proofs.Building.{no_bits}
 use Rattle.search.specs.Record.{max_nodes, stack_size, carried_size, rows_at, marks_at, multipliers_at, nodes, no_node, node_at, cell, cells, word_at, multiplier_at}
 
 -- ---- node p of a stack

@@ -19,7 +19,7 @@ use Rattle.machine.specs.Calls.{fault}
 use Rattle.machine.specs.Trimmed.{Trim}
 use Rattle.machine.specs.Kept.{Kept, KeptState, depth_most}
 use Rattle.mark_rows.specs.MarkRows.{node_words, rows_of, SixWords, RowsFit}
-use Rattle.mark_rows.specs.SixWords.{rows_fit, rows_again}
+use Rattle.mark_rows.proofs.SixWords.{rows_fit, rows_again}
 use Rattle.search.specs.Record.{max_nodes, stack_size, carried_size, fresh, node_at, cell, rows_at, marks_at, multipliers_at, nodes, word_at, multiplier_at, stack_words, carried_of, best_of, has_incumbent, best_bytes, is_open, has_tour, opening_in, progress_of, decode, record_of, encode}
 use Rattle.search.specs.Cells.{rows_places, carried_places, cells_at, cells_is, each-place, rows_at-size, rows_at_lem, multipliers_at_lem, multipliers_size, nodes-size, nodes-at, nodes_back, nodes_of, node_waits, node_narrow, rows_there, marks_back, multipliers_back, no_word, carried_past, cell_none}
 use Rattle.search.specs.Canonical.{Zeros, StackTidy, CarriedTidy, used_in, Tidy, Idle, Fits, Flags, Stands, Canonical}

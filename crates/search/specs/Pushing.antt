@@ -7,7 +7,7 @@ use Rattle.lists.specs.Fill.{fill-same, fit, fit_at, replicate-at}
 use Rattle.graph.specs.Limits.{max_vertices}
 use Rattle.machine.specs.Machine.{Node}
 use Rattle.mark_rows.specs.MarkRows.{node_words, rows_of}
-use Rattle.mark_rows.specs.Building.{no_bits}
+use Rattle.mark_rows.proofs.Building.{no_bits}
 use Rattle.node.specs.Opened.{places}
 use Rattle.search.specs.Record.{max_nodes, stack_size, carried_size, rows_at, multipliers_at, no_node, node_at, cell, cells, word_at, multiplier_at, stack_words, carried_of}
 use Rattle.search.specs.Cells.{Layout, rows_places, carried_places, cell-top, cell_lower, cell_none, cells_at, cells-size, cells_is, rows_there, top_node}

@@ -9,7 +9,7 @@ use Rattle.lists.specs.Bools.{by_cases}
 use Rattle.machine.specs.Outcomes.{Incumbent, no_tour, a_tour}
 use Rattle.machine.specs.Machine.{Progress, State, no_search, searching, finished}
 use Rattle.machine.specs.Calls.{Call, tell, show, lent_by, refused, is_accepted, shown_by, step}
-use Rattle.machine.specs.Preserved.{step_kept}
+use Rattle.machine.proofs.Preserved.{step_kept}
 use Rattle.machine.specs.Refusals.{refused-leaves}
 use Rattle.search.specs.Record.{fresh, decode, encode}
 use Rattle.search.specs.Check.{check, check_yes, check_is}

@@ -7,7 +7,8 @@ use Rattle.machine.specs.Calls.{Call, going_on, none, best, refused, accepted, r
 use Rattle.machine.specs.Calls as machine
 use Rattle.machine.specs.Kept.{KeptState}
 use Rattle.machine.specs.Demand3.{Demand3}
-use Rattle.machine.specs.Following.{Follows, follows_demand_3}
+use Rattle.machine.specs.Following.{Follows}
+use Rattle.machine.proofs.Following.{follows_demand_3}
 use Rattle.search.specs.Record.{encode}
 use Rattle.search.specs.Check.{check, check_yes}
 use Rattle.search.specs.Inverse.{encode_canonical, decode-encode}

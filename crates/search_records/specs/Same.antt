@@ -5,7 +5,7 @@ use Rattle.machine.specs.Machine.{State, no_search}
 use Rattle.machine.specs.Calls.{Call, step, state_after, History, no_opening, history_after}
 use Rattle.machine.specs.Calls as calls
 use Rattle.machine.specs.Kept.{KeptState}
-use Rattle.machine.specs.Preserved.{step_kept}
+use Rattle.machine.proofs.Preserved.{step_kept}
 use Rattle.search.specs.Record.{encode}
 use Rattle.search.specs.Inverse.{decode-encode}
 use Rattle.search.specs.Theorem.{encode-passes, reply_is, lent_is}

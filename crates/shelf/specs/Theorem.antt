@@ -8,7 +8,7 @@ use Rattle.machine.specs.Calls.{Call, tell, show, Verdict, going_on, none, best,
 use Rattle.machine.specs.Calls as plainly
 use Rattle.machine.specs.Demand3.{Finished, Otherwise}
 use Rattle.machine.specs.Demand3 as machine
-use Rattle.machine.specs.Claim.{machine_agrees, machine_ends}
+use Rattle.machine.proofs.Claim.{machine_agrees, machine_ends}
 use Rattle.machine.specs.Claim as claim
 use Rattle.search.specs.Replies.{said}
 use Rattle.search.specs.declared.Answer.{Answer}
@@ -18,9 +18,11 @@ use Rattle.search_records.specs.Searching.{search_machine, searches, note}
 use Rattle.search_records.specs.Calls.{search_calls}
 use Rattle.search_records.specs.Same.{same-leaves, same-history, calls-follow}
 use Rattle.shelf_theory.specs.Shelves.{Shelved, plain}
-use Rattle.shelf_theory.specs.Paths.{path, current_is, history_is}
+use Rattle.shelf_theory.specs.Paths.{path}
+use Rattle.shelf_theory.proofs.Paths.{current_is, history_is}
 use Rattle.shelf_theory.specs.Paths as paths
-use Rattle.shelf_theory.specs.ShelfFollows.{shelf_list, plain-answer, plain_list, restores_record}
+use Rattle.shelf_theory.specs.ShelfFollows.{shelf_list}
+use Rattle.shelf_theory.proofs.ShelfFollows.{plain-answer, plain_list, restores_record}
 use Rattle.shelf.specs.Demand3.{AnyCall, search_left, history, LeavesFinished, calls_said, SaysAfter, ShowAlikeAfter, Demand3}
 
 -- ---- the path of a list

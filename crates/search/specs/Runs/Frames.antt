@@ -23,7 +23,7 @@ use Rattle.machine.specs.Outcomes as outcomes
 use Rattle.machine.specs.Machine as M
 use Rattle.machine.specs.Machine.{Node, Progress, edges_of, cost_of, lowered, better, open_node, settled, open_top}
 use Rattle.machine.specs.Kept.{Kept, depth_most}
-use Rattle.machine.specs.Preserved.{top_kept, found_long}
+use Rattle.machine.proofs.Preserved.{top_kept, found_long}
 use Rattle.machine.specs.Inherited.{siblings}
 use Rattle.mark_rows.specs.MarkRows.{node_words, rows_of}
 use Rattle.node.specs.declared.Fate.{Fate}

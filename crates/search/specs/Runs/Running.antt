@@ -15,7 +15,7 @@ use Rattle.machine.specs.Machine.{Node, passes, Progress, open_node, settled, op
 use Rattle.machine.specs.Kept.{Waits, Nodes}
 use Rattle.machine.specs.Runs.{ran-opens, ran_empty, ran_full}
 use Rattle.mark_rows.specs.MarkRows.{rows_of, marks_in_rows}
-use Rattle.mark_rows.specs.SixWords.{rows_back}
+use Rattle.mark_rows.proofs.SixWords.{rows_back}
 use Rattle.node.specs.Opened.{Opened, opened_as}
 use Rattle.search.specs.declared.running.Frame.{Frame}
 use Rattle.search.specs.Record.{max_nodes, rows_at, multipliers_at, stack_words, carried_of}

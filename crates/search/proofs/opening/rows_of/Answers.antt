@@ -3,7 +3,8 @@ use Prim.Native.Nat.{ℕ}
 use mathlib.Core.Path.{refl, sym, ap, ◌∙◌}
 use native.Mathlib.Omega.{arith}
 use Rattle.mark_rows.specs.MarkRows.{rows_of}
-use Rattle.mark_rows.specs.Building.{partly, partly_none, partly_all}
+use Rattle.mark_rows.specs.Building.{partly, partly_all}
+use Rattle.mark_rows.proofs.Building.{partly_none}
 use Rattle.node.specs.Marks.{marks_in}
 use Rattle.search.specs.Begun.{Reaches}
 use Rattle.search.proofs.opening.rows_of.Invariants.{marked}

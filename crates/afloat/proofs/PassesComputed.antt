@@ -19,7 +19,8 @@ use Rattle.afloat.specs.Inputs.{fit_of, inner_of}
 use Rattle.afloat.specs.Lists.{reduced_list, Grounded}
 use Rattle.afloat.specs.Computed.{small-network}
 use Rattle.afloat.specs.Passing.{passes_over}
-use Rattle.afloat.specs.Passes.{widened_opened, passes-compact}
+use Rattle.afloat.specs.Passes.{widened_opened}
+use Rattle.afloat.proofs.Passes.{passes-compact}
 
 pub small-passes : (l : List ℕ) (c : Edges) (g r : Graph) → value.Valid g → ashore_fits l g.n ≡ true → Keeping (ashore l) (network g) c
     → Renumbered (ashore l) c g r → (q : ℕ) (step : ℕ) (upper : ℤ) (left : ℕ) (d : List ℤ) (y : Marks)

@@ -1,0 +1,2 @@
+-- nobody waits past eight turns
+pub mod Fairness

@@ -1,0 +1,3 @@
+-- the verdict of lifting, and the rulings in plain words
+pub mod Rulings
+pub mod Verdict

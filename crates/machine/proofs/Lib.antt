@@ -1,0 +1,11 @@
+-- what rests on the definitions of the machine: the general theorem, the laws of an opening, what every state keeps, the proof of the statement
+pub mod BranchAndBound
+pub mod Claim
+pub mod Depth
+pub mod Following
+pub mod Inherited
+pub mod Invariant
+pub mod NodeTours
+pub mod OpeningLaws
+pub mod Preserved
+pub mod ScaledLaws

@@ -1,0 +1,3 @@
+-- a tighter ceiling undoes no ruling; previews beside the rule call
+pub mod LowerCeiling
+pub mod PreviewLaws

@@ -1,5 +1,5 @@
 # make            prove every crate; build the library, the programs and the command
-# make test       the gate: every proof from nothing, every must-fail edit, every test
+# make test       the gate: every proof, every must-fail edit, every test
 # make install    put command, libraries, header, pkg-config file and Python package below PREFIX
 # make clean      remove what these made
 PREFIX ?= /usr/local

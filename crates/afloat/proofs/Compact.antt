@@ -22,8 +22,6 @@ module _ (s : Ashore) (g : Network) (f : Fit s g) (c : Edges) (keeping : Keeping
   rest_excluded : RestExcluded c (reduced s g)
   rest_excluded k i e = keeping.rest k i e
 
-  -- ---- a new edge number
-
   module _ (j : ℕ) (i : j ∈ up_to (rank c g.m)) where
     -- THE RULING OF A KEPT EDGE
     pub compact-ruling : (d : ℕ → ℤ) (ceiling : ℤ)

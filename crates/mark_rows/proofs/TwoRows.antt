@@ -47,8 +47,6 @@ module _ (m : ℕ) (r s : List ℕ) where
   pub free_at : (k : ℕ) → 1 ≤ k → k ≤ m → is_free (mark_at (marks_in_pair m r s) k) ≡ not (digit r k) && not (digit s k)
   free_at k l u = ap is_free (marks-at m r s k l u) ∙ mark_free (digit r k) (digit s k)
 
--- ---- from marks to rows and back
-
 module _ (W : ℕ) (x : Marks) where
   -- MARKS, TO ROWS AND BACK
   pub marks_again : length x ≤ 64 * W → marks_in_pair (length x) (required_row W x) (excluded_row W x) ≡ x

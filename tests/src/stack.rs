@@ -5,36 +5,14 @@ use std::arch::asm;
 use std::cell::RefCell;
 use std::collections::BTreeMap;
 
-/// No call of the library but those on a shelf or a dispatcher uses more stack than this: README states it, `soak` holds them to it.
+/// No call of the library uses more stack than this: README states it, `soak` holds them to it.
 pub const STATED: usize = 64 * 1024;
-
-/// Nor does one of those use more than this: they copy its eight records.
-pub const STATED_OF_EIGHT: usize = 160 * 1024;
-
-/// The ends of these calls' names.
-const OF_EIGHT: [&str; 7] = [
-    "_shelf",
-    "_save",
-    "_back",
-    "_dispatcher",
-    "_add",
-    "_turn",
-    "_at",
-];
-
-/// What is stated of a call.
-pub fn stated(name: &str) -> usize {
-    match OF_EIGHT.iter().any(|end| name.ends_with(end)) {
-        true => STATED_OF_EIGHT,
-        false => STATED,
-    }
-}
 
 /// Nor does a program use more than this, with what the system puts there.
 pub const STATED_OF_PROGRAMS: usize = 128 * 1024;
 
 /// Words of the painted stack: more than is stated, so that a call that goes too deep is measured and does not break anything.
-const WORDS: usize = 4 * STATED_OF_EIGHT / 8;
+const WORDS: usize = 4 * STATED / 8;
 
 const PAINT: u64 = 0x7061_696e_7465_6421;
 

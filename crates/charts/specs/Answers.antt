@@ -1,19 +1,14 @@
--- What each answer says, in document 01's numbers. One definition for each answer enum; the promises cite them.
-use Rattle.std.specs.Prelude.{ℕ}
-use Rattle.charts.specs.declared.ReadAnswer.{ReadAnswer}
-use Rattle.charts.specs.declared.ReadAnswer.TheVariants as read
-use Rattle.charts.specs.declared.WriteAnswer.{WriteAnswer}
-use Rattle.charts.specs.declared.WriteAnswer.TheVariants as write
+-- What is answered, in document 01's numbers, and what a writing's answer says of it. (Chart.antt says it of a reading's.)
+use Rattle.std.specs.Prelude.{ℕ, Result, Ok, Err}
+use Rattle.graph.specs.declared.refusals.Refusal.{Refusal}
+use Rattle.graph.specs.Refusals.{number}
 
 -- "Each answer is the number and a place"; "Accepted means not refused."
 pub data Outcome : Type 0 where
   accepted : Outcome
   refused : ℕ → ℕ → Outcome
 
-unfoldable pub read_meaning : ReadAnswer → Outcome
-read_meaning read.Read = accepted
-read_meaning (read.Refused number place) = refused number place
-
-unfoldable pub write_meaning : WriteAnswer → Outcome
-write_meaning write.Written = accepted
-write_meaning (write.Refused number place) = refused number place
+-- "otherwise 0" is the place
+unfoldable pub write_meaning : Result (Unit {0}) Refusal → Outcome
+write_meaning (Ok _) = accepted
+write_meaning (Err r) = refused (number r) 0

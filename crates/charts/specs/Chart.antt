@@ -1,13 +1,14 @@
 -- Document 01's 'The chart as bytes', and of 'What the caller can send wrong' the numbers 1 to 11 and 15, in its order. A fault is its
 -- number, 0 where there is none. Definitions only.
-use Rattle.std.specs.Prelude.{ℕ, zero, suc, ◌+◌, ◌-◌, ◌*◌, ◌/◌, ◌%◌, ◌≡◌, Bool, true, false, not, cond, ◌&&◌, List, [], ◌∷◌, ◌++◌, length, get_or, set, replicate, ltb, leb, eqb, ℤ, pos, negsuc}
+use Rattle.std.specs.Prelude.{ℕ, zero, suc, ◌+◌, ◌-◌, ◌*◌, ◌/◌, ◌%◌, Bool, true, false, not, cond, ◌&&◌, Result, Ok, Err, List, [], ◌∷◌, ◌++◌, length, get_or, set, replicate, ltb, leb, eqb, ℤ, pos, negsuc}
 use Rattle.integers.specs.Range.{within}
 use Rattle.graph.specs.declared.Graph.{Graph}
-use Rattle.charts.specs.declared.Reading.{Reading}
+use Rattle.graph.specs.declared.refusals.Refused.{Refused}
 use Rattle.graph.specs.Limits.{min_vertices, max_vertices, max_edges, max_cost, max_mark, max_records}
 use Rattle.graph.specs.Edgeless.{edgeless}
 use Rattle.graph.specs.Valid.{ends_ok, pair_met, valid}
-use Rattle.charts.specs.Answers.{Outcome, accepted, refused, read_meaning}
+use Rattle.graph.specs.Refusals.{number}
+use Rattle.charts.specs.Answers.{Outcome, accepted, refused}
 
 -- ---- numbers in bytes: "Little-endian, costs in two's complement."
 
@@ -116,9 +117,10 @@ accept g = record { graph = g; outcome = accepted }
 unfoldable pub refuse : ℕ → ℕ → ReadResult
 refuse number place = record { graph = edgeless 0; outcome = refused number place }
 
--- what a reading says is this result
-abbrev pub Gives : Reading → ReadResult → Type 0
-Gives r x = (read_meaning r.answer ≡ x.outcome) × (r.graph ≡ x.graph)
+-- what a reading's answer says
+unfoldable pub read_meaning : Result Graph Refused → ReadResult
+read_meaning (Ok g) = accept g
+read_meaning (Err r) = refuse (number r.refusal) r.place
 
 -- "The chain starts at head and goes on by next; zero ends it." A refusal's place: "for 5 the head or next that is too large, for 6 to 10
 -- the record's number". "A record's next is judged after its own 7 to 10": it is the k of the next turn. The number f only makes the

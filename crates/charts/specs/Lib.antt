@@ -5,6 +5,7 @@ pub mod Answers
 -- numbers in bytes; what no fault means
 pub mod TwosComplement
 pub mod NoFault
+pub mod Records
 -- reading, a record at a time
 pub mod Appending
 pub mod ChainSteps

@@ -8,6 +8,7 @@ use Rattle.graph.specs.declared.Graph.{Graph}
 use Rattle.graph.specs.Limits.{max_edges, max_records}
 use Rattle.charts.specs.Chart.{vertices, chain_head, start_of, next_of, header_fault, record_fault, appended, with_record, accept, refuse, chain_from, chain}
 use Rattle.graph.specs.Edgeless.{edgeless}
+use Rattle.graph.specs.Refusals.{positive}
 use Rattle.charts.specs.NoFault.{HeaderOk, header_ok, RecordOk, record_ok}
 use Rattle.charts.specs.Appending.{Sound, sound-edgeless, record_room, sound_record}
 use Rattle.charts.specs.ChainSteps.{at_end, at-fault, at-step}
@@ -50,9 +51,9 @@ module _ (s : List ℕ) (met : List Bool) (g : Graph) (k : ℕ) (r : Reached s m
   pub record_place : record_fault s met g k ≡ 0 → g.m < max_edges
   record_place e = record_room s met g k r.sound (record_fine e)
 
-  pub taken-size : (g' : Graph) → g' ≡ with_record s g (start_of k) → g'.m ≡ g.m + 1
+  pub taken_size : (g' : Graph) → g' ≡ with_record s g (start_of k) → g'.m ≡ g.m + 1
   unfolding with_record appended
-  taken-size g' q = rw q
+  taken_size g' q = rw q
 
   pub reached_step : (g' : Graph) (k' : ℕ) → (k ≡ 0 → ⊥) → record_fault s met g k ≡ 0 → g' ≡ with_record s g (start_of k) → k' ≡ next_of s k
       → k' < 65536 → Reached s (set met (k - 1) true) g' k'
@@ -66,3 +67,6 @@ module _ (s : List ℕ) (met : List Bool) (g : Graph) (k : ℕ) (r : Reached s m
         sound = sound_record s met g k r.sound (record_fine e);
         rest = r.rest ∙ at-step s met g k few n e;
       })
+
+-- for the code: where the loop stands, and what it then returns or takes
+pub ruleset turns = (header_ok, positive, reached_start, reached_end, reached_fault, record_fine, record_place)

@@ -1,208 +1,173 @@
-// Reading 'the chart as bytes', with refusals 1 to 10 in document 01's order. A fault is its number, 0 where there is none.
-ghost use Rattle.std.specs.Prelude.{◌≡◌, ◌&&◌, ◌+◌, ◌*◌, ◌<◌, ◌≤◌, length, eqb};
+// Reading 'the chart as bytes', with refusals 1 to 10 in document 01's order.
+ghost use Rattle.std.specs.Prelude.{◌≡◌, ◌+◌, ◌<◌, ◌≤◌, IfOk, length};
 ghost use Rattle.graph.specs.Limits.{max_edges};
+ghost use Rattle.graph.specs.Refusals.{fault_of};
 ghost use Rattle.graph.specs.Valid.{pair_met};
-ghost use Rattle.charts.specs.Answers.{read_meaning};
 ghost use Rattle.charts.specs.Chart.{
-  cost_at,
+  u16_at,
+  start_of,
   header_fault,
-  body_fault,
   record_fault,
   appended,
-  with_record,
-  Gives,
-  accept,
-  refuse,
   chain,
+  read_meaning,
   reading,
 };
+ghost use Rattle.charts.specs.Records.{record_at, body_of};
 
-use crate::bytes::{signed, u16_at, u32_at};
-use crate::{HEADER_SIZE, MAX_RECORDS, RECORD_SIZE, ReadAnswer, Reading};
-use graph::{EXCLUDED, Graph, MAX_VERTICES, MIN_VERTICES, cost_ok, ends_ok, wide};
+use crate::{HEADER_SIZE, MAX_RECORDS, RECORD_SIZE};
+use graph::{EXCLUDED, Graph, MAX_VERTICES, MIN_VERTICES, Refusal, Refused, cost_ok, ends_ok};
 
-fn zeros(x: u8, y: u8, z: u8) -> bool
-    ensures { result ≡ eqb x 0 && (eqb y 0 && eqb z 0) }
+#[tactic(auto, unfolding(crate::specs::Chart::u16_at))]
+fn u16_at(s: &[u8], i: usize) -> u16
+    requires { i + 1 < length s.now }
+    ensures { result ≡ u16_at s.now i }
 {
-    if x != 0 {
-        return false;
-    }
-    if y != 0 {
-        return false;
-    }
-    z == 0
+    u16::from_le_bytes([s[i], s[i + 1]])
 }
 
 // Refusals 1 to 4.
-fn header_fault(s: &[u8]) -> u32
-    ensures { result ≡ header_fault s.now }
+#[tactic(auto, unfolding(crate::specs::Chart::header_fault))]
+fn header_fault(s: &[u8]) -> Result<(), Refusal>
+    ensures { fault_of result ≡ header_fault s.now }
 {
     if s.len() < HEADER_SIZE {
-        return 1;
+        return Err(Refusal::TooShort);
     }
-    let n = wide(s[0]);
-    if n < MIN_VERTICES {
-        return 2;
+    let n = usize::from(s[0]);
+    if n < MIN_VERTICES || n > MAX_VERTICES {
+        return Err(Refusal::VertexCount);
     }
-    if n > MAX_VERTICES {
-        return 2;
+    if s[1] != 0 || s[6] != 0 || s[7] != 0 {
+        return Err(Refusal::HeaderPadding);
     }
-    if !zeros(s[1], s[6], s[7]) {
-        return 3;
+    let r = usize::from(u16_at(s, 4));
+    if r > MAX_RECORDS || s.len() != HEADER_SIZE + RECORD_SIZE * r {
+        return Err(Refusal::RecordCount);
     }
-    let r = u16_at(s, 4);
-    if r > MAX_RECORDS {
-        return 4;
-    }
-    if s.len() != HEADER_SIZE + RECORD_SIZE * r {
-        return 4;
-    }
-    0
+    Ok(())
 }
 
-fn cost_at(s: &[u8], p: usize) -> i32
-    requires { p + 11 < length s.now }
-    ensures { result ≡ cost_at s.now p }
-{
-    signed(u32_at(s, p + 4))
+// A record of a file: an edge, the record after it, and the bytes that are to be zero.
+#[derive(Clone, Copy)]
+struct Record {
+    a: u8,
+    b: u8,
+    mark: u8,
+    cost: i32,
+    next: u16,
+    padding: [u8; 3],
 }
 
-// Refusals 7 to 9 of the record that starts at p.
-fn body_fault(s: &[u8], n: usize, p: usize) -> u32
-    requires { p + 11 < length s.now }
-    ensures { result ≡ body_fault s.now n p }
-{
-    if !ends_ok(n, s[p], s[p + 1]) {
-        return 7;
-    }
-    if s[p + 2] > EXCLUDED {
-        return 8;
-    }
-    if !zeros(s[p + 3], s[p + 10], s[p + 11]) {
-        return 8;
-    }
-    if !cost_ok(cost_at(s, p)) {
-        return 9;
-    }
-    0
-}
-
-fn same_pair(a: u8, b: u8, x: u8, y: u8) -> bool
-    ensures { result ≡ eqb a x && eqb b y }
-{
-    if a != x {
-        return false;
-    }
-    b == y
-}
-
-// Is the pair x, y among the first k edges?
-fn pair_met(g: Graph, k: usize, x: u8, y: u8) -> bool
-    requires { k ≤ max_edges }
-    ensures { result ≡ pair_met g.a g.b k x y }
-{
-    for i in 0..k {
-        if same_pair(g.a[i], g.b[i], x, y) {
-            return true;
+impl Record {
+    // The record that starts at p.
+    #[tactic(auto, using(crate::specs::TwosComplement::signed_word), unfolding(crate::specs::Records::record_at, crate::specs::Chart::cost_at, crate::specs::Chart::u32_at, crate::specs::Chart::u16_at))]
+    fn at(s: &[u8], p: usize) -> Record
+        requires { p + 11 < length s.now }
+        ensures { result ≡ record_at s.now p }
+    {
+        Record {
+            a: s[p],
+            b: s[p + 1],
+            mark: s[p + 2],
+            cost: i32::from_le_bytes([s[p + 4], s[p + 5], s[p + 6], s[p + 7]]),
+            next: u16::from_le_bytes([s[p + 8], s[p + 9]]),
+            padding: [s[p + 3], s[p + 10], s[p + 11]],
         }
     }
-    false
+
+    // Refusals 7 to 9.
+    #[tactic(auto, unfolding(crate::specs::Records::body_of))]
+    fn fault(&self, n: usize) -> Result<(), Refusal>
+        ensures { fault_of result ≡ body_of self.now n }
+    {
+        if !ends_ok(n, self.a, self.b) {
+            return Err(Refusal::Ends);
+        }
+        if self.mark > EXCLUDED || self.padding != [0; 3] {
+            return Err(Refusal::MarkOrPadding);
+        }
+        if !cost_ok(self.cost) {
+            return Err(Refusal::Cost);
+        }
+        Ok(())
+    }
 }
 
-// Refusals 5 to 10 of record k.
-fn record_fault(s: &[u8], met: &[bool; MAX_RECORDS], g: Graph, k: usize) -> u32
-    requires { (header_fault s.now ≡ 0) × (0 < k) × (g.m ≤ max_edges) }
-    ensures { result ≡ record_fault s.now met.now g k }
+// Is the pair x, y among the edges?
+fn pair_met(g: &Graph, x: u8, y: u8) -> bool
+    requires { g.now.m ≤ max_edges }
+    ensures { result ≡ pair_met g.now.a g.now.b g.now.m x y }
 {
-    if u16_at(s, 4) < k {
-        return 5;
+    let m = usize::from(g.m);
+    g.a[..m]
+        .iter()
+        .zip(&g.b[..m])
+        .any(|(a, b)| *a == x && *b == y)
+}
+
+// Record k, or which of refusals 5 to 10 it meets.
+#[tactic(auto, using(crate::specs::NoFault::header_ok), unfolding(crate::specs::Chart::record_fault, crate::specs::Chart::start_of))]
+fn checked(s: &[u8], met: &[bool; MAX_RECORDS], g: &Graph, k: usize) -> Result<Record, Refusal>
+    requires { (header_fault s.now ≡ 0) × (0 < k) × (g.now.m ≤ max_edges) }
+    ensures fault { fault_of result ≡ record_fault s.now met.now g.now k }
+    ensures read { IfOk result (λ r. r ≡ record_at s.now (start_of k)) }
+{
+    if usize::from(u16_at(s, 4)) < k {
+        return Err(Refusal::NoSuchRecord);
     }
     if met[k - 1] {
-        return 6;
+        return Err(Refusal::RecordAgain);
     }
-    let p = HEADER_SIZE + RECORD_SIZE * (k - 1);
-    let f = body_fault(s, wide(g.n), p);
-    if f != 0 {
-        return f;
+    let record = Record::at(s, HEADER_SIZE + RECORD_SIZE * (k - 1));
+    record.fault(usize::from(g.n))?;
+    if pair_met(g, record.a, record.b) {
+        return Err(Refusal::PairAgain);
     }
-    let m = wide(g.m);
-    if pair_met(g, m, s[p], s[p + 1]) {
-        return 10;
-    }
-    0
+    Ok(record)
 }
 
-fn append(g: Graph, x: u8, y: u8, z: i32, w: u8) -> Graph
-    requires { g.m < max_edges }
-    ensures { result ≡ appended g x y z w }
+// One edge more, a record's.
+#[tactic(auto, unfolding(crate::specs::Chart::appended))]
+fn append(g: &mut Graph, found: &Record)
+    requires { g.old.m < max_edges }
+    ensures { let r = found.now in g.new ≡ appended g.old r.a r.b r.cost r.mark }
 {
-    let mut h = g;
-    let m = wide(g.m);
-    h.a[m] = x;
-    h.b[m] = y;
-    h.cost[m] = z;
-    h.mark[m] = w;
-    h.m = g.m + 1;
-    h
-}
-
-// One edge more, that of the record that starts at p.
-fn with_record(s: &[u8], g: Graph, p: usize) -> Graph
-    requires { (p + 11 < length s.now) × (g.m < max_edges) }
-    ensures { result ≡ with_record s.now g p }
-{
-    append(g, s[p], s[p + 1], cost_at(s, p), s[p + 2])
-}
-
-fn refused(number: u32, place: u64) -> Reading
-    ensures { Gives result (refuse number place) }
-{
-    let g = Graph::empty();
-    Reading {
-        graph: g,
-        answer: ReadAnswer::Refused(number, place),
-    }
-}
-
-fn accepted(g: Graph) -> Reading
-    ensures { Gives result (accept g) }
-{
-    Reading {
-        graph: g,
-        answer: ReadAnswer::Read,
-    }
+    let m = usize::from(g.m);
+    g.a[m] = found.a;
+    g.b[m] = found.b;
+    g.mark[m] = found.mark;
+    g.cost[m] = found.cost;
+    g.m += 1;
 }
 
 // The records along the chain, of a file whose header has no fault.
-fn follow(s: &[u8]) -> Reading
+#[tactic(auto, using(crate::specs::ReadLoop::turns), unfolding(crate::specs::Chart::start_of, crate::specs::Chart::next_of, crate::specs::Chart::read_meaning))]
+fn follow(s: &[u8]) -> Result<Graph, Refused>
     requires { header_fault s.now ≡ 0 }
-    ensures { Gives result (chain s.now) }
+    ensures { read_meaning result ≡ chain s.now }
 {
     let mut met = [false; MAX_RECORDS];
     let mut g = Graph::edgeless(s[0]);
-    let mut k = u16_at(s, 2);
+    let mut k = usize::from(u16_at(s, 2));
     while k != 0 {
-        let f = record_fault(s, &met, g, k);
-        if f != 0 {
-            return refused(f, k as u64);
-        }
+        let found = checked(s, &met, &g, k).map_err(|refusal| Refused {
+            refusal,
+            place: k as u64,
+        })?;
         met[k - 1] = true;
-        let p = HEADER_SIZE + RECORD_SIZE * (k - 1);
-        g = with_record(s, g, p);
-        k = u16_at(s, p + 8);
+        append(&mut g, &found);
+        k = usize::from(found.next);
     }
-    accepted(g)
+    Ok(g)
 }
 
-// The graph of a file, or the first refusal of 1 to 10 that applies, with its place and the empty graph.
-// Ruled out: a chain that meets a record again read as a graph; a graph given with a byte left past its edges, or beside a refusal.
-pub fn read(bytes: &[u8]) -> Reading
-    ensures { (read_meaning result.answer ≡ (reading bytes.now).outcome)
-        × (result.graph ≡ (reading bytes.now).graph) }
+// The graph of a file, or the first refusal of 1 to 10 that applies, with its place.
+// Ruled out: a chain that meets a record again read as a graph; a graph given with a byte left past its edges.
+#[tactic(auto, using(graph::specs::Refusals::positive), unfolding(crate::specs::Chart::reading, crate::specs::Chart::read_meaning))]
+pub fn read(bytes: &[u8]) -> Result<Graph, Refused>
+    ensures { read_meaning result ≡ reading bytes.now }
 {
-    let f = header_fault(bytes);
-    if f != 0 {
-        return refused(f, 0);
-    }
+    header_fault(bytes)?;
     follow(bytes)
 }

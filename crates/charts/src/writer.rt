@@ -1,7 +1,7 @@
 // Writing 'the chart as bytes': edge k in record k.
-ghost use Rattle.std.specs.Prelude.{◌≡◌, [], ◌∷◌, ◌+◌, ◌*◌, ◌<◌, ◌≤◌, length};
-ghost use Rattle.std.proofs.lemmas.List.Edits.{sets};
+ghost use Rattle.std.specs.Prelude.{◌≡◌, ◌+◌, ◌*◌, ◌<◌, ◌≤◌, length};
 ghost use Rattle.graph.specs.Limits.{max_edges};
+ghost use Rattle.graph.specs.Refusals.{fault_of};
 ghost use Rattle.charts.specs.Answers.{write_meaning};
 ghost use Rattle.charts.specs.Chart.{
   after,
@@ -13,94 +13,72 @@ ghost use Rattle.charts.specs.Chart.{
   write_leaves,
 };
 
-use crate::bytes::{bits, low};
-use crate::{HEADER_SIZE, RECORD_SIZE, WriteAnswer};
-use graph::{Graph, check, wide};
+use crate::{HEADER_SIZE, RECORD_SIZE};
+use graph::{Graph, Refusal};
 
-fn after(k: usize, m: usize) -> usize
+#[tactic(auto, unfolding(crate::specs::Chart::after))]
+fn after(k: u8, m: u8) -> u8
     ensures { result ≡ after k m }
 {
-    if k < m {
-        return k + 1;
-    }
-    0
+    if k < m { k + 1 } else { 0 }
 }
 
-fn put4(out: &mut [u8], i: usize, x: u8, y: u8, z: u8, w: u8)
-    requires { i + 3 < length out.old }
-    ensures { out.new ≡ sets out.old i (x ∷ y ∷ z ∷ w ∷ []) }
+#[tactic(auto, unfolding(crate::specs::Chart::header_bytes))]
+fn header(g: &Graph) -> [u8; HEADER_SIZE]
+    ensures { result ≡ header_bytes g.now.n g.now.m }
 {
-    out[i] = x;
-    out[i + 1] = y;
-    out[i + 2] = z;
-    out[i + 3] = w;
-}
-
-fn put_header(out: &mut [u8], n: usize, m: usize)
-    requires { (n < 256) × (7 < length out.old) }
-    ensures { out.new ≡ sets out.old 0 (header_bytes n m) }
-{
-    let h = after(0, m);
-    put4(out, 0, low(n), 0, low(h), low(h / 256));
-    put4(out, 4, low(m), low(m / 256), 0, 0);
+    let head = u16::from(after(0, g.m)).to_le_bytes();
+    let count = u16::from(g.m).to_le_bytes();
+    [g.n, 0, head[0], head[1], count[0], count[1], 0, 0]
 }
 
 // Edge k + 1.
-fn put_record(out: &mut [u8], g: Graph, k: usize)
-    requires { (k < max_edges) × (19 + 12 * k < length out.old) }
-    ensures { out.new ≡ sets out.old (8 + 12 * k) (record_bytes g k) }
+#[tactic(auto, using(crate::specs::TwosComplement::bits_word), unfolding(crate::specs::Chart::record_bytes))]
+fn record(g: &Graph, k: u8) -> [u8; RECORD_SIZE]
+    requires { k < max_edges }
+    ensures { result ≡ record_bytes g.now k }
 {
-    let p = HEADER_SIZE + RECORD_SIZE * k;
-    let c = bits(g.cost[k]);
-    let t = after(k + 1, wide(g.m));
-    put4(out, p, g.a[k], g.b[k], g.mark[k], 0);
-    put4(
-        out,
-        p + 4,
-        low(c),
-        low(c / 256),
-        low(c / 65536),
-        low(c / 16777216),
-    );
-    put4(out, p + 8, low(t), low(t / 256), 0, 0);
+    let i = usize::from(k);
+    let cost = g.cost[i].to_le_bytes();
+    let next = u16::from(after(k + 1, g.m)).to_le_bytes();
+    [
+        g.a[i], g.b[i], g.mark[i], 0, cost[0], cost[1], cost[2], cost[3], next[0], next[1], 0, 0,
+    ]
 }
 
-fn put_all(out: &mut [u8], g: Graph)
-    requires { (g.n < 256) × (g.m ≤ max_edges) × (length out.old ≡ 8 + 12 * g.m) }
-    ensures { out.new ≡ file_bytes g }
+fn put_all(g: &Graph, out: &mut [u8])
+    requires { (g.now.m ≤ max_edges) × (length out.old ≡ 8 + 12 * g.now.m) }
+    ensures { out.new ≡ file_bytes g.now }
 {
-    let n = wide(g.n);
-    let m = wide(g.m);
-    put_header(out, n, m);
-    for k in 0..m {
-        put_record(out, g, k);
+    out[..HEADER_SIZE].copy_from_slice(&header(g));
+    for k in 0..g.m {
+        let p = HEADER_SIZE + RECORD_SIZE * usize::from(k);
+        out[p..p + RECORD_SIZE].copy_from_slice(&record(g, k));
     }
 }
 
 // Refusals 15 and 11.
-fn write_fault(g: Graph, len: usize) -> u32
-    ensures { result ≡ write_fault g len }
+#[tactic(auto, unfolding(crate::specs::Chart::write_fault))]
+fn write_fault(g: &Graph, len: usize) -> Result<(), Refusal>
+    ensures { fault_of result ≡ write_fault g.now len }
 {
-    if !check(g) {
-        return 15;
+    if !g.check() {
+        return Err(Refusal::Graph);
     }
-    let m = wide(g.m);
-    if len != HEADER_SIZE + RECORD_SIZE * m {
-        return 11;
+    if len != HEADER_SIZE + RECORD_SIZE * usize::from(g.m) {
+        return Err(Refusal::Length);
     }
-    0
+    Ok(())
 }
 
 // The graph as bytes, in a list of just the right length; on a refusal the list stays as it was.
 // Ruled out: a byte written beside a refusal; a last record whose next leads anywhere but to 0.
-pub fn write(g: Graph, out: &mut [u8]) -> WriteAnswer
-    ensures { (write_meaning result ≡ write_outcome g (length out.old))
-        × (out.new ≡ write_leaves g out.old) }
+#[tactic(auto, using(crate::specs::NoFault::write_ok, graph::specs::Refusals::positive), unfolding(crate::specs::Chart::write_outcome, crate::specs::Chart::write_leaves, crate::specs::Answers::write_meaning))]
+pub fn write(g: &Graph, out: &mut [u8]) -> Result<(), Refusal>
+    ensures { (write_meaning result ≡ write_outcome g.now (length out.old))
+        × (out.new ≡ write_leaves g.now out.old) }
 {
-    let f = write_fault(g, out.len());
-    if f != 0 {
-        return WriteAnswer::Refused(f, 0);
-    }
-    put_all(out, g);
-    WriteAnswer::Written
+    write_fault(g, out.len())?;
+    put_all(g, out);
+    Ok(())
 }

@@ -1,13 +1,20 @@
--- A list in which every number is at most a limit, as a loop finds it. Assumes nothing.
-use Rattle.std.specs.Prelude.{◌≡◌, true, false, length, get_or}
-use Rattle.std.proofs.Math.Path.{refl}
+-- A list in which every number is at most a limit, as std tests it and place by place. Assumes nothing.
+use Rattle.std.specs.Prelude.{◌≡◌, Bool, true, ◌&&◌, get_or}
+use Rattle.std.specs.List.{list_all}
+use Rattle.std.proofs.Math.Path.{refl, ap}
 use Rattle.std.proofs.Common.{arith}
 use mathlib.Core.List.{List, [], ◌∷◌}
-use Prim.Native.Nat.{ℕ, zero, suc, ◌≤◌, ◌<◌}
+use Prim.Native.Nat.{ℕ, zero, suc}
 use Rattle.std.proofs.Math.Dec.{leb}
-use borrow.Author.Tests.{le-leb, leb-true}
-use Rattle.lists.specs.Bools.{by_cases, and_both}
+use borrow.Author.Tests.{le-leb}
+use Rattle.lists.specs.Bools.{and_both}
 use Rattle.lists.specs.All.{every_of}
+
+-- std's word for it
+pub every_is : {A : Type 0} (f : A → Bool) (xs : List A) → every_of f xs ≡ list_all f xs
+unfolding every_of
+every_is f [] = refl
+every_is f (x ∷ xs) = ap (λ (b : Bool). f x && b) (every_is f xs)
 
 module _ (limit : ℕ) where
   -- past the end stands 0
@@ -16,14 +23,3 @@ module _ (limit : ℕ) where
   every_at [] h i = le-leb 0 limit (omega arith)
   every_at (x ∷ xs) h zero = (and_both (leb x limit) (every_of (λ y. leb y limit) xs) h).0
   every_at (x ∷ xs) h (suc i) = every_at xs (and_both (leb x limit) (every_of (λ y. leb y limit) xs) h).1 i
-
-  pub at_every : (xs : List ℕ) → ((i : ℕ) → i < length xs → get_or xs i 0 ≤ limit) → every_of (λ x. leb x limit) xs ≡ true
-  unfolding every_of
-  at_every [] h = refl
-  at_every (x ∷ xs) h = rw (le-leb x limit (h 0 (omega arith)), at_every xs (λ i l. h (suc i) (omega arith)))
-
-  pub above-one : (xs : List ℕ) (i : ℕ) → limit < get_or xs i 0 → every_of (λ x. leb x limit) xs ≡ false
-  above-one xs i h =
-      by_cases (every_of (λ x. leb x limit) xs)
-      (λ t. absurd (omega (arith, leb-true (get_or xs i 0) limit (every_at xs t i))))
-      (λ t. t)

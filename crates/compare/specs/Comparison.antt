@@ -1,9 +1,11 @@
 -- WHAT A COMPARISON ANSWERS, and what it leaves in the lent report, for every input: document 02's C-21, by the machine's answers to an opening
 -- and one run. Definitions only. (Its words: hunt for search, dues for multipliers, allowance for budget.)
-use Rattle.std.specs.Prelude.{Bool, true, false, not, cond, ◌&&◌, List, ℕ, zero, suc, eqb, leb, length, get_or, ℤ}
+use Rattle.std.specs.Prelude.{Bool, true, false, not, cond, ◌&&◌, List, ℕ, zero, suc, eqb, leb, length, get_or, ℤ, Result, Ok, Err}
 use Rattle.lists.specs.All.{every_of}
 use Rattle.lists.specs.Fill.{fill}
 use Rattle.graph.specs.declared.Graph.{Graph}
+use Rattle.graph.specs.declared.refusals.Refusal.{Refusal}
+use Rattle.graph.specs.Refusals.{number}
 use Rattle.graph.specs.Limits.{max_sweeps, max_step}
 use Rattle.graph.specs.Valid.{valid}
 use Rattle.tree_theory.specs.Inputs.{multipliers_fit, ceiling_fits, denominator_fault}
@@ -11,8 +13,6 @@ use Rattle.machine.specs.Machine.{Opening, no_search}
 use Rattle.machine.specs.Calls.{opens, run, refused, accepted, runs, tells, step}
 use Rattle.machine.specs.Calls as machine
 use Rattle.search.specs.Record.{opening_of}
-use Rattle.search.specs.declared.Answer.{Answer}
-use Rattle.search.specs.declared.Answer.TheVariants.{Refused, Accepted}
 use Rattle.compare.specs.declared.Terms.{Terms}
 
 -- "up to 16 pairs of sweeps and step"
@@ -71,11 +71,16 @@ compare_fault g d ceiling q sweeps steps report =
 
 -- ---- the answer, and the report as it is left
 
-abbrev pub answer_by : ℕ → Answer
-answer_by zero = Accepted
-answer_by (suc f) = Refused (suc f) 0
+abbrev pub answer_by : ℕ → machine.Answer
+answer_by zero = accepted
+answer_by (suc f) = refused (suc f) 0
 
-unfoldable pub compare_reply : Graph → List ℤ → Terms → List ℕ → List ℕ → ℕ → Answer
+-- what the code's answer means
+abbrev pub meaning : Result (Unit {0}) Refusal → machine.Answer
+meaning (Ok done) = accepted
+meaning (Err r) = refused (number r) 0
+
+unfoldable pub compare_reply : Graph → List ℤ → Terms → List ℕ → List ℕ → ℕ → machine.Answer
 unfolding compare_fault
 compare_reply g d terms sweeps steps report = answer_by (compare_fault g d terms.ceiling terms.denominator sweeps steps report)
 

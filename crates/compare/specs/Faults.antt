@@ -10,8 +10,7 @@ use Rattle.graph.specs.declared.Graph.{Graph}
 use Rattle.graph.specs.Limits.{max_sweeps, max_step}
 use Rattle.graph.specs.Valid.{valid}
 use Rattle.tree_theory.specs.Inputs.{multipliers_fit, ceiling_fits, denominator_fault}
-use Rattle.machine.specs.Calls.{fault}
-use Rattle.search.specs.declared.Answer.TheVariants.{Refused, Accepted}
+use Rattle.machine.specs.Calls.{refused, accepted, fault}
 use Rattle.compare.specs.AtMost.{every_at}
 use Rattle.compare.specs.declared.Terms.{Terms}
 use Rattle.compare.specs.Comparison.{max_pairs, counts, pair_opening, pairs_fit, settings_fit, compare_fault, answer_by, compare_reply, left_by, compare_leaves}
@@ -110,11 +109,11 @@ pair_accepted g d ceiling q sweeps steps report none i =
 
 module _ (g : Graph) (d : List ℤ) (terms : Terms) (sweeps steps : List ℕ) where
   pub reply-refused : (report f : ℕ) → compare_fault g d terms.ceiling terms.denominator sweeps steps report ≡ f → ¬ (f ≡ 0)
-      → compare_reply g d terms sweeps steps report ≡ Refused f 0
+      → compare_reply g d terms sweeps steps report ≡ refused f 0
   unfolding compare_reply
   reply-refused report f is h = rw is (go f h)
     where
-      go : (f : ℕ) → ¬ (f ≡ 0) → answer_by f ≡ Refused f 0
+      go : (f : ℕ) → ¬ (f ≡ 0) → answer_by f ≡ refused f 0
       go zero h = absurd (h refl)
       go (suc f) h = refl
 
@@ -128,7 +127,7 @@ module _ (g : Graph) (d : List ℤ) (terms : Terms) (sweeps steps : List ℕ) wh
       go (suc f) h = refl
 
   pub reply_accepted : (report : ℕ) → compare_fault g d terms.ceiling terms.denominator sweeps steps report ≡ 0
-      → compare_reply g d terms sweeps steps report ≡ Accepted
+      → compare_reply g d terms sweeps steps report ≡ accepted
   unfolding compare_reply
   reply_accepted report is = rw is
 

@@ -1,8 +1,10 @@
 -- The replies, case by case, as the code of the calls goes: from what is seen of the places to what the dispatcher's machine does. Assumes
 -- nothing.
 use Rattle.std.proofs.Math.Path.{◌≡◌, refl, sym, ap}
-use Rattle.std.proofs.Common.{◌∙◌, subst}
-use Rattle.std.specs.Prelude.{Bool, ◌&&◌, length}
+use Rattle.std.proofs.Common.{◌∙◌, subst, ne_eqb, le-leb, true≢false, ext_get_or}
+use Rattle.std.proofs.lemmas.Bool.{false≢true, lt-leb}
+use Rattle.std.specs.Prelude.{Bool, ◌&&◌, ◌||◌, length, Some, Ok, Err}
+use Rattle.std.specs.List.{list_any}
 use Rattle.std.proofs.Math.Bool.{true, false, not, cond}
 use mathlib.Core.List.{List, [], ◌∷◌, map}
 use Prim.Native.Nat.{ℕ, zero, suc, ◌-◌, ◌≤◌, ◌<◌}
@@ -10,48 +12,110 @@ use native.Mathlib.Omega.{arith}
 use Rattle.std.proofs.Math.Dec.{eqb, leb}
 use Rattle.std.proofs.Math.ListN.{get_or, set, length-map, get_or-map}
 use Rattle.lists.specs.All.{every_of}
-use Rattle.lists.specs.Bools.{and_both}
+use Rattle.lists.specs.Bools.{by_cases, and_both}
+use Rattle.graph.specs.declared.refusals.Refusal.{Refusal}
+use Rattle.graph.specs.declared.refusals.Refusal.TheVariants.{Record}
+use Rattle.graph.specs.Refusals.{number, number-injective}
 use Rattle.graph.specs.Network.{network}
 use Rattle.machine.specs.Outcomes.{Incumbent, no_tour, a_tour}
 use Rattle.machine.specs.Machine.{Opening, State, no_search, searching, finished}
 use Rattle.machine.specs.Calls as calls
-use Rattle.machine.specs.Calls.{Verdict, going_on, none, best, tell, step, verdict, verdict_of}
+use Rattle.machine.specs.Calls.{Verdict, going_on, none, best, refused, tells, tell, step, verdict, verdict_of}
 use Rattle.search.specs.Record.{fresh, decode, encode}
-use Rattle.search.specs.Check.{check, check_is}
-use Rattle.search.specs.Inverse.{Typed, encode-decode}
+use Rattle.search.specs.Check.{check}
 use Rattle.search.specs.Replies as search
-use Rattle.search.specs.Theorem.{means-said}
+use Rattle.search.specs.Replies.{means}
+use Rattle.machine.specs.Refusals.{refused-leaves}
 use Rattle.search.specs.declared.Search.{Search}
-use Rattle.search.specs.declared.Answer.TheVariants.{Refused}
-use Rattle.search.specs.declared.Outcome as search-outcome
-use Rattle.lent_records.specs.Places.{is_name, name_range, under, put, under-map, map-put}
+use Rattle.search.specs.declared.Said as search-said
+use Rattle.search.specs.declared.Said.TheVariants.{Accepted, GoingOn, Searching, NoTour, Best}
+use Rattle.search.specs.declared.Said.TheVariants.{Finished as Done}
+use Rattle.lent_records.specs.Places.{is_name, under, put, under-map, map-put}
 use Rattle.lent_records.specs.Every.{Every, every_back}
 use Rattle.lent_records.specs.Records as records
 use Rattle.lent_records.specs.Records.{lent_on}
 use Rattle.dispatch_theory.specs.Dispatcher as theory
-use Rattle.dispatch_theory.specs.Dispatcher.{DispatchCall, add, turn, tell_at, show_at, close_at, Route, nowhere, to, following, first_after}
+use Rattle.dispatch_theory.specs.Dispatcher.{DispatchCall, Response, placed, served, idle, said, add, turn, tell_at, show_at, close_at, Route, nowhere, to, following, first_after}
 use Rattle.dispatch_theory.specs.Dispatcher.{state_at, is_held, waits, free_place, next_place, place_fault, routed, places_by, last_by, dispatch_next, dispatch_answer, dispatch_lent}
-use Rattle.dispatch_theory.specs.Alone.{following_range}
+use Rattle.dispatch_theory.specs.Alone.{following_range, first_range}
 use Rattle.dispatch_theory.specs.Fairness.{still}
 use Rattle.dispatch_theory.specs.Records.{encode_all, decode_all, check_all}
 use Rattle.dispatcher.specs.Searches.{machine, held, made, codec}
-use Rattle.dispatcher.specs.Replies.{Call, form, said, refuses, reply, lent}
-use Rattle.dispatcher.specs.Seen.{seen_by, seen_in, Surveyed, sound, is_at, place_fault_by, fault_by}
-use Rattle.dispatcher.specs.Scanning.{any_default}
+use Rattle.dispatcher.specs.Replies.{Call, form, refuses, reply, lent}
+use Rattle.dispatcher.specs.Seen.{seen_of, seen_in, kind, is_at, place_of, Again, Laid, passes, state, held_fault}
+use Rattle.dispatcher.specs.Scanning.{any_default, set_same, place_some}
 use Rattle.dispatcher.specs.Steady.{steady}
 use Rattle.dispatcher.specs.declared.Dispatcher.{Dispatcher}
-use Rattle.dispatcher.specs.declared.Answer.{Answer}
-use Rattle.dispatcher.specs.declared.Answer.TheVariants.{Placed, Served, Idle, OfSearch}
+use Rattle.dispatcher.specs.declared.survey.Seen.{Seen}
+use Rattle.dispatcher.specs.declared.survey.Seen.TheVariants.{Broken, Empty, Waiting, Finished}
 
--- ---- one place
+-- ---- one place, by what telling its record answers
 
--- what a state is seen as
-abbrev seen_of : State → ℕ
-seen_of no_search = 1
-seen_of (searching p) = cond (finished p) 3 2
+-- what is told of a search
+abbrev pub seen_by : search-said.Said → Seen
+seen_by Accepted = Finished
+seen_by (GoingOn n) = Finished
+seen_by (Done n) = Finished
+seen_by (Searching n) = Waiting
+seen_by (NoTour n) = Finished
+seen_by (Best c n) = Finished
 
--- the search's call, where its record passes its check
-answer_is : (s : Search) (c : calls.Call) → check s ≡ true → (search.reply s c).answer ≡ search.said (step (decode s) c).answer
+abbrev verdict_seen : Verdict → Seen
+verdict_seen going_on = Waiting
+verdict_seen none = Finished
+verdict_seen (best c) = Finished
+
+told_by : (x : search-said.Said) (v : Verdict) (n : ℕ) → means (Ok x) ≡ tells v n → seen_by x ≡ verdict_seen v
+told_by Accepted v n e = cc
+told_by (GoingOn m) v n e = cc
+told_by (Done m) v n e = cc
+told_by (Searching m) going_on n e = refl
+told_by (Searching m) none n e = cc
+told_by (Searching m) (best c) n e = cc
+told_by (NoTour m) going_on n e = cc
+told_by (NoTour m) none n e = refl
+told_by (NoTour m) (best c) n e = refl
+told_by (Best d m) going_on n e = cc
+told_by (Best d m) none n e = refl
+told_by (Best d m) (best c) n e = refl
+
+pub none_told : (x : search-said.Said) (k p : ℕ) → means (Ok x) ≡ refused k p → ⊥
+none_told Accepted k p e = cc
+none_told (GoingOn m) k p e = cc
+none_told (Done m) k p e = cc
+none_told (Searching m) k p e = cc
+none_told (NoTour m) k p e = cc
+none_told (Best d m) k p e = cc
+
+state-told : (st : State) (x : search-said.Said) → means (Ok x) ≡ (step st tell).answer → seen_by x ≡ seen_of st
+unfolding step verdict
+state-told no_search x e = absurd (none_told x 20 0 e)
+state-told (searching p) x e = told_by x _ p.count e ∙ go (finished p) p.incumbent
+  where
+    go : (b : Bool) (i : Incumbent (List Bool)) → verdict_seen (cond b (verdict_of (network p.opening.graph) i) going_on) ≡ cond b Finished Waiting
+    go true no_tour = refl
+    go true (a_tour r) = refl
+    go false i = refl
+
+told_refused : (v : Verdict) (n k p : ℕ) → refused k p ≡ tells v n → ⊥
+told_refused v n k p e = cc
+
+state-refused : (st : State) (r : Refusal) → means (Err r) ≡ (step st tell).answer → (seen_of st ≡ Empty) × (number r ≡ 20)
+unfolding step
+state-refused no_search r e = (refl, cc)
+state-refused (searching p) r e = absurd (told_refused (verdict p) p.count (number r) 0 e)
+
+-- an answer that is none of a refusal is accepted
+pub told_accepted : (x : search-said.Said) → calls.is_accepted (means (Ok x)) ≡ true
+told_accepted Accepted = refl
+told_accepted (GoingOn n) = refl
+told_accepted (Done n) = refl
+told_accepted (Searching n) = refl
+told_accepted (NoTour n) = refl
+told_accepted (Best c n) = refl
+
+-- the search's call, where its record passes its check, and where it does not
+answer_is : (s : Search) (c : calls.Call) → check s ≡ true → (search.reply s c).answer ≡ (step (decode s) c).answer
 unfolding search.reply
 answer_is s c e = rw e
 
@@ -63,62 +127,103 @@ list_is : (s : Search) (c : calls.Call) → check s ≡ true → search.lent s c
 unfolding search.lent
 list_is s c e = rw e
 
-told_is : (st : State) → seen_by (search.said (step st tell).answer) ≡ seen_of st
-unfolding step verdict
-told_is no_search = refl
-told_is (searching p) = go (finished p) p.incumbent
-  where
-    go : (b : Bool) (i : Incumbent (List Bool))
-        → seen_by (search.said (calls.tells (cond b (verdict_of (network p.opening.graph) i) going_on) p.count)) ≡ cond b 3 2
-    go true no_tour = refl
-    go true (a_tour r) = refl
-    go false i = refl
+failing : (s : Search) → check s ≡ false → (search.reply s tell).answer ≡ refused 24 0
+unfolding search.reply
+failing s e = rw e
 
-seen_passes : (s : Search) → check s ≡ true → seen_in s ≡ seen_of (decode s)
-unfolding seen_in
-seen_passes s e = ap seen_by (answer_is s tell e) ∙ told_is (decode s)
+module _ (s : Search) where
+  pub told : (x : search-said.Said) → means (Ok x) ≡ (search.reply s tell).answer → seen_by x ≡ seen_in s
+  unfolding seen_in
+  told x e =
+      by_cases (check s)
+      (λ p. rw p (state-told (decode s) x (e ∙ answer_is s tell p)))
+      (λ p. absurd (none_told x 24 0 (e ∙ failing s p)))
 
-seen_fails : (s : Search) → check s ≡ false → seen_in s ≡ 0
-unfolding seen_in search.reply
-seen_fails s e = rw e
+  pub told_broken : means (Err Record) ≡ (search.reply s tell).answer → Broken ≡ seen_in s
+  unfolding seen_in
+  told_broken e =
+      by_cases (check s)
+      (λ p. absurd (let z : ◌≡◌ {A = ℕ} 24 20 = (state-refused (decode s) Record (e ∙ answer_is s tell p)).1 in omega arith))
+      (λ p. rw p)
 
-not_broken : (st : State) → not (eqb (seen_of st) 0) ≡ true
-not_broken no_search = refl
-not_broken (searching p) = go (finished p)
-  where
-    go : (b : Bool) → not (eqb (cond b 3 2) 0) ≡ true
-    go true = refl
-    go false = refl
+  pub told_empty : (r : Refusal) → means (Err r) ≡ (search.reply s tell).answer → ¬ (r ≡ Record) → Empty ≡ seen_in s
+  unfolding seen_in
+  told_empty r e n =
+      by_cases (check s)
+      (λ p. rw p (sym (state-refused (decode s) r (e ∙ answer_is s tell p)).0))
+      (λ p. let same : means (Err r) ≡ refused 24 0 = e ∙ failing s p in absurd (n (number-injective r Record cc)))
 
-seen_sound : (s : Search) → not (eqb (seen_in s) 0) ≡ check s
-seen_sound s = go (check s) refl
-  where
-    go : (b : Bool) → check s ≡ b → not (eqb (seen_in s) 0) ≡ b
-    go true e = ap (λ (x : ℕ). not (eqb x 0)) (seen_passes s e) ∙ not_broken (decode s)
-    go false e = ap (λ (x : ℕ). not (eqb x 0)) (seen_fails s e)
+  -- telling leaves the record, so that it is that of its state
+  pub told_again : s ≡ (search.reply s tell).search → Again s
+  told_again e p = sym (e ∙ left_is s tell p ∙ ap encode (steady.tells (decode s)))
 
-seen_held : (st : State) → held.is_open st ≡ not (eqb (seen_of st) 1)
+  -- what is seen of a record that passes
+  seen_passes : check s ≡ true → seen_in s ≡ seen_of (decode s)
+  unfolding seen_in
+  seen_passes e = rw e
+
+  seen_broken : eqb (kind (seen_in s)) 0 ≡ not (check s)
+  unfolding seen_in
+  seen_broken = by_cases (check s) (λ p. rw p (unbroken (decode s))) (λ p. rw p)
+    where
+      unbroken : (st : State) → eqb (kind (seen_of st)) 0 ≡ false
+      unbroken no_search = refl
+      unbroken (searching p) = by_cases (finished p) (λ f. rw f) (λ f. rw f)
+
+-- of a state
+seen_held : (st : State) → held.is_open st ≡ not (eqb (kind (seen_of st)) 1)
 seen_held no_search = refl
-seen_held (searching p) = go (finished p)
-  where
-    go : (b : Bool) → true ≡ not (eqb (cond b 3 2) 1)
-    go true = refl
-    go false = refl
+seen_held (searching p) = by_cases (finished p) (λ f. rw f) (λ f. rw f)
 
-seen_waits : (st : State) → held.is_open st && not (made.finished st) ≡ eqb (seen_of st) 2
+seen_waits : (st : State) → held.is_open st && not (made.finished st) ≡ eqb (kind (seen_of st)) 2
 seen_waits no_search = refl
-seen_waits (searching p) = go (finished p)
-  where
-    go : (b : Bool) → true && not b ≡ eqb (cond b 3 2) 2
-    go true = refl
-    go false = refl
+seen_waits (searching p) = by_cases (finished p) (λ f. rw f) (λ f. rw f)
+
+pub kind-injective : (a b : Seen) → kind a ≡ kind b → a ≡ b
+kind-injective Broken Broken e = refl
+kind-injective Broken Empty e = absurd (omega arith)
+kind-injective Broken Waiting e = absurd (omega arith)
+kind-injective Broken Finished e = absurd (omega arith)
+kind-injective Empty Broken e = absurd (omega arith)
+kind-injective Empty Empty e = refl
+kind-injective Empty Waiting e = absurd (omega arith)
+kind-injective Empty Finished e = absurd (omega arith)
+kind-injective Waiting Broken e = absurd (omega arith)
+kind-injective Waiting Empty e = absurd (omega arith)
+kind-injective Waiting Waiting e = refl
+kind-injective Waiting Finished e = absurd (omega arith)
+kind-injective Finished Broken e = absurd (omega arith)
+kind-injective Finished Empty e = absurd (omega arith)
+kind-injective Finished Waiting e = absurd (omega arith)
+kind-injective Finished Finished e = refl
 
 -- ---- lists
 
-every_sound : (l : List Search) → every_of (λ x. not (eqb x 0)) (map seen_in l) ≡ every_of check l
+-- one is broken where not every one passes
+pub some_broken : (l : List Search) → list_any (λ x. eqb (kind x) 0) (map seen_in l) ≡ not (every_of check l)
 unfolding every_of
-every_sound [] = refl
-every_sound (s ∷ l) = rw (seen_sound s, every_sound l)
+some_broken [] = refl
+some_broken (s ∷ l) = rw (seen_broken s, some_broken l) (either (check s) (every_of check l))
+  where
+    either : (b c : Bool) → not b || not c ≡ not (b && c)
+    either true c = refl
+    either false c = refl
+
+-- what is seen of all eight, place by place
+pub seen_all : (seen : List Seen) (l : List Search) → length seen ≡ 8 → length l ≡ 8
+    → ((j : ℕ) → j < 8 → get_or seen j Broken ≡ seen_in (get_or l j fresh)) → seen ≡ map seen_in l
+seen_all seen l e g h =
+    ext_get_or Broken seen (map seen_in l) (e ∙ sym (length-map l seen_in ∙ g))
+    (λ j b. let c : j < 8 = omega arith in
+    h j c ∙ sym (get_or-map seen_in l j fresh) ∙ any_default (map seen_in l) j (seen_in fresh) Broken (omega (arith, length-map l seen_in)))
+
+-- a test that tells whether it is a broken one
+pub broken_test : (x : Seen) (b : Bool) → (b ≡ true → x ≡ Broken) → (b ≡ false → ¬ (x ≡ Broken)) → b ≡ eqb (kind x) 0
+broken_test x true t f = rw (t refl)
+broken_test Broken false t f = absurd (f refl refl)
+broken_test Empty false t f = refl
+broken_test Waiting false t f = refl
+broken_test Finished false t f = refl
 
 every_from : {A : Type 0} (P : A → Type 0) (z : A) (l : List A) → ((i : ℕ) → i < length l → P (get_or l i z)) → Every P l
 every_from P z [] h = tt
@@ -138,333 +243,426 @@ first-same t u h (suc n) l =
     let r = following_range l in
     rw (h (following l) r.0 r.1, first-same t u h n (following l))
 
+-- a place that was found
+pub record Chosen (t : ℕ → Bool) (l k : ℕ) : Type 0 where
+  pub is : first_after t 8 l ≡ k
+  pub low : 1 ≤ k
+  pub high : k ≤ 8
+
+pub chosen : (t : ℕ → Bool) (l k : ℕ) → Some k ≡ place_of (first_after t 8 l) → Chosen t l k
+chosen t l k e =
+    let r = place_some (first_after t 8 l) k e in
+    record { is = r.0; low = r.1; high = omega (arith, r.0, first_range t 8 l) }
+
 decode-fresh : decode fresh ≡ no_search
 unfolding decode fresh
 decode-fresh = refl
 
-put-at : {A : Type 0} (l : List A) (k : ℕ) (v : A) → 1 ≤ k → set l (k - 1) v ≡ put l k v
-unfolding put
-put-at l zero v h = absurd (omega arith)
-put-at l (suc k) v h = ap (λ (i : ℕ). set l i v) (omega arith)
+-- ---- 24
 
-module _ (d : Dispatcher) (seen : List ℕ) (h : Surveyed d seen) where
-  pub sound_is : sound d.last seen ≡ check_all held made codec form d
+module _ (d : Dispatcher) where
+  pub passes_is : passes d ≡ leb d.last 8 && every_of check d.places
   unfolding check_all
-  sound_is = ap (λ (l : List ℕ). leb d.last 8 && every_of (λ x. not (eqb x 0)) l) h.each ∙ ap (λ (b : Bool). leb d.last 8 && b) (every_sound d.places)
+  passes_is = refl
 
-  module _ (e : sound d.last seen ≡ false) where
-    pub reply_24 : (c : Call) → reply d c ≡ refuses d 24
+  -- by what is seen of the places
+  pub last-high : 8 < d.last → passes d ≡ false
+  last-high l = passes_is ∙ rw (lt-leb d.last 8 l)
+
+  module _ (seen : List Seen) (s : seen ≡ map seen_in d.places) where
+    broken_is : list_any (λ x. eqb (kind x) 0) seen ≡ not (every_of check d.places)
+    broken_is = ap (λ (l : List Seen). list_any (λ x. eqb (kind x) 0) l) s ∙ some_broken d.places
+
+    pub one_broken : list_any (λ x. eqb (kind x) 0) seen ≡ true → passes d ≡ false
+    one_broken t = passes_is ∙ rw (some (every_of check d.places) (sym broken_is ∙ t)) (nothing (leb d.last 8))
+      where
+        some : (b : Bool) → not b ≡ true → b ≡ false
+        some true e = absurd (false≢true e)
+        some false e = refl
+
+        nothing : (b : Bool) → b && false ≡ false
+        nothing true = refl
+        nothing false = refl
+
+    pub none_broken : d.last ≤ 8 → list_any (λ x. eqb (kind x) 0) seen ≡ false → passes d ≡ true
+    none_broken l t = passes_is ∙ rw (le-leb d.last 8 l) (all (every_of check d.places) (sym broken_is ∙ t))
+      where
+        all : (b : Bool) → not b ≡ false → b ≡ true
+        all true e = refl
+        all false e = absurd (true≢false e)
+
+  module _ (e : passes d ≡ false) where
+    pub reply_24 : (c : Call) → refuses d 24 ≡ reply d c
     unfolding reply records.reply
-    reply_24 c = rw (sym sound_is ∙ e)
+    reply_24 c = rw e
 
-    pub lent_24 : (i : ℕ) (l : List ℕ) → lent d (show_at i l) ≡ l
+    lent_24 : (i : ℕ) (l : List ℕ) → l ≡ lent d (show_at i l)
     unfolding lent lent_on theory.dispatch_given
-    lent_24 i l = rw (sym sound_is ∙ e)
+    lent_24 i l = rw e
 
-  -- the fault of a place to tell, show or close: 24, or one of 42 and 20
-  pub by_fault : (P : ℕ → Type 0) (k f : ℕ) → f ≡ fault_by d.last seen k → ¬ (f ≡ 0) → (sound d.last seen ≡ false → P 24)
-      → (sound d.last seen ≡ true → (n : ℕ) → place_fault_by seen k ≡ suc n → P (suc n)) → P f
-  by_fault P k f g n broken at = go (sound d.last seen) refl
-    where
-      is : (b : Bool) → sound d.last seen ≡ b → f ≡ cond (not b) 24 (place_fault_by seen k)
-      is b e = g ∙ ap (λ (x : Bool). cond (not x) 24 (place_fault_by seen k)) e
+    pub held_24 : (i : ℕ) → held_fault d i ≡ 24
+    unfolding held_fault
+    held_24 i = rw e
 
-      by : sound d.last seen ≡ true → (x : ℕ) → f ≡ x → P f
-      by e zero q = absurd (n q)
-      by e (suc x) q = subst P (sym q) (at e x (sym (is true e) ∙ q))
+module _ (d : Dispatcher) (h : Laid d) (e : passes d ≡ true) where
+  all_pass : every_of check d.places ≡ true
+  all_pass = (and_both (leb d.last 8) (every_of check d.places) (sym (passes_is d) ∙ e)).1
 
-      go : (b : Bool) → sound d.last seen ≡ b → P f
-      go false e = subst P (sym (is false e)) (broken e)
-      go true e = by e f refl
+  place-passes : (i : ℕ) → i < 8 → check (under fresh d.places (suc i)) ≡ true
+  unfolding under
+  place-passes i b = every_at d.places all_pass i (omega (arith, h.eight))
 
-  pub no_fault : (k f : ℕ) → f ≡ fault_by d.last seen k → f ≡ 0
-      → (sound d.last seen ≡ true) × (place_fault_by seen k ≡ 0) × (1 ≤ k) × (k ≤ 8)
-  no_fault k f g n = go (sound d.last seen) refl (sym g ∙ n)
-    where
-      named : (b : Bool) → is_name k ≡ b → place_fault_by seen k ≡ 0 → (1 ≤ k) × (k ≤ 8)
-      named true i z = name_range k i
-      named false i z = absurd (let w : 42 ≡ 0 = (rw i at z) in omega arith)
+  places_back : map encode (map decode d.places) ≡ d.places
+  places_back =
+      every_back (λ s. Again s × (check s ≡ true)) decode encode (λ s g. g.0 g.1) d.places
+      (every_from (λ s. Again s × (check s ≡ true)) fresh d.places
+      (λ i b. (h.again i (omega (arith, h.eight)), every_at d.places all_pass i b)))
 
-      go : (b : Bool) → sound d.last seen ≡ b → cond (not b) 24 (place_fault_by seen k) ≡ 0
-          → (b ≡ true) × (place_fault_by seen k ≡ 0) × (1 ≤ k) × (k ≤ 8)
-      go true e z = let r = named (is_name k) refl z in (refl, z, r.0, r.1)
-      go false e z = absurd (let w : 24 ≡ 0 = z in omega arith)
+  state_is : (i : ℕ) → state_at machine held made (state d) i ≡ decode (under fresh d.places i)
+  unfolding state_at decode_all
+  state_is i =
+      ap (λ (z : State). under z (map decode d.places) i) (sym decode-fresh) ∙ under-map decode fresh d.places i
 
-  module _ (e : sound d.last seen ≡ true) where
-    passes : every_of check d.places ≡ true
-    unfolding check_all
-    passes = (and_both (leb d.last 8) (every_of check d.places) (sym sound_is ∙ e)).1
+  -- ---- what is seen
 
-    -- the dispatcher's state
-    abbrev state : theory.Dispatcher State
-    state = decode_all held made codec form d
-
-    pub place-passes : (i : ℕ) → 1 ≤ i → i ≤ 8 → check (under fresh d.places i) ≡ true
-    unfolding under
-    place-passes zero a b = absurd (omega arith)
-    place-passes (suc i) a b = every_at d.places passes i (omega (arith, h.eight))
-
-    places_back : map encode (map decode d.places) ≡ d.places
-    places_back =
-        every_back (λ s. Typed s × (check s ≡ true)) decode encode (λ s g. encode-decode s g.0 (check_is s g.1)) d.places
-        (every_from (λ s. Typed s × (check s ≡ true)) fresh d.places
-        (λ i b. (h.typed i (omega (arith, h.eight)), every_at d.places passes i b)))
-
-    state_is : (i : ℕ) → state_at machine held made state i ≡ decode (under fresh d.places i)
-    unfolding state_at decode_all
-    state_is i =
-        ap (λ (z : State). under z (map decode d.places) i) (sym decode-fresh) ∙ under-map decode fresh d.places i
-
-    seen_is : (i : ℕ) → 1 ≤ i → i ≤ 8 → under 0 seen i ≡ seen_of (state_at machine held made state i)
+  module _ (seen : List Seen) (s : seen ≡ map seen_in d.places) where
+    seen_is : (i : ℕ) → 1 ≤ i → i ≤ 8 → under Broken seen i ≡ seen_of (state_at machine held made (state d) i)
     unfolding under
     seen_is zero a b = absurd (omega arith)
     seen_is (suc i) a b =
-        ap (λ (l : List ℕ). get_or l i 0) h.each
-        ∙ any_default (map seen_in d.places) i 0 (seen_in fresh) (omega (arith, length-map d.places seen_in, h.eight))
+        ap (λ (l : List Seen). get_or l i Broken) s
+        ∙ any_default (map seen_in d.places) i Broken (seen_in fresh) (omega (arith, length-map d.places seen_in, h.eight))
         ∙ get_or-map seen_in d.places i fresh
-        ∙ seen_passes (get_or d.places i fresh) (every_at d.places passes i (omega (arith, h.eight)))
+        ∙ seen_passes (get_or d.places i fresh) (every_at d.places all_pass i (omega (arith, h.eight)))
         ∙ ap seen_of (sym (state_is (suc i)))
 
-    held_is : (i : ℕ) → 1 ≤ i → i ≤ 8 → is_held machine held made state i ≡ not (is_at seen 1 i)
+    held_is : (i : ℕ) → 1 ≤ i → i ≤ 8 → is_held machine held made (state d) i ≡ not (is_at seen Empty i)
     unfolding is_held
-    held_is i a b = seen_held (state_at machine held made state i) ∙ ap (λ (x : ℕ). not (eqb x 1)) (sym (seen_is i a b))
+    held_is i a b =
+        seen_held (state_at machine held made (state d) i) ∙ ap (λ (x : Seen). not (eqb (kind x) 1)) (sym (seen_is i a b))
 
-    waits_is : (i : ℕ) → 1 ≤ i → i ≤ 8 → waits machine held made state i ≡ is_at seen 2 i
+    waits_is : (i : ℕ) → 1 ≤ i → i ≤ 8 → waits machine held made (state d) i ≡ is_at seen Waiting i
     unfolding waits is_held
-    waits_is i a b = seen_waits (state_at machine held made state i) ∙ ap (λ (x : ℕ). eqb x 2) (sym (seen_is i a b))
+    waits_is i a b = seen_waits (state_at machine held made (state d) i) ∙ ap (λ (x : Seen). eqb (kind x) 2) (sym (seen_is i a b))
 
-    free_is : free_place machine held made state ≡ first_after (is_at seen 1) 8 0
+    pub free_is : free_place machine held made (state d) ≡ first_after (is_at seen Empty) 8 0
     unfolding free_place
     free_is =
-        first-same (λ i. not (is_held machine held made state i)) (is_at seen 1)
-        (λ i a b. ap not (held_is i a b) ∙ twice (is_at seen 1 i)) 8 0
+        first-same (λ i. not (is_held machine held made (state d) i)) (is_at seen Empty)
+        (λ i a b. ap not (held_is i a b) ∙ twice (is_at seen Empty i)) 8 0
       where
         twice : (b : Bool) → not (not b) ≡ b
         twice true = refl
         twice false = refl
 
-    next_is : next_place machine held made state ≡ first_after (is_at seen 2) 8 d.last
+    pub next_is : next_place machine held made (state d) ≡ first_after (is_at seen Waiting) 8 d.last
     unfolding next_place decode_all
-    next_is = first-same (waits machine held made state) (is_at seen 2) waits_is 8 d.last
+    next_is = first-same (waits machine held made (state d)) (is_at seen Waiting) waits_is 8 d.last
 
-    fault_is : (i : ℕ) → place_fault machine held made state i ≡ place_fault_by seen i
-    unfolding place_fault
-    fault_is i = go (is_name i) refl
+    -- the fault of a place that is one, by what stands there
+    pub fault_by : (i : ℕ) (b : Bool) → i < 8 → is_at seen Empty (suc i) ≡ b → held_fault d (suc i) ≡ cond b 20 0
+    unfolding held_fault place_fault
+    fault_by i b l a = rw (e, named i l, held_is (suc i) (omega arith) (omega arith), a) (twice b)
       where
-        go : (b : Bool) → is_name i ≡ b
-            → ◌≡◌ {A = ℕ} (cond (not b) 42 (cond (not (is_held machine held made state i)) 20 0)) (cond (not b) 42 (cond (is_at seen 1 i) 20 0))
-        go false n = refl
-        go true n =
-            let r = name_range i n in
-            ap (λ (x : Bool). let n : ℕ = cond (not x) 20 0 in n) (held_is i r.0 r.1) ∙ by (is_at seen 1 i)
-          where
-            by : (b : Bool) → ◌≡◌ {A = ℕ} (cond (not (not b)) 20 0) (cond b 20 0)
-            by true = refl
-            by false = refl
+        named : (i : ℕ) → i < 8 → is_name (suc i) ≡ true
+        named i l = rw (le-leb 1 (suc i) (omega arith), le-leb (suc i) 8 (omega arith))
 
-    -- ---- one call
+        twice : (b : Bool) → ◌≡◌ {A = ℕ} (cond (not (not b)) 20 0) (cond b 20 0)
+        twice true = refl
+        twice false = refl
 
-    abbrev made_of : theory.Dispatcher State → Dispatcher
-    made_of t = encode_all held made codec form t
+    module _ (k i : ℕ) (n : k ≡ suc i) (b : i < 8) where
+      pub fault_20 : get_or seen i Broken ≡ Empty → held_fault d k ≡ 20
+      unfolding under
+      fault_20 h = rw n (fault_by i true b (ap (λ (x : Seen). eqb (kind x) 1) h))
 
-    reply_is : (c : Call)
-        → reply d c ≡ record { dispatcher = made_of (dispatch_next machine held made state c); answer = said (dispatch_answer machine held made state c) }
-    unfolding reply records.reply
-    reply_is c = rw (sym sound_is ∙ e)
+      pub fault_0 : ¬ (get_or seen i Broken ≡ Empty) → held_fault d k ≡ 0
+      unfolding under
+      fault_0 h = rw n (fault_by i false b (ne_eqb (kind (get_or seen i Broken)) 1 (λ e. h (kind-injective (get_or seen i Broken) Empty e))))
 
-    lent_is : (c : Call) → lent d c ≡ dispatch_lent machine held made state c
-    unfolding lent lent_on
-    lent_is c = rw (sym sound_is ∙ e)
+  pub fault_low : (i : ℕ) → i < 1 → held_fault d i ≡ 42
+  unfolding held_fault place_fault
+  fault_low i l = rw (e, lt-leb 1 i l)
 
-    all_back : made_of state ≡ d
-    unfolding encode_all decode_all
-    all_back = λ i. record { last = d.last; places = places_back i }
+  pub fault_high : (i : ℕ) → 1 ≤ i → 8 < i → held_fault d i ≡ 42
+  unfolding held_fault place_fault
+  fault_high i l h = rw (e, le-leb 1 i l, lt-leb i 8 h)
 
-    -- a call that leaves the dispatcher
-    stays : (c : Call) (a : Answer) → dispatch_next machine held made state c ≡ state → said (dispatch_answer machine held made state c) ≡ a
-        → reply d c ≡ record { dispatcher = d; answer = a }
-    stays c a n s = reply_is c ∙ (λ i. record { dispatcher = (ap made_of n ∙ all_back) i; answer = s i })
+  fault_is : (i : ℕ) → held_fault d i ≡ place_fault machine held made (state d) i
+  unfolding held_fault
+  fault_is i = rw e
 
-    to_nowhere : (c : Call) → routed machine held made state c ≡ nowhere → dispatch_next machine held made state c ≡ state
-    unfolding dispatch_next places_by last_by
-    to_nowhere (add a) r = λ i. record { places = ap (places_by machine held made state) r i; last = state.last }
-    to_nowhere (turn p) r =
-        ap (λ (q : Route calls.Call). record { places = places_by machine held made state q; last = last_by machine held made state.last (turn p) q }) r
-    to_nowhere (tell_at k) r = λ i. record { places = ap (places_by machine held made state) r i; last = state.last }
-    to_nowhere (show_at k l) r = λ i. record { places = ap (places_by machine held made state) r i; last = state.last }
-    to_nowhere (close_at k) r = λ i. record { places = ap (places_by machine held made state) r i; last = state.last }
+  -- ---- one call
 
-    -- what stands at a place, whatever stands past the eight
-    element : (k : ℕ) (z : Search) → 1 ≤ k → k ≤ 8 → get_or d.places (k - 1) z ≡ under fresh d.places k
-    unfolding under
-    element zero z a b = absurd (omega arith)
-    element (suc k) z a b =
-        ap (λ (i : ℕ). get_or d.places i z) (less k) ∙ any_default d.places k z fresh (omega (arith, h.eight))
+  abbrev made_of : theory.Dispatcher State → Dispatcher
+  made_of t = encode_all held made codec form t
+
+  reply_is : (c : Call)
+      → reply d c ≡ record { dispatcher = made_of (dispatch_next machine held made (state d) c); answer = dispatch_answer machine held made (state d) c }
+  unfolding reply records.reply
+  reply_is c = rw e
+
+  lent_is : (c : Call) → lent d c ≡ dispatch_lent machine held made (state d) c
+  unfolding lent lent_on
+  lent_is c = rw e
+
+  all_back : made_of (state d) ≡ d
+  unfolding encode_all decode_all
+  all_back = λ i. record { last = d.last; places = places_back i }
+
+  -- a call that leaves the dispatcher
+  stays : (c : Call) (a : Response calls.Answer) → dispatch_next machine held made (state d) c ≡ state d → dispatch_answer machine held made (state d) c ≡ a
+      → reply d c ≡ record { dispatcher = d; answer = a }
+  stays c a n s = reply_is c ∙ (λ i. record { dispatcher = (ap made_of n ∙ all_back) i; answer = s i })
+
+  to_nowhere : (c : Call) → routed machine held made (state d) c ≡ nowhere → dispatch_next machine held made (state d) c ≡ state d
+  unfolding dispatch_next places_by last_by
+  to_nowhere (add a) r = λ i. record { places = ap (places_by machine held made (state d)) r i; last = (state d).last }
+  to_nowhere (turn p) r =
+      ap (λ (q : Route calls.Call). record { places = places_by machine held made (state d) q; last = last_by machine held made (state d).last (turn p) q }) r
+  to_nowhere (tell_at k) r = λ i. record { places = ap (places_by machine held made (state d)) r i; last = (state d).last }
+  to_nowhere (show_at k l) r = λ i. record { places = ap (places_by machine held made (state d)) r i; last = (state d).last }
+  to_nowhere (close_at k) r = λ i. record { places = ap (places_by machine held made (state d)) r i; last = (state d).last }
+
+  -- what stands at a place, whatever stands past the eight
+  element : (i : ℕ) (z : Search) → i < 8 → get_or d.places i z ≡ under fresh d.places (suc i)
+  unfolding under
+  element i z b = any_default d.places i z fresh (omega (arith, h.eight))
+
+  -- the call of the search at a place: its answer, its record and its list
+  module _ (i : ℕ) (b : i < 8) (c : calls.Call) (z : Search) where
+    abbrev there : search.Outcome
+    there = search.reply (get_or d.places i z) c
+
+    called : there ≡ search.reply (under fresh d.places (suc i)) c
+    called = ap (λ (s : Search). search.reply s c) (element i z b)
+
+    answered : there.answer ≡ (step (state_at machine held made (state d) (suc i)) c).answer
+    answered =
+        ap (λ (x : search.Outcome). x.answer) called
+        ∙ answer_is (under fresh d.places (suc i)) c (place-passes i b)
+        ∙ ap (λ (t : State). (step t c).answer) (sym (state_is (suc i)))
+
+    left : there.search ≡ encode (step (state_at machine held made (state d) (suc i)) c).state
+    left =
+        ap (λ (x : search.Outcome). x.search) called
+        ∙ left_is (under fresh d.places (suc i)) c (place-passes i b)
+        ∙ ap (λ (t : State). encode (step t c).state) (sym (state_is (suc i)))
+
+    listed : search.lent (get_or d.places i z) c ≡ (step (state_at machine held made (state d) (suc i)) c).lent
+    listed =
+        ap (λ (s : Search). search.lent s c) (element i z b)
+        ∙ list_is (under fresh d.places (suc i)) c (place-passes i b)
+        ∙ ap (λ (t : State). (step t c).lent) (sym (state_is (suc i)))
+
+    -- a call that goes to the place
+    goes : (x : Call) (q : Response calls.Answer) → routed machine held made (state d) x ≡ to (suc i) c → dispatch_answer machine held made (state d) x ≡ q
+        → reply d x
+        ≡ record { dispatcher = record { last = last_by machine held made d.last x (to (suc i) c); places = set d.places i there.search }; answer = q }
+    unfolding encode_all decode_all dispatch_next places_by put
+    goes x q r s = reply_is x ∙ (λ j. record {
+      dispatcher = record { last = last_by machine held made d.last x (r j); places = stored j };
+      answer = s j;
+    })
       where
-        less : (n : ℕ) → suc n - 1 ≡ n
-        less n = omega arith
+        stored : map encode (places_by machine held made (state d) (routed machine held made (state d) x)) ≡ set d.places i there.search
+        stored =
+            ap (λ (t : Route calls.Call). map encode (places_by machine held made (state d) t)) r
+            ∙ map-put encode (map decode d.places) (suc i) (step (state_at machine held made (state d) (suc i)) c).state
+            ∙ (λ j. put (places_back j) (suc i) (sym left j))
 
-    -- the call of the search at a place: its answer, its record and its list
-    module _ (k : ℕ) (a : 1 ≤ k) (b : k ≤ 8) (c : calls.Call) (z : Search) (o : search-outcome.Outcome)
-        (g : o ≡ search.reply (get_or d.places (k - 1) z) c) where
-      called : o ≡ search.reply (under fresh d.places k) c
-      called = g ∙ ap (λ (s : Search). search.reply s c) (element k z a b)
+    -- a refusal there leaves it
+    stands : (n p : ℕ) → there.answer ≡ refused n p → set d.places i there.search ≡ d.places
+    stands n p r =
+        let s = get_or d.places i z in
+        let pass : check s ≡ true = ap check (element i z b) ∙ place-passes i b in
+        let same = (refused-leaves (decode s) c n p (sym (answer_is s c pass) ∙ r)).state in
+        let again = subst Again (any_default d.places i fresh z (omega (arith, h.eight))) (h.again i b) pass in
+        ap (λ (t : Search). set d.places i t) (left_is s c pass ∙ ap encode same ∙ again) ∙ set_same d.places i z (omega (arith, h.eight))
 
-      answered : o.answer ≡ search.said (step (state_at machine held made state k) c).answer
-      answered =
-          ap (λ (x : search-outcome.Outcome). x.answer) called
-          ∙ answer_is (under fresh d.places k) c (place-passes k a b)
-          ∙ ap (λ (t : State). search.said (step t c).answer) (sym (state_is k))
+  -- ---- turn
 
-      left : o.search ≡ encode (step (state_at machine held made state k) c).state
-      left =
-          ap (λ (x : search-outcome.Outcome). x.search) called
-          ∙ left_is (under fresh d.places k) c (place-passes k a b)
-          ∙ ap (λ (t : State). encode (step t c).state) (sym (state_is k))
+  pub turn_40 : (p : ℕ) → p ≡ 0 → refuses d 40 ≡ reply d (turn p)
+  turn_40 zero f =
+      sym (stays (turn 0) (said (refused 40 0)) (to_nowhere (turn 0) (unfold routed theory.turn_route in refl)) (unfold dispatch_answer theory.turn_answer in refl))
+  turn_40 (suc p) f = absurd (let z : suc p ≡ 0 = f in omega arith)
 
-      listed : search.lent (get_or d.places (k - 1) z) c ≡ (step (state_at machine held made state k) c).lent
-      listed =
-          ap (λ (s : Search). search.lent s c) (element k z a b)
-          ∙ list_is (under fresh d.places k) c (place-passes k a b)
-          ∙ ap (λ (t : State). (step t c).lent) (sym (state_is k))
+  pub turn_idle : (p : ℕ) → ¬ (p ≡ 0) → next_place machine held made (state d) ≡ 0 → record { dispatcher = d; answer = idle } ≡ reply d (turn p)
+  turn_idle zero f n = absurd (f refl)
+  turn_idle (suc p) f n =
+      sym (stays (turn (suc p)) idle (to_nowhere (turn (suc p)) (unfold routed theory.turn_route in rw n))
+      (unfold dispatch_answer theory.turn_answer in rw n))
 
-      -- a call that goes to the place
-      goes : (x : Call) (q : Answer) → routed machine held made state x ≡ to k c → said (dispatch_answer machine held made state x) ≡ q
-          → reply d x
-          ≡ record { dispatcher = record { last = last_by machine held made d.last x (to k c); places = set d.places (k - 1) o.search }; answer = q }
-      unfolding encode_all decode_all dispatch_next places_by
-      goes x q r s = reply_is x ∙ (λ i. record {
-        dispatcher = record { last = last_by machine held made d.last x (r i); places = stored i };
-        answer = s i;
-      })
-        where
-          stored : map encode (places_by machine held made state (routed machine held made state x)) ≡ set d.places (k - 1) o.search
-          stored =
-              ap (λ (t : Route calls.Call). map encode (places_by machine held made state t)) r
-              ∙ map-put encode (map decode d.places) k (step (state_at machine held made state k) c).state
-              ∙ (λ i. put (places_back i) k (sym left i))
-              ∙ sym (put-at d.places k o.search a)
+  pub turn_done : (p i : ℕ) (z : Search) → i < 8 → ¬ (p ≡ 0) → next_place machine held made (state d) ≡ suc i
+      → record { dispatcher = record { last = suc i; places = set d.places i (search.reply (get_or d.places i z) (calls.run p)).search }; answer = served (suc i) }
+      ≡ reply d (turn p)
+  unfolding last_by
+  turn_done zero i z b f next = absurd (f refl)
+  turn_done (suc p) i z b f next =
+      sym (goes i b (calls.run (suc p)) z (turn (suc p)) (served (suc i))
+      (unfold routed theory.turn_route in rw next) (unfold dispatch_answer theory.turn_answer in rw next))
 
-    -- ---- turn
+  -- by the place's own number
+  pub turn_served : (p k : ℕ) (z : Search) → 1 ≤ k → k ≤ 8 → ¬ (p ≡ 0) → next_place machine held made (state d) ≡ k
+      → record { dispatcher = record { last = k; places = set d.places (k - 1) (search.reply (get_or d.places (k - 1) z) (calls.run p)).search }; answer = served k }
+      ≡ reply d (turn p)
+  turn_served p zero z low high f next = absurd (omega arith)
+  turn_served p (suc i) z low high f next = rw (less i) (turn_done p i z high f next)
+    where
+      less : (i : ℕ) → suc i - 1 ≡ i
+      less i = omega arith
 
-    pub turn_40 : (p : ℕ) → p ≡ 0 → refuses d 40 ≡ reply d (turn p)
-    turn_40 zero f =
-        sym (stays (turn 0) (OfSearch (Refused 40 0)) (to_nowhere (turn 0) (unfold routed theory.turn_route in refl)) (unfold dispatch_answer theory.turn_answer in refl))
-    turn_40 (suc p) f = absurd (let z : suc p ≡ 0 = f in omega arith)
+  -- ---- add
 
-    pub turn_idle : (p k : ℕ) → ¬ (p ≡ 0) → k ≡ first_after (is_at seen 2) 8 d.last → k ≡ 0
-        → record { dispatcher = d; answer = Idle } ≡ reply d (turn p)
-    turn_idle zero k f g n = absurd (f refl)
-    turn_idle (suc p) k f g n =
-        sym (stays (turn (suc p)) Idle (to_nowhere (turn (suc p)) (unfold routed theory.turn_route in rw none))
-        (unfold dispatch_answer theory.turn_answer in rw none))
-      where
-        none : next_place machine held made state ≡ 0
-        none = next_is ∙ sym g ∙ n
+  pub add_41 : (a : Opening) → free_place machine held made (state d) ≡ 0 → refuses d 41 ≡ reply d (add a)
+  add_41 a full =
+      sym (stays (add a) (said (refused 41 0)) (to_nowhere (add a) (unfold routed theory.add_route in rw full))
+      (unfold dispatch_answer theory.add_answer in rw full))
 
-    pub turn_done : (p k : ℕ) (z : Search) (o : search-outcome.Outcome) → ¬ (p ≡ 0) → k ≡ first_after (is_at seen 2) 8 d.last → ¬ (k ≡ 0) → k ≤ 8
-        → o ≡ search.reply (get_or d.places (k - 1) z) (calls.run p)
-        → record { dispatcher = record { last = k; places = set d.places (k - 1) o.search }; answer = Served k } ≡ reply d (turn p)
+  module _ (a : Opening) (i : ℕ) (z : Search) (b : i < 8) (free : free_place machine held made (state d) ≡ suc i) where
+    taken : calls.is_accepted (step (state_at machine held made (state d) (suc i)) (calls.opens a)).answer
+        ≡ calls.is_accepted (search.reply (get_or d.places i z) (calls.opens a)).answer
+    taken = ap calls.is_accepted (sym (answered i b (calls.opens a) z))
+
+    refused_there : calls.is_accepted (search.reply (get_or d.places i z) (calls.opens a)).answer ≡ false
+        → record { dispatcher = d; answer = said (search.reply (get_or d.places i z) (calls.opens a)).answer } ≡ reply d (add a)
+    refused_there f =
+        sym (stays (add a) (said (search.reply (get_or d.places i z) (calls.opens a)).answer)
+        (to_nowhere (add a) (unfold routed theory.add_route in rw (free, taken, f)))
+        (unfold dispatch_answer theory.add_answer in rw (free, taken, f) (ap said (sym (answered i b (calls.opens a) z)))))
+
+    pub add-refused : (n p : ℕ) → refused n p ≡ (search.reply (get_or d.places i z) (calls.opens a)).answer
+        → record { dispatcher = record { last = d.last; places = set d.places i (search.reply (get_or d.places i z) (calls.opens a)).search }; answer = said (refused n p) }
+        ≡ reply d (add a)
+    add-refused n p r =
+        (λ j. record { dispatcher = record { last = d.last; places = stands i b (calls.opens a) z n p (sym r) j }; answer = said (r j) })
+        ∙ refused_there (ap calls.is_accepted (sym r))
+
+    pub add_done : calls.is_accepted (search.reply (get_or d.places i z) (calls.opens a)).answer ≡ true
+        → record { dispatcher = record { last = d.last; places = set d.places i (search.reply (get_or d.places i z) (calls.opens a)).search }; answer = placed (suc i) }
+        ≡ reply d (add a)
     unfolding last_by
-    turn_done zero k z o f g n b w = absurd (f refl)
-    turn_done (suc p) zero z o f g n b w = absurd (n refl)
-    turn_done (suc p) (suc j) z o f g n b w =
-        sym (goes (suc j) (omega arith) b (calls.run (suc p)) z o w (turn (suc p)) (Served (suc j))
-        (unfold routed theory.turn_route in rw next) (unfold dispatch_answer theory.turn_answer in rw next))
-      where
-        next : next_place machine held made state ≡ suc j
-        next = next_is ∙ sym g
+    add_done f =
+        sym (goes i b (calls.opens a) z (add a) (placed (suc i)) (unfold routed theory.add_route in rw (free, taken, f))
+        (unfold dispatch_answer theory.add_answer in rw (free, taken, f)))
 
-    -- ---- add
+  module _ (a : Opening) (k : ℕ) (z : Search) (low : 1 ≤ k) (high : k ≤ 8) (free : free_place machine held made (state d) ≡ k) where
+    less : suc (k - 1) ≡ k
+    less = omega arith
 
-    pub add_41 : (a : Opening) (k : ℕ) → k ≡ first_after (is_at seen 1) 8 0 → k ≡ 0 → refuses d 41 ≡ reply d (add a)
-    add_41 a k g n =
-        sym (stays (add a) (OfSearch (Refused 41 0)) (to_nowhere (add a) (unfold routed theory.add_route in rw full))
-        (unfold dispatch_answer theory.add_answer in rw full))
-      where
-        full : free_place machine held made state ≡ 0
-        full = free_is ∙ sym g ∙ n
+    -- a refused opening
+    pub add_turned : (n p : ℕ) → refused n p ≡ (search.reply (get_or d.places (k - 1) z) (calls.opens a)).answer
+        → record { dispatcher = record { last = d.last; places = set d.places (k - 1) (search.reply (get_or d.places (k - 1) z) (calls.opens a)).search }; answer = said (refused n p) }
+        ≡ reply d (add a)
+    add_turned n p r = add-refused a (k - 1) z (omega arith) (free ∙ sym less) n p r
 
-    module _ (a : Opening) (j : ℕ) (z : Search) (o : search-outcome.Outcome) (g : suc j ≡ first_after (is_at seen 1) 8 0) (b : suc j ≤ 8)
-        (w : o ≡ search.reply (get_or d.places (suc j - 1) z) (calls.opens a)) where
-      free : free_place machine held made state ≡ suc j
-      free = free_is ∙ sym g
+    pub add_placed : calls.is_accepted (search.reply (get_or d.places (k - 1) z) (calls.opens a)).answer ≡ true
+        → record { dispatcher = record { last = d.last; places = set d.places (k - 1) (search.reply (get_or d.places (k - 1) z) (calls.opens a)).search }; answer = placed k }
+        ≡ reply d (add a)
+    add_placed f =
+        (λ j. record {
+          dispatcher = record { last = d.last; places = set d.places (k - 1) (search.reply (get_or d.places (k - 1) z) (calls.opens a)).search };
+          answer = placed (sym less j);
+        })
+        ∙ add_done a (k - 1) z (omega arith) (free ∙ sym less) f
 
-      taken : calls.is_accepted (step (state_at machine held made state (suc j)) (calls.opens a)).answer ≡ calls.is_accepted (search.means o.answer)
-      taken =
-          sym (ap (λ x. calls.is_accepted (search.means x)) (answered (suc j) (omega arith) b (calls.opens a) z o w)
-          ∙ ap calls.is_accepted (means-said (step (state_at machine held made state (suc j)) (calls.opens a)).answer))
+  -- ---- at a place
 
-      refused_there : calls.is_accepted (search.means o.answer) ≡ false → record { dispatcher = d; answer = OfSearch o.answer } ≡ reply d (add a)
-      refused_there f =
-          sym (stays (add a) (OfSearch o.answer) (to_nowhere (add a) (unfold routed theory.add_route in rw (free, taken, f)))
-          (unfold dispatch_answer theory.add_answer in rw (free, taken, f) (ap OfSearch (sym (answered (suc j) (omega arith) b (calls.opens a) z o w)))))
+  -- 42 and 20
+  module _ (k f : ℕ) (g : held_fault d k ≡ suc f) where
+    at-fault : place_fault machine held made (state d) k ≡ suc f
+    at-fault = sym (fault_is k) ∙ g
 
-      placed_there : calls.is_accepted (search.means o.answer) ≡ true
-          → record { dispatcher = record { last = d.last; places = set d.places (suc j - 1) o.search }; answer = Placed (suc j) } ≡ reply d (add a)
-      unfolding last_by
-      placed_there f =
-          sym (goes (suc j) (omega arith) b (calls.opens a) z o w (add a) (Placed (suc j)) (unfold routed theory.add_route in rw (free, taken, f))
-          (unfold dispatch_answer theory.add_answer in rw (free, taken, f)))
+    tell_faulty : refuses d (suc f) ≡ reply d (tell_at k)
+    tell_faulty =
+        sym (stays (tell_at k) (said (refused (suc f) 0)) (to_nowhere (tell_at k) (unfold routed theory.place_route in rw at-fault))
+        (unfold dispatch_answer theory.place_answer in rw at-fault))
 
-    pub add-refused : (a : Opening) (k : ℕ) (z : Search) (o : search-outcome.Outcome) → k ≡ first_after (is_at seen 1) 8 0 → ¬ (k ≡ 0) → k ≤ 8
-        → o ≡ search.reply (get_or d.places (k - 1) z) (calls.opens a) → calls.is_accepted (search.means o.answer) ≡ false
-        → record { dispatcher = d; answer = OfSearch o.answer } ≡ reply d (add a)
-    add-refused a zero z o g n b w f = absurd (n refl)
-    add-refused a (suc j) z o g n b w f = refused_there a j z o g b w f
+    close_faulty : refuses d (suc f) ≡ reply d (close_at k)
+    close_faulty =
+        sym (stays (close_at k) (said (refused (suc f) 0)) (to_nowhere (close_at k) (unfold routed theory.place_route in rw at-fault))
+        (unfold dispatch_answer theory.place_answer in rw at-fault))
 
-    pub add_done : (a : Opening) (k : ℕ) (z : Search) (o : search-outcome.Outcome) → k ≡ first_after (is_at seen 1) 8 0 → ¬ (k ≡ 0) → k ≤ 8
-        → o ≡ search.reply (get_or d.places (k - 1) z) (calls.opens a) → calls.is_accepted (search.means o.answer) ≡ true
-        → record { dispatcher = record { last = d.last; places = set d.places (k - 1) o.search }; answer = Placed k } ≡ reply d (add a)
-    add_done a zero z o g n b w f = absurd (n refl)
-    add_done a (suc j) z o g n b w f = placed_there a j z o g b w f
+    show_faulty : (l : List ℕ) → (refuses d (suc f) ≡ reply d (show_at k l)) × (l ≡ lent d (show_at k l))
+    show_faulty l = (
+      sym (stays (show_at k l) (said (refused (suc f) 0)) (to_nowhere (show_at k l) (unfold routed theory.place_route in rw at-fault))
+          (unfold dispatch_answer theory.place_answer in rw at-fault)),
+      sym (lent_is (show_at k l) ∙ (unfold dispatch_lent theory.lent_by theory.dispatch_given routed theory.place_route in rw at-fault)),
+    )
 
-    -- ---- at a place
+  module _ (i : ℕ) (b : i < 8) (g : held_fault d (suc i) ≡ 0) (z : Search) where
+    at_held : place_fault machine held made (state d) (suc i) ≡ 0
+    at_held = sym (fault_is (suc i)) ∙ g
 
-    -- 42 and 20
-    module _ (k f : ℕ) (g : place_fault_by seen k ≡ suc f) where
-      at-fault : place_fault machine held made state k ≡ suc f
-      at-fault = fault_is k ∙ g
+    tell_there : record { dispatcher = d; answer = said (search.reply (get_or d.places i z) tell).answer } ≡ reply d (tell_at (suc i))
+    tell_there =
+        sym (stays (tell_at (suc i)) (said (search.reply (get_or d.places i z) tell).answer) (still machine held made steady (state d) (tell_at (suc i)) tt refl)
+        (unfold dispatch_answer theory.place_answer in rw at_held (ap said (sym (answered i b tell z)))))
 
-      pub tell_refused : refuses d (suc f) ≡ reply d (tell_at k)
-      tell_refused =
-          sym (stays (tell_at k) (OfSearch (Refused (suc f) 0)) (to_nowhere (tell_at k) (unfold routed theory.place_route in rw at-fault))
-          (unfold dispatch_answer theory.place_answer in rw at-fault))
+    show_there : (l : List ℕ)
+        → (record { dispatcher = d; answer = said (search.reply (get_or d.places i z) (calls.show l)).answer } ≡ reply d (show_at (suc i) l))
+        × (search.lent (get_or d.places i z) (calls.show l) ≡ lent d (show_at (suc i) l))
+    show_there l = (
+      sym (stays (show_at (suc i) l) (said (search.reply (get_or d.places i z) (calls.show l)).answer)
+          (still machine held made steady (state d) (show_at (suc i) l) tt refl)
+          (unfold dispatch_answer theory.place_answer in rw at_held (ap said (sym (answered i b (calls.show l) z))))),
+      listed i b (calls.show l) z
+          ∙ sym (lent_is (show_at (suc i) l) ∙ (unfold dispatch_lent theory.lent_by theory.dispatch_given routed theory.place_route in rw at_held)),
+    )
 
-      pub close_refused : refuses d (suc f) ≡ reply d (close_at k)
-      close_refused =
-          sym (stays (close_at k) (OfSearch (Refused (suc f) 0)) (to_nowhere (close_at k) (unfold routed theory.place_route in rw at-fault))
-          (unfold dispatch_answer theory.place_answer in rw at-fault))
+    close_there : record {
+      dispatcher = record { last = d.last; places = set d.places i (search.reply (get_or d.places i z) calls.close).search };
+      answer = said (search.reply (get_or d.places i z) calls.close).answer;
+    } ≡ reply d (close_at (suc i))
+    unfolding last_by
+    close_there =
+        sym (goes i b calls.close z (close_at (suc i)) (said (search.reply (get_or d.places i z) calls.close).answer)
+        (unfold routed theory.place_route in rw at_held)
+        (unfold dispatch_answer theory.place_answer in rw at_held (ap said (sym (answered i b calls.close z)))))
 
-      pub show_refused : (l : List ℕ) → (refuses d (suc f) ≡ reply d (show_at k l)) × (l ≡ lent d (show_at k l))
-      show_refused l = (
-        sym (stays (show_at k l) (OfSearch (Refused (suc f) 0)) (to_nowhere (show_at k l) (unfold routed theory.place_route in rw at-fault))
-            (unfold dispatch_answer theory.place_answer in rw at-fault)),
-        sym (lent_is (show_at k l) ∙ (unfold dispatch_lent theory.lent_by theory.dispatch_given routed theory.place_route in rw at-fault)),
-      )
+-- ---- at a place, by its fault: 24, or one of 42 and 20
 
-    module _ (k : ℕ) (a : 1 ≤ k) (b : k ≤ 8) (g : place_fault_by seen k ≡ 0) (z : Search) (o : search-outcome.Outcome) where
-      at_held : place_fault machine held made state k ≡ 0
-      at_held = fault_is k ∙ g
+module _ (d : Dispatcher) (h : Laid d) (k n : ℕ) (g : n ≡ held_fault d k) (f : ¬ (n ≡ 0)) where
+  by_fault : (P : ℕ → Type 0) → (passes d ≡ false → P 24) → (passes d ≡ true → (m : ℕ) → held_fault d k ≡ suc m → P (suc m)) → P n
+  by_fault P broken at =
+      by_cases (passes d)
+      (λ e. by n g f (at e))
+      (λ e. subst P (sym (g ∙ held_24 d e k)) (broken e))
+    where
+      by : (x : ℕ) → x ≡ held_fault d k → ¬ (x ≡ 0) → ((m : ℕ) → held_fault d k ≡ suc m → P (suc m)) → P x
+      by zero q z p = absurd (z refl)
+      by (suc x) q z p = p x (sym q)
 
-      pub tell_done : o ≡ search.reply (get_or d.places (k - 1) z) tell → record { dispatcher = d; answer = OfSearch o.answer } ≡ reply d (tell_at k)
-      tell_done w =
-          sym (stays (tell_at k) (OfSearch o.answer) (still machine held made steady state (tell_at k) tt refl)
-          (unfold dispatch_answer theory.place_answer in rw at_held (ap OfSearch (sym (answered k a b tell z o w)))))
+  pub tell_refused : refuses d n ≡ reply d (tell_at k)
+  tell_refused = by_fault (λ (x : ℕ). refuses d x ≡ reply d (tell_at k)) (λ e. reply_24 d e (tell_at k)) (λ e m q. tell_faulty d h e k m q)
 
-      pub show_done : (l : List ℕ) → o ≡ search.reply (get_or d.places (k - 1) z) (calls.show l)
-          → (record { dispatcher = d; answer = OfSearch o.answer } ≡ reply d (show_at k l))
-          × (search.lent (get_or d.places (k - 1) z) (calls.show l) ≡ lent d (show_at k l))
-      show_done l w = (
-        sym (stays (show_at k l) (OfSearch o.answer) (still machine held made steady state (show_at k l) tt refl)
-            (unfold dispatch_answer theory.place_answer in rw at_held (ap OfSearch (sym (answered k a b (calls.show l) z o w))))),
-        listed k a b (calls.show l) z o w
-            ∙ sym (lent_is (show_at k l) ∙ (unfold dispatch_lent theory.lent_by theory.dispatch_given routed theory.place_route in rw at_held)),
-      )
+  pub close_refused : refuses d n ≡ reply d (close_at k)
+  close_refused = by_fault (λ (x : ℕ). refuses d x ≡ reply d (close_at k)) (λ e. reply_24 d e (close_at k)) (λ e m q. close_faulty d h e k m q)
 
-      pub close_done : o ≡ search.reply (get_or d.places (k - 1) z) calls.close
-          → record { dispatcher = record { last = d.last; places = set d.places (k - 1) o.search }; answer = OfSearch o.answer } ≡ reply d (close_at k)
-      unfolding last_by
-      close_done w =
-          sym (goes k a b calls.close z o w (close_at k) (OfSearch o.answer) (unfold routed theory.place_route in rw at_held)
-          (unfold dispatch_answer theory.place_answer in rw at_held (ap OfSearch (sym (answered k a b calls.close z o w)))))
+  pub show_refused : (l : List ℕ) → (refuses d n ≡ reply d (show_at k l)) × (l ≡ lent d (show_at k l))
+  show_refused l =
+      by_fault (λ (x : ℕ). (refuses d x ≡ reply d (show_at k l)) × (l ≡ lent d (show_at k l)))
+      (λ e. (reply_24 d e (show_at k l), lent_24 d e k l)) (λ e m q. show_faulty d h e k m q l)
+
+module _ (d : Dispatcher) (h : Laid d) (k i : ℕ) (g : (held_fault d k ≡ 0) × (k ≡ suc i) × (i < 8)) (z : Search) where
+  sound : passes d ≡ true
+  sound = by_cases (passes d) (λ e. e) (λ e. absurd (let w : 24 ≡ 0 = sym (held_24 d e k) ∙ g.0 in omega arith))
+
+  faultless : held_fault d (suc i) ≡ 0
+  faultless = ap (λ (x : ℕ). held_fault d x) (sym g.1) ∙ g.0
+
+  pub tell_done : record { dispatcher = d; answer = said (search.reply (get_or d.places i z) tell).answer } ≡ reply d (tell_at k)
+  tell_done = tell_there d h sound i g.2 faultless z ∙ ap (λ (x : ℕ). reply d (tell_at x)) (sym g.1)
+
+  pub show_done : (l : List ℕ)
+      → (record { dispatcher = d; answer = said (search.reply (get_or d.places i z) (calls.show l)).answer } ≡ reply d (show_at k l))
+      × (search.lent (get_or d.places i z) (calls.show l) ≡ lent d (show_at k l))
+  show_done l =
+      let r = show_there d h sound i g.2 faultless z l in
+      (r.0 ∙ ap (λ (x : ℕ). reply d (show_at x l)) (sym g.1), r.1 ∙ ap (λ (x : ℕ). lent d (show_at x l)) (sym g.1))
+
+  pub close_done : record {
+    dispatcher = record { last = d.last; places = set d.places i (search.reply (get_or d.places i z) calls.close).search };
+    answer = said (search.reply (get_or d.places i z) calls.close).answer;
+  } ≡ reply d (close_at k)
+  close_done = close_there d h sound i g.2 faultless z ∙ ap (λ (x : ℕ). reply d (close_at x)) (sym g.1)

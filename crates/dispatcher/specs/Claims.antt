@@ -17,9 +17,8 @@ use Rattle.dispatch_theory.specs.Dispatcher.{add, turn, tell_at, show_at, close_
 use Rattle.dispatch_theory.specs.Stretches.{Quiet, turns}
 use Rattle.dispatch_theory.specs.Records.{encode_all, decode_all, check_all}
 use Rattle.dispatcher.specs.Searches.{machine, held, made, codec}
-use Rattle.dispatcher.specs.Replies.{Call, dispatching, form, said, reply, lent}
+use Rattle.dispatcher.specs.Replies.{Call, dispatching, form, reply, lent}
 use Rattle.dispatcher.specs.declared.Dispatcher.{Dispatcher}
-use Rattle.dispatcher.specs.declared.Answer.{Answer}
 
 -- ---- words of dispatch_theory at document 01's machine
 
@@ -77,9 +76,9 @@ pub record Dispatches (i : Interface dispatching) (places : i.Lent → List Sear
   pub ends : (xs : List Call) (k : ℕ) (o : Opening) (total : ℕ) → history (calls_at k xs) ≡ since o total
       → free_at_start o ≤ 62 → 2 ^ suc (free_at_start o) - 1 ≤ total → Finished (state_of (i.holds (record_of i xs)) k)
 
--- ---- the calls of this crate, each answer said by f
+-- ---- the calls of this crate, each answer that the code's means said by f
 
-abbrev pub calls_said : {A : Type 0} → (Answer → A) → Interface dispatching
+abbrev pub calls_said : {A : Type 0} → (theory.Response calls.Answer → A) → Interface dispatching
 calls_said {A} f = record {
   Lent = Dispatcher;
   Reply = A;
@@ -87,11 +86,11 @@ calls_said {A} f = record {
   next = λ d c. (reply d c).dispatcher;
   answer = λ d c. f (reply d c).answer;
   list = lent;
-  said = λ a. f (said a);
+  said = f;
   holds = decode_all held made codec form;
   made = encode_all held made codec form;
   sound = check_all held made codec form;
 }
 
 abbrev pub calls_made : Interface dispatching
-calls_made = calls_said {A = Answer} (λ a. a)
+calls_made = calls_said {A = theory.Response calls.Answer} (λ a. a)

@@ -2,8 +2,9 @@
 pub mod Searches
 pub mod Replies
 pub mod Claims
--- Theorems for a reader: the claims hold
+-- Theorems for a reader: the claims hold; the code's answers are the dispatcher's
 pub mod Theorem
+pub mod Meant
 -- What follows is proved, or says what code knows.
 pub mod Steady
 pub mod Seen

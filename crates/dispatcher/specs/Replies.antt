@@ -1,21 +1,20 @@
--- WHAT EVERY CONTRACT OF THIS CRATE CITES: the dispatcher and the answer that a call gives (`reply`), and the lent list as it leaves it
--- (`lent`): those of dispatch_theory's dispatcher over document 01's machine, behind 24. Definitions only.
-use Rattle.std.specs.Prelude.{◌≡◌, refl, List, ℕ}
+-- WHAT EVERY CONTRACT OF THIS CRATE CITES: what an answer means (`means`), the dispatcher and the answer that a call gives (`reply`), and the lent
+-- list as it leaves it (`lent`): those of dispatch_theory's dispatcher over document 01's machine, behind 24. Definitions only.
+use Rattle.std.specs.Prelude.{refl, List, ℕ, Result, Ok, Err}
+use Rattle.graph.specs.declared.refusals.Refusal.{Refusal}
+use Rattle.graph.specs.Refusals.{number}
 use Rattle.machine.specs.Machine.{Opening}
 use Rattle.machine.specs.Calls as calls
 use Rattle.search.specs.Replies as search
-use Rattle.search.specs.declared.Answer.TheVariants.{Refused}
 use Rattle.lent_records.specs.Machine.{Machine}
 use Rattle.lent_records.specs.Records.{Codec, lent_on}
 use Rattle.lent_records.specs.Records as records
-use Rattle.dispatch_theory.specs.Dispatcher as theory
-use Rattle.dispatch_theory.specs.Dispatcher.{DispatchCall, Response, placed, served, idle, dispatcher}
+use Rattle.dispatch_theory.specs.Dispatcher.{DispatchCall, Response, placed, served, idle, said, dispatcher}
 use Rattle.dispatch_theory.specs.Records.{Form, dispatch_codec}
 use Rattle.dispatcher.specs.Searches.{machine, held, made, codec}
 use Rattle.dispatcher.specs.declared.Dispatcher.{Dispatcher}
-use Rattle.dispatcher.specs.declared.Answer.{Answer}
-use Rattle.dispatcher.specs.declared.Answer.TheVariants.{Placed, Served, Idle, OfSearch}
-use Rattle.dispatcher.specs.declared.Outcome.{Outcome}
+use Rattle.dispatcher.specs.declared.Said.{Said}
+use Rattle.dispatcher.specs.declared.Said.TheVariants.{Placed, Served, Idle, OfSearch}
 
 -- add with the arguments of an opening, turn, and tell, show and close at a place
 abbrev pub Call : Type 0
@@ -25,12 +24,15 @@ Call = DispatchCall Opening
 abbrev pub dispatching : Machine
 dispatching = dispatcher machine held made
 
--- the case of the enum for each answer
-abbrev pub said : Response calls.Answer → Answer
-said (placed i) = Placed i
-said (served i) = Served i
-said idle = Idle
-said (theory.said a) = OfSearch (search.said a)
+-- ---- answers
+
+-- the machine's answer for each of the code's; no refusal of these calls has a place
+abbrev pub means : Result Said Refusal → Response calls.Answer
+means (Err r) = said (calls.refused (number r) 0)
+means (Ok (Placed i)) = placed i
+means (Ok (Served i)) = served i
+means (Ok Idle) = idle
+means (Ok (OfSearch s)) = said (search.means (Ok s))
 
 -- the record: eight search records, and the place last served
 abbrev pub form : Form codec
@@ -41,8 +43,8 @@ form = record {
   last = λ r. r.last;
   places-made = λ l n. refl;
   last_made = λ l n. refl;
-  Reply = Answer;
-  said = λ a. said a;
+  Reply = Response calls.Answer;
+  said = λ a. a;
 }
 
 abbrev pub dispatchers : Codec dispatching
@@ -50,9 +52,14 @@ dispatchers = dispatch_codec held made codec form
 
 -- ---- one call
 
+-- what a call leaves of the dispatcher, and its answer
+pub record Outcome : Type 0 where
+  pub dispatcher : Dispatcher
+  pub answer : Response calls.Answer
+
 -- a refusal: the dispatcher as it was
 abbrev pub refuses : Dispatcher → ℕ → Outcome
-refuses d number = record { dispatcher = d; answer = OfSearch (Refused number 0) }
+refuses d n = record { dispatcher = d; answer = said (calls.refused n 0) }
 
 -- 24, tested before all else, on all eight places and the place last served; else the dispatcher's call
 unfoldable pub reply : Dispatcher → Call → Outcome
@@ -63,11 +70,3 @@ reply d c = let r = records.reply dispatchers d c in record { dispatcher = r.lef
 unfoldable pub lent : Dispatcher → Call → List ℕ
 unfolding lent_on
 lent d c = lent_on dispatchers d c
-
--- what a function over a lent dispatcher promises of its answer and of the dispatcher that it leaves
-abbrev pub Gives : Dispatcher → Call → Answer → Dispatcher → Type 0
-Gives d c a left = (a ≡ (reply d c).answer) × (left ≡ (reply d c).dispatcher)
-
--- and of the list lent beside it
-abbrev pub GivesList : Dispatcher → Call → Answer → Dispatcher → List ℕ → Type 0
-GivesList d c a left l = (a ≡ (reply d c).answer) × ((left ≡ (reply d c).dispatcher) × (l ≡ lent d c))

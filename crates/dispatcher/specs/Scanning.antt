@@ -1,13 +1,13 @@
--- The loops over what is seen of the places: whether one is broken, and the first after another that holds what is wanted. Assumes nothing.
-use Rattle.std.specs.Prelude.{◌≡◌, Bool, true, false, not, ◌&&◌, List, [], ◌∷◌, map, eqb, length, get_or}
+-- The loops over the places: whether one is broken, and the first after another that holds what is wanted. Assumes nothing.
+use Rattle.std.specs.Prelude.{◌≡◌, Bool, true, false, List, [], ◌∷◌, map, length, get_or, set, Some, None}
 use Rattle.std.proofs.Math.Path.{refl}
-use Rattle.std.proofs.Common.{sym, ap, ◌∙◌, ne_eqb}
+use Rattle.std.proofs.Common.{sym, ap, ◌∙◌}
 use Prim.Native.Nat.{ℕ, zero, suc, ◌-◌, ◌≤◌, ◌<◌}
 use native.Mathlib.Omega.{arith}
 use Rattle.std.proofs.lemmas.List.{length-map}
-use Rattle.lists.specs.All.{every_of}
 use Rattle.lent_records.specs.Places.{under}
 use Rattle.dispatch_theory.specs.Dispatcher.{following, first_after}
+use Rattle.dispatcher.specs.Seen.{place_of}
 
 -- an array of structs: its relation speaks of the list mapped
 pub long_of : (X Y : Type 0) (f : X → Y) (l : List X) (n : ℕ) → length (map f l) ≡ n → length l ≡ n
@@ -19,25 +19,30 @@ any_default [] i d e h = absurd (omega arith)
 any_default (x ∷ xs) zero d e h = refl
 any_default (x ∷ xs) (suc i) d e h = any_default xs i d e (omega arith)
 
-pub none_broken : (xs : List ℕ) → ((i : ℕ) → i < length xs → ¬ (get_or xs i 0 ≡ 0)) → every_of (λ x. not (eqb x 0)) xs ≡ true
-unfolding every_of
-none_broken [] h = refl
-none_broken (x ∷ xs) h = rw (ne_eqb x 0 (h 0 (omega arith)), none_broken xs (λ i l. h (suc i) (omega arith)))
+-- what stands at a place is put there again
+pub set_same : {A : Type 0} (l : List A) (i : ℕ) (z : A) → i < length l → set l i (get_or l i z) ≡ l
+set_same [] i z h = absurd (omega arith)
+set_same (x ∷ l) zero z h = refl
+set_same {A} (x ∷ l) (suc i) z h = ap (λ (r : List A). x ∷ r) (set_same l i z (omega arith))
 
-pub one_broken : (xs : List ℕ) (i : ℕ) → i < length xs → get_or xs i 0 ≡ 0 → every_of (λ x. not (eqb x 0)) xs ≡ false
-unfolding every_of
-one_broken [] i l h = absurd (omega arith)
-one_broken (x ∷ xs) zero l h = rw h
-one_broken (x ∷ xs) (suc i) l h = go (not (eqb x 0)) (one_broken xs i (omega arith) h)
-  where
-    go : (b : Bool) → every_of (λ y. not (eqb y 0)) xs ≡ false → b && every_of (λ y. not (eqb y 0)) xs ≡ false
-    go true e = e
-    go false e = refl
+-- ---- the choice of a place
 
-pub under_at : (l : List ℕ) (k : ℕ) → 1 ≤ k → under 0 l k ≡ get_or l (k - 1) 0
+pub place_none : (n : ℕ) → None ≡ place_of n → n ≡ 0
+place_none zero e = refl
+place_none (suc n) e = cc
+
+pub place_some : (n k : ℕ) → Some k ≡ place_of n → (n ≡ k) × (1 ≤ k)
+place_some zero k e = cc
+place_some (suc n) k e = let same : suc n ≡ k = cc in (same, omega arith)
+
+pub place_is : (k : ℕ) → 1 ≤ k → place_of k ≡ Some k
+place_is zero h = absurd (omega arith)
+place_is (suc k) h = refl
+
+pub under_at : {A : Type 0} (z : A) (l : List A) (k : ℕ) → 1 ≤ k → under z l k ≡ get_or l (k - 1) z
 unfolding under
-under_at l zero h = absurd (omega arith)
-under_at l (suc k) h = ap (λ (i : ℕ). get_or l i 0) (omega arith)
+under_at z l zero h = absurd (omega arith)
+under_at z l (suc k) h = ap (λ (i : ℕ). get_or l i z) (omega arith)
 
 module _ (t : ℕ → Bool) where
   pub first_hit : (n l k : ℕ) → 0 < n → k ≡ following l → t k ≡ true → first_after t n l ≡ k

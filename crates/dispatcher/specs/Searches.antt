@@ -8,10 +8,8 @@ use Rattle.machine.proofs.Preserved.{step_kept}
 use Rattle.search.specs.Record.{decode, encode}
 use Rattle.search.specs.Check.{check}
 use Rattle.search.specs.Inverse.{decode-encode}
-use Rattle.search.specs.Replies.{said}
 use Rattle.search.specs.Theorem.{encode-passes}
 use Rattle.search.specs.declared.Search.{Search}
-use Rattle.search.specs.declared.Answer.{Answer}
 use Rattle.lent_records.specs.Machine.{Machine, Searches}
 use Rattle.lent_records.specs.Records.{Codec}
 use Rattle.search_records.specs.Searching.{search_machine, searches}
@@ -48,8 +46,8 @@ codec = record {
   encode = encode;
   decode = decode;
   check = check;
-  Reply = Answer;
-  said = λ a. said a;
+  Reply = calls.Answer;
+  said = λ a. a;
   Kept = KeptState;
   begun = tt;
   goes_on = step_kept;

@@ -29,7 +29,6 @@ use Rattle.dispatcher.specs.Steady.{steady}
 use Rattle.dispatcher.specs.Replies.{Call, dispatching, dispatchers, form, reply, lent}
 use Rattle.dispatcher.specs.Claims.{Unfinished, EightTurns, calls_at, Served, at, SaysAt, Dispatches, calls_said, calls_made}
 use Rattle.dispatcher.specs.declared.Dispatcher.{Dispatcher}
-use Rattle.dispatcher.specs.declared.Answer.{Answer}
 
 -- ---- lists of the machine's calls, as lent_records has them and as crate machine does
 
@@ -150,21 +149,21 @@ module _ (i : Interface dispatching) (f : Follows i) where
 
 -- ---- the calls of this crate
 
-pub calls-follow : {A : Type 0} (f : Answer → A) → Follows (calls_said f)
+pub calls-follow : {A : Type 0} (f : theory.Response calls.Answer → A) → Follows (calls_said f)
 unfolding reply lent
 calls-follow f = record {
   Kept = dispatchers.Kept;
   begun = dispatchers.begun;
   goes_on = dispatchers.goes_on;
   starts = refl;
-  next = λ s h c. ap (λ (x : Outcome Dispatcher Answer). x.left) (reply_is dispatchers s h c);
-  answer = λ s h c. ap (λ (x : Outcome Dispatcher Answer). f x.answer) (reply_is dispatchers s h c);
+  next = λ s h c. ap (λ (x : Outcome Dispatcher (theory.Response calls.Answer)). x.left) (reply_is dispatchers s h c);
+  answer = λ s h c. ap (λ (x : Outcome Dispatcher (theory.Response calls.Answer)). f x.answer) (reply_is dispatchers s h c);
   list = lent_is dispatchers;
   back = dispatchers.returns;
   sound = dispatchers.passes;
 }
 
-pub dispatches : {A : Type 0} (f : Answer → A) → Dispatches (calls_said f) (λ d. d.places)
+pub dispatches : {A : Type 0} (f : theory.Response calls.Answer → A) → Dispatches (calls_said f) (λ d. d.places)
 dispatches f = record {
   equal = as_said (calls_said f) (calls-follow f);
   fair = fair_here (calls_said f) (calls-follow f);

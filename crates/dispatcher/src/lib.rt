@@ -6,20 +6,20 @@ ghost use Rattle.std.specs.Prelude.{◌≡◌};
 ghost use Rattle.dispatch_theory.specs.Dispatcher as Calls;
 ghost use Rattle.lent_records.specs.Records.{replies};
 ghost use Rattle.search.specs.Record.{opening_of};
-ghost use Rattle.dispatcher.specs.Replies.{dispatchers, reply, lent, Gives, GivesList};
+ghost use Rattle.dispatcher.specs.Replies.{dispatchers, means, reply, lent};
 
 mod survey;
 
-use graph::Graph;
+use graph::{Graph, Refusal};
 use machine::Settings;
 use search::Search;
-use survey::{EMPTY, WAITING, first_after, is_accepted, place_fault, sound, survey};
+use survey::{Seen, first_after};
 
 // As specs/Places.antt of crate lent_records has it.
 pub const PLACES: usize = 8;
 
 // The dispatcher: the place last served, 1 to 8, or 0 where none was yet; and a search record for each place. docs/RECORD.md states the
-// check that every call makes of all of it.
+// check that every call makes of all of it. A number and no Option for the place, since C lends the record, all of whose bytes count.
 #[repr(C)]
 #[derive(Clone, Copy)]
 pub struct Dispatcher {
@@ -27,22 +27,17 @@ pub struct Dispatcher {
     pub places: [Search; PLACES],
 }
 
-// What a call answers: the place of an added search, or the one that a turn served; that a turn found none to serve; or a refusal or what
+// What a call that is not refused answers: the place of an added search, or the one that a turn served; that a turn found none to serve; or what
 // the search at a place answers.
-#[derive(Clone, Copy)]
-pub enum Answer {
+#[derive(Clone, Copy, Debug, PartialEq, Eq)]
+pub enum Said {
     Placed(usize),
     Served(usize),
     Idle,
-    OfSearch(search::Answer),
+    OfSearch(search::Said),
 }
 
-// The dispatcher that a call leaves, and its answer.
-#[derive(Clone, Copy)]
-pub struct Outcome {
-    pub dispatcher: Dispatcher,
-    pub answer: Answer,
-}
+pub type Answer = Result<Said, Refusal>;
 
 impl Dispatcher {
     // A dispatcher that holds no search.
@@ -50,198 +45,75 @@ impl Dispatcher {
     pub fn fresh() -> Dispatcher
         ensures { result ≡ (replies dispatchers).fresh }
     {
-        let s = Search::fresh();
         Dispatcher {
             last: 0,
-            places: [s; PLACES],
+            places: [Search::fresh(); PLACES],
         }
     }
-}
 
-// The calls on a dispatcher by value.
-
-// Ruled out: a ninth search; a place other than the free one with the smallest number; a part of a refused opening in a place.
-pub fn add_core(mut d: Dispatcher, g: Graph, multipliers: &[i32], settings: Settings) -> Outcome
-    ensures { result ≡ reply d (Calls.add (opening_of g multipliers.now settings)) }
-{
-    let seen = survey(d);
-    if !sound(d.last, seen) {
-        return Outcome {
-            dispatcher: d,
-            answer: Answer::OfSearch(search::Answer::Refused(24, 0)),
+    // Ruled out: a ninth search; a place other than the free one with the smallest number; a part of a refused opening in a place.
+    pub fn add(&mut self, g: &Graph, multipliers: &[i32], settings: Settings) -> Answer
+        ensures answer { means result ≡ (reply self.old (Calls.add (opening_of g.now multipliers.now settings))).answer }
+        ensures left { self.new ≡ (reply self.old (Calls.add (opening_of g.now multipliers.now settings))).dispatcher }
+    {
+        let seen = self.survey()?;
+        let Some(k) = first_after(&seen, 0, Seen::Empty) else {
+            return Err(Refusal::Full);
         };
+        self.places[k - 1].open(g, multipliers, settings)?;
+        Ok(Said::Placed(k))
     }
-    let k = first_after(seen, 0, EMPTY);
-    if k == 0 {
-        return Outcome {
-            dispatcher: d,
-            answer: Answer::OfSearch(search::Answer::Refused(41, 0)),
+
+    // Ruled out: a turn for a finished search, or for one that stands behind another unfinished one; more nodes than p; an idle turn that forgets
+    // the place last served; a place named that was not served.
+    pub fn turn(&mut self, p: u64) -> Answer
+        ensures answer { means result ≡ (reply self.old (Calls.turn p)).answer }
+        ensures left { self.new ≡ (reply self.old (Calls.turn p)).dispatcher }
+    {
+        let seen = self.survey()?;
+        if p == 0 {
+            return Err(Refusal::NoNodes);
+        }
+        let Some(k) = first_after(&seen, self.last, Seen::Waiting) else {
+            return Ok(Said::Idle);
         };
+        // the turn answers the place alone
+        let _ran = self.places[k - 1].run(p);
+        self.last = k;
+        Ok(Said::Served(k))
     }
-    let at = k - 1;
-    let s = d.places[at];
-    let out = search::open_core(s, g, multipliers, settings);
-    let answer = out.answer;
-    if !is_accepted(answer) {
-        return Outcome {
-            dispatcher: d,
-            answer: Answer::OfSearch(answer),
-        };
-    }
-    d.places[at] = out.search;
-    Outcome {
-        dispatcher: d,
-        answer: Answer::Placed(k),
-    }
-}
 
-// Ruled out: a turn for a finished search, or for one that stands behind another unfinished one; more nodes than p; an idle turn that forgets
-// the place last served.
-pub fn turn_core(mut d: Dispatcher, p: u64) -> Outcome
-    ensures { result ≡ reply d (Calls.turn p) }
-{
-    let seen = survey(d);
-    if !sound(d.last, seen) {
-        return Outcome {
-            dispatcher: d,
-            answer: Answer::OfSearch(search::Answer::Refused(24, 0)),
-        };
+    // Telling at a place.
+    // Ruled out: the verdict of another place; a place that holds nothing told as going on.
+    pub fn tell(&self, place: usize) -> Answer
+        ensures answer { means result ≡ (reply self.now (Calls.tell_at place)).answer }
+        ensures left { self.now ≡ (reply self.now (Calls.tell_at place)).dispatcher }
+    {
+        let at = self.holding(place)?;
+        let told = self.places[at].tell()?;
+        Ok(Said::OfSearch(told))
     }
-    if p == 0 {
-        return Outcome {
-            dispatcher: d,
-            answer: Answer::OfSearch(search::Answer::Refused(40, 0)),
-        };
-    }
-    let k = first_after(seen, d.last, WAITING);
-    if k == 0 {
-        return Outcome {
-            dispatcher: d,
-            answer: Answer::Idle,
-        };
-    }
-    let at = k - 1;
-    let s = d.places[at];
-    let out = search::run_core(s, p);
-    d.places[at] = out.search;
-    d.last = k;
-    Outcome {
-        dispatcher: d,
-        answer: Answer::Served(k),
-    }
-}
 
-// Telling at a place. Ruled out: the verdict of another place; a place that holds nothing told as going on.
-pub fn tell_core(d: Dispatcher, place: usize) -> Outcome
-    ensures { result ≡ reply d (Calls.tell_at place) }
-{
-    let seen = survey(d);
-    let fault = place_fault(d.last, seen, place);
-    if fault != 0 {
-        return Outcome {
-            dispatcher: d,
-            answer: Answer::OfSearch(search::Answer::Refused(fault, 0)),
-        };
+    // Showing at a place.
+    // Ruled out: the tour of another place; a refusal with a byte of `out` changed.
+    pub fn show(&self, place: usize, out: &mut [u8]) -> Answer
+        ensures answer { means result ≡ (reply self.now (Calls.show_at place out.old)).answer }
+        ensures left { self.now ≡ (reply self.now (Calls.show_at place out.old)).dispatcher }
+        ensures list { out.new ≡ lent self.now (Calls.show_at place out.old) }
+    {
+        let at = self.holding(place)?;
+        let shown = self.places[at].show(out)?;
+        Ok(Said::OfSearch(shown))
     }
-    let at = place - 1;
-    let s = d.places[at];
-    let out = search::tell_core(s);
-    let answer = out.answer;
-    Outcome {
-        dispatcher: d,
-        answer: Answer::OfSearch(answer),
+
+    // Closing at a place.
+    // Ruled out: a byte of the search left in the place; another place, or the place last served, changed.
+    pub fn close(&mut self, place: usize) -> Answer
+        ensures answer { means result ≡ (reply self.old (Calls.close_at place)).answer }
+        ensures left { self.new ≡ (reply self.old (Calls.close_at place)).dispatcher }
+    {
+        let at = self.holding(place)?;
+        let closed = self.places[at].close()?;
+        Ok(Said::OfSearch(closed))
     }
-}
-
-// Showing at a place. Ruled out: the tour of another place; a refusal with a byte of `out` changed.
-pub fn show_core(d: Dispatcher, place: usize, out: &mut [u8]) -> Outcome
-    ensures { (result ≡ reply d (Calls.show_at place out.old))
-        × (out.new ≡ lent d (Calls.show_at place out.old)) }
-{
-    let seen = survey(d);
-    let fault = place_fault(d.last, seen, place);
-    if fault != 0 {
-        return Outcome {
-            dispatcher: d,
-            answer: Answer::OfSearch(search::Answer::Refused(fault, 0)),
-        };
-    }
-    let at = place - 1;
-    let s = d.places[at];
-    let done = search::show_core(s, out);
-    let answer = done.answer;
-    Outcome {
-        dispatcher: d,
-        answer: Answer::OfSearch(answer),
-    }
-}
-
-// Closing at a place. Ruled out: a byte of the search left in the place; another place changed.
-pub fn close_core(mut d: Dispatcher, place: usize) -> Outcome
-    ensures { result ≡ reply d (Calls.close_at place) }
-{
-    let seen = survey(d);
-    let fault = place_fault(d.last, seen, place);
-    if fault != 0 {
-        return Outcome {
-            dispatcher: d,
-            answer: Answer::OfSearch(search::Answer::Refused(fault, 0)),
-        };
-    }
-    let at = place - 1;
-    let s = d.places[at];
-    let out = search::close_core(s);
-    let answer = out.answer;
-    d.places[at] = out.search;
-    Outcome {
-        dispatcher: d,
-        answer: Answer::OfSearch(answer),
-    }
-}
-
-// The calls on a dispatcher that the caller lends: each is its core, and the dispatcher is then the core's.
-
-// Ruled out: an answer with the dispatcher left as it was; a part of a refused opening in a place.
-pub fn add(d: &mut Dispatcher, g: Graph, multipliers: &[i32], settings: Settings) -> Answer
-    ensures { Gives d.old (Calls.add (opening_of g multipliers.now settings)) result d.new }
-{
-    let out = add_core(*d, g, multipliers, settings);
-    *d = out.dispatcher;
-    out.answer
-}
-
-// Ruled out: a place named that was not served; a dispatcher changed by an idle turn.
-pub fn turn(d: &mut Dispatcher, p: u64) -> Answer
-    ensures { Gives d.old (Calls.turn p) result d.new }
-{
-    let out = turn_core(*d, p);
-    *d = out.dispatcher;
-    out.answer
-}
-
-// Ruled out: a dispatcher changed; the verdict of another place.
-pub fn tell(d: &mut Dispatcher, place: usize) -> Answer
-    ensures { Gives d.old (Calls.tell_at place) result d.new }
-{
-    let out = tell_core(*d, place);
-    *d = out.dispatcher;
-    out.answer
-}
-
-// Ruled out: a dispatcher changed; a refusal with a byte of `out` changed.
-pub fn show(d: &mut Dispatcher, place: usize, out: &mut [u8]) -> Answer
-    ensures { GivesList d.old (Calls.show_at place out.old) result d.new out.new }
-{
-    let done = show_core(*d, place, out);
-    *d = done.dispatcher;
-    done.answer
-}
-
-// Ruled out: a search left open; another place, or the place last served, changed.
-pub fn close(d: &mut Dispatcher, place: usize) -> Answer
-    ensures { Gives d.old (Calls.close_at place) result d.new }
-{
-    let out = close_core(*d, place);
-    *d = out.dispatcher;
-    out.answer
 }

@@ -1,132 +1,83 @@
 // What the dispatcher sees of its places, and the choice of one.
 ghost use Rattle.std.specs.Prelude.{◌≡◌};
-ghost use Rattle.machine.specs.Calls.{is_accepted};
-ghost use Rattle.search.specs.Inverse.{Typed};
-ghost use Rattle.search.specs.Replies.{means};
 ghost use Rattle.dispatch_theory.specs.Dispatcher.{following, first_after};
-ghost use Rattle.dispatcher.specs.Seen as Seen;
-ghost use Rattle.dispatcher.specs.Seen.{seen_in, Surveyed, is_at, fault_by};
+ghost use Rattle.dispatcher.specs.Seen.{seen_in, is_at, place_of, Again, Laid, Surveys, Holds};
 
 use crate::{Dispatcher, PLACES};
-use search::{Answer, Search};
+use graph::Refusal;
+use search::{Said, Search};
 
 // What a place is seen to hold: a record that fails its own check; no search; one that is unfinished; one that is finished.
-pub(crate) const BROKEN: u8 = 0;
-
-pub(crate) const EMPTY: u8 = 1;
-
-pub(crate) const WAITING: u8 = 2;
-
-pub(crate) const FINISHED: u8 = 3;
+#[derive(Clone, Copy, Debug, PartialEq, Eq)]
+pub(crate) enum Seen {
+    Broken,
+    Empty,
+    Waiting,
+    Finished,
+}
 
 // By what telling it answers.
-fn seen_in(s: Search) -> u8
-    ensures { (result ≡ seen_in s) × Typed s }
+fn seen_in(s: &Search) -> Seen
+    ensures { (result ≡ seen_in s.now) × Again s.now }
 {
-    let out = search::tell_core(s);
-    let answer = out.answer;
-    match answer {
-        Answer::Refused(number, _) => {
-            if number == 24 {
-                return BROKEN;
-            }
-            EMPTY
-        }
-        Answer::Accepted => BROKEN,
-        Answer::GoingOn(_) => BROKEN,
-        Answer::Finished(_) => BROKEN,
-        Answer::Searching(_) => WAITING,
-        Answer::NoTour(_) => FINISHED,
-        Answer::Best(_, _) => FINISHED,
+    match s.tell() {
+        Err(Refusal::Record) => Seen::Broken,
+        Err(_) => Seen::Empty,
+        Ok(Said::Searching(_)) => Seen::Waiting,
+        Ok(_) => Seen::Finished,
     }
-}
-
-pub(crate) fn survey(d: Dispatcher) -> [u8; PLACES]
-    ensures { Surveyed d result }
-{
-    let mut seen = [0u8; PLACES];
-    let mut i = 0;
-    while i < PLACES {
-        let s = d.places[i];
-        seen[i] = seen_in(s);
-        i = i + 1;
-    }
-    seen
-}
-
-// Is every place such as its own check accepts, and the last served one of them, or 0?
-pub(crate) fn sound(last: usize, seen: [u8; PLACES]) -> bool
-    ensures { result ≡ Seen.sound last seen }
-{
-    if last > PLACES {
-        return false;
-    }
-    let mut i = 0;
-    while i < PLACES {
-        if seen[i] == BROKEN {
-            return false;
-        }
-        i = i + 1;
-    }
-    true
 }
 
 // The place after another, in cyclic order.
 fn following(last: usize) -> usize
     ensures { result ≡ following last }
 {
-    if last < PLACES {
-        return last + 1;
-    }
-    1
+    if last < PLACES { last + 1 } else { 1 }
 }
 
-// The first place after `last`, in cyclic order, that is seen to hold what is wanted; 0 where none is.
-pub(crate) fn first_after(seen: [u8; PLACES], last: usize, wanted: u8) -> usize
-    ensures { result ≡ first_after (is_at seen wanted) 8 last }
+// The first place after `last`, in cyclic order, that is seen to hold what is wanted.
+pub(crate) fn first_after(seen: &[Seen; PLACES], last: usize, wanted: Seen) -> Option<usize>
+    ensures { result ≡ place_of (first_after (is_at seen.now wanted) 8 last) }
 {
     let mut at = last;
-    let mut left = PLACES;
-    while left > 0 {
+    for _ in 0..PLACES {
         at = following(at);
         if seen[at - 1] == wanted {
-            return at;
+            return Some(at);
         }
-        left = left - 1;
     }
-    0
+    None
 }
 
-// The first of 24, 42 and 20 that applies to a place to tell, show or close; or 0.
-pub(crate) fn place_fault(last: usize, seen: [u8; PLACES], place: usize) -> u32
-    ensures { result ≡ fault_by last seen place }
-{
-    if !sound(last, seen) {
-        return 24;
+impl Dispatcher {
+    // Every place, if each is such as its own check accepts, and the last served one of them, or 0.
+    pub(crate) fn survey(&self) -> Result<[Seen; PLACES], Refusal>
+        ensures laid { Laid self.now }
+        ensures seen { Surveys self.now result }
+    {
+        let mut seen = [Seen::Broken; PLACES];
+        for (k, s) in self.places.iter().enumerate() {
+            seen[k] = seen_in(s);
+        }
+        if self.last > PLACES || seen.iter().any(|x| *x == Seen::Broken) {
+            return Err(Refusal::Record);
+        }
+        Ok(seen)
     }
-    if place < 1 {
-        return 42;
-    }
-    if place > PLACES {
-        return 42;
-    }
-    if seen[place - 1] == EMPTY {
-        return 20;
-    }
-    0
-}
 
-// "Accepted means not refused."
-pub(crate) fn is_accepted(answer: Answer) -> bool
-    ensures { result ≡ is_accepted (means answer) }
-{
-    match answer {
-        Answer::Refused(_, _) => false,
-        Answer::Accepted => true,
-        Answer::GoingOn(_) => true,
-        Answer::Finished(_) => true,
-        Answer::Searching(_) => true,
-        Answer::NoTour(_) => true,
-        Answer::Best(_, _) => true,
+    // Where the search at a place to tell, show or close stands.
+    pub(crate) fn holding(&self, place: usize) -> Result<usize, Refusal>
+        ensures laid { Laid self.now }
+        ensures held { Holds self.now place result }
+    {
+        let seen = self.survey()?;
+        if place < 1 || place > PLACES {
+            return Err(Refusal::Place);
+        }
+        let at = place - 1;
+        if seen[at] == Seen::Empty {
+            return Err(Refusal::NotOpen);
+        }
+        Ok(at)
     }
 }

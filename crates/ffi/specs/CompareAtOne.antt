@@ -9,8 +9,7 @@ use Rattle.graph.specs.declared.Graph.{Graph}
 use Rattle.graph.specs.Valid.{valid}
 use Rattle.tree_theory.specs.Inputs.{multipliers_fit, ceiling_fits, denominator_fits, denominator_fault}
 use Rattle.machine.specs.Machine.{Opening, no_search}
-use Rattle.machine.specs.Calls.{Reply, opens, run, step}
-use Rattle.search.specs.declared.Answer.{Answer}
+use Rattle.machine.specs.Calls.{Answer, Reply, opens, run, step}
 use Rattle.compare.specs.declared.Terms.{Terms}
 use Rattle.compare.specs.Comparison.{count_of, finishes, pair_opening, counts, pairs_fit, settings_fit, compare_fault, answer_by, compare_reply, left_by, compare_leaves}
 use Rattle.onetree_theorems.specs.Former as former

@@ -3,16 +3,8 @@ use Rattle.std.specs.Prelude.{◌≡◌, List, ℕ}
 use Rattle.machine.specs.Calls.{Call}
 use Rattle.search.specs.Replies.{reply, lent}
 use Rattle.search.specs.declared.Search.{Search}
-use Rattle.search.specs.declared.Outcome.{Outcome}
 use Rattle.ffi.specs.declared.Reply.{Reply}
-use Rattle.ffi.specs.declared.searches.Replied.{Replied}
 use Rattle.ffi.specs.Answers.{said_of}
-
-abbrev pub in_numbers : Outcome → Replied
-in_numbers r = record { search = r.search; said = said_of r.answer }
-
-abbrev pub replied : Search → Call → Replied
-replied s c = in_numbers (reply s c)
 
 -- what a call promises of its answer and of the record that it leaves
 abbrev pub Leaves : Search → Call → Reply → Search → Type 0

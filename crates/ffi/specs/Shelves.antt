@@ -3,21 +3,8 @@ use Rattle.std.specs.Prelude.{◌≡◌, ℕ}
 use Rattle.search.specs.declared.Search.{Search}
 use Rattle.shelf.specs.Replies.{save_reply, back_reply}
 use Rattle.shelf.specs.declared.Shelf.{Shelf}
-use Rattle.shelf.specs.declared.Saved.{Saved}
 use Rattle.ffi.specs.declared.Reply.{Reply}
-use Rattle.ffi.specs.declared.searches.Replied.{Replied}
-use Rattle.ffi.specs.declared.shelves.Stored.{Stored}
 use Rattle.ffi.specs.Answers.{said_of}
-use Rattle.ffi.specs.Searches.{in_numbers}
-
-abbrev pub stored_as : Saved → Stored
-stored_as r = record { shelf = r.shelf; said = said_of r.answer }
-
-abbrev pub saved_of : Search → Shelf → ℕ → Stored
-saved_of s h k = stored_as (save_reply s h k)
-
-abbrev pub brought_of : Search → Shelf → ℕ → Replied
-brought_of s h k = in_numbers (back_reply s h k)
 
 -- what save promises of its answer and of the shelf that it leaves
 abbrev pub Saves : Search → Shelf → ℕ → Reply → Shelf → Type 0

@@ -2,6 +2,7 @@
 -- C-24's claims, which crate dispatcher proves. Assumes nothing.
 use Rattle.std.specs.Prelude.{◌≡◌, ℕ, suc}
 use Rattle.std.proofs.Common.{ap, arith}
+use Rattle.machine.specs.Calls.{Answer, refused, accepted}
 use Rattle.machine.proofs.Following.{follows_demand_3}
 use Rattle.onetree_theorems.specs.AtOne.{EveryAnswerIsTheOldOne, search-at_one}
 use Rattle.dispatcher.specs.Claims.{Dispatches}
@@ -9,8 +10,6 @@ use Rattle.dispatcher.specs.Theorem.{dispatches}
 use Rattle.ffi.specs.Dispatches.{said_at, exported_at}
 use Rattle.recent_theorems.specs.Recent.{Searched}
 use Rattle.recent_theorems.specs.Theorems.{searched}
-use Rattle.search.specs.declared.Answer.{Answer}
-use Rattle.search.specs.declared.Answer.TheVariants.{Refused, Accepted}
 use Rattle.search.specs.Demand3.{calls_said, calls}
 use Rattle.search.specs.Theorem.{calls-follow}
 use Rattle.shelf.specs.Demand3.{LeavesFinished, SaysAfter}
@@ -19,8 +18,7 @@ use Rattle.ffi.specs.declared.Reply.{Reply}
 use Rattle.ffi.specs.Answers.{said_of}
 use Rattle.ffi.specs.Demand3.{Exported}
 
-apart : (n : ℕ) → ¬ (said_of (Refused (suc n) 0) ≡ said_of Accepted)
-unfolding said_of
+apart : (n : ℕ) → ¬ (said_of (refused (suc n) 0) ≡ said_of accepted)
 apart n e = let z : suc n ≡ 0 = ap (λ (s : Reply). s.number) e in omega arith
 
 pub demand_3_exported : Exported

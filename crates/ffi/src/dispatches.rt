@@ -1,80 +1,32 @@
-// The calls on a dispatcher, on one that the caller lends: each is a call on the dispatcher by value, and the dispatcher is then the one that
-// it left (document 02, C-24). The place that was added or served is the answer's place.
+// The calls on a dispatcher, on one that the caller lends: each is crate dispatcher's, and its answer in numbers (document 02, C-24). The place that
+// was added or served is the answer's place.
 ghost use Rattle.std.specs.Prelude.{◌≡◌};
 ghost use Rattle.dispatch_theory.specs.Dispatcher as Calls;
 ghost use Rattle.lent_records.specs.Records.{replies};
 ghost use Rattle.search.specs.Record.{opening_of};
-ghost use Rattle.dispatcher.specs.Replies.{dispatchers, lent};
-ghost use Rattle.ffi.specs.Dispatches.{said_at, dispatched, Leaves, LeavesList};
+ghost use Rattle.dispatcher.specs.Replies.{dispatchers};
+ghost use Rattle.ffi.specs.Dispatches.{Leaves, LeavesList};
 
-use crate::searches::said_of;
-use crate::{IDLE, Reply, plain};
-use dispatcher::{Answer, Dispatcher};
+use crate::{IDLE, Reply};
+use dispatcher::{Dispatcher, Said};
 use graph::Graph;
 use machine::Settings;
 
-// The dispatcher that a call leaves, and its answer in numbers.
-#[derive(Clone, Copy)]
-pub(crate) struct Dispatched {
-    pub dispatcher: Dispatcher,
-    pub said: Reply,
-}
+impl From<Said> for Reply {
+    ghost use Rattle.std.specs.Prelude.{◌≡◌, Ok};
+    ghost use Rattle.dispatcher.specs.Replies.{means};
+    ghost use Rattle.ffi.specs.Dispatches.{said_at};
 
-// The numbers of an answer.
-fn said_at(answer: Answer) -> Reply
-    ensures { result ≡ said_at answer }
-{
-    match answer {
-        Answer::Placed(k) => plain(0, k as u64),
-        Answer::Served(k) => plain(0, k as u64),
-        Answer::Idle => plain(IDLE, 0),
-        Answer::OfSearch(a) => said_of(a),
+    ghost from_gives = { λ answer said. said ≡ said_at (means (Ok answer)) };
+
+    fn from(answer: Said) -> Reply {
+        match answer {
+            Said::Placed(k) | Said::Served(k) => Reply::plain(0, k as u64),
+            Said::Idle => Reply::plain(IDLE, 0),
+            Said::OfSearch(told) => Reply::from(told),
+        }
     }
 }
-
-// The calls by value. Adding and turning, which go deepest, have none: the dispatcher between would be one copy more of eight records on the stack.
-
-fn told_at(d: Dispatcher, place: usize) -> Dispatched
-    ensures { result ≡ dispatched d (Calls.tell_at place) }
-{
-    let out = dispatcher::tell_core(d, place);
-    let left = out.dispatcher;
-    let answer = out.answer;
-    let said = said_at(answer);
-    Dispatched {
-        dispatcher: left,
-        said: said,
-    }
-}
-
-fn shown_at(d: Dispatcher, place: usize, out: &mut [u8]) -> Dispatched
-    ensures { (result ≡ dispatched d (Calls.show_at place out.old))
-        × (out.new ≡ lent d (Calls.show_at place out.old)) }
-{
-    let done = dispatcher::show_core(d, place, out);
-    let left = done.dispatcher;
-    let answer = done.answer;
-    let said = said_at(answer);
-    Dispatched {
-        dispatcher: left,
-        said: said,
-    }
-}
-
-fn closed_at(d: Dispatcher, place: usize) -> Dispatched
-    ensures { result ≡ dispatched d (Calls.close_at place) }
-{
-    let out = dispatcher::close_core(d, place);
-    let left = out.dispatcher;
-    let answer = out.answer;
-    let said = said_at(answer);
-    Dispatched {
-        dispatcher: left,
-        said: said,
-    }
-}
-
-// The calls on a lent dispatcher.
 
 // Ruled out: a place that holds a search; a byte that is not zero.
 #[unsafe(no_mangle)]
@@ -94,9 +46,7 @@ pub extern "C" fn planner_add(
 ) -> Reply
     ensures { Leaves d.old (Calls.add (opening_of g multipliers.now settings)) result d.new }
 {
-    let out = dispatcher::add_core(*d, g, multipliers, settings);
-    *d = out.dispatcher;
-    said_at(out.answer)
+    Reply::from(d.add(&g, multipliers, settings))
 }
 
 // A turn of p nodes. Ruled out: a place named that was not served; a dispatcher changed by an idle turn.
@@ -104,9 +54,7 @@ pub extern "C" fn planner_add(
 pub extern "C" fn planner_turn(d: &mut Dispatcher, p: u64) -> Reply
     ensures { Leaves d.old (Calls.turn p) result d.new }
 {
-    let out = dispatcher::turn_core(*d, p);
-    *d = out.dispatcher;
-    said_at(out.answer)
+    Reply::from(d.turn(p))
 }
 
 // Ruled out: the verdict of another place; a dispatcher changed.
@@ -114,9 +62,7 @@ pub extern "C" fn planner_turn(d: &mut Dispatcher, p: u64) -> Reply
 pub extern "C" fn planner_tell_at(d: &mut Dispatcher, place: usize) -> Reply
     ensures { Leaves d.old (Calls.tell_at place) result d.new }
 {
-    let out = told_at(*d, place);
-    *d = out.dispatcher;
-    out.said
+    Reply::from(d.tell(place))
 }
 
 // Ruled out: a refusal with a byte of `out` changed; the tour of another place.
@@ -124,9 +70,7 @@ pub extern "C" fn planner_tell_at(d: &mut Dispatcher, place: usize) -> Reply
 pub extern "C" fn planner_show_at(d: &mut Dispatcher, place: usize, out: &mut [u8]) -> Reply
     ensures { LeavesList d.old (Calls.show_at place out.old) result d.new out.new }
 {
-    let done = shown_at(*d, place, out);
-    *d = done.dispatcher;
-    done.said
+    Reply::from(d.show(place, out))
 }
 
 // Ruled out: a byte of the search left in the place; another place changed.
@@ -134,7 +78,5 @@ pub extern "C" fn planner_show_at(d: &mut Dispatcher, place: usize, out: &mut [u
 pub extern "C" fn planner_close_at(d: &mut Dispatcher, place: usize) -> Reply
     ensures { Leaves d.old (Calls.close_at place) result d.new }
 {
-    let out = closed_at(*d, place);
-    *d = out.dispatcher;
-    out.said
+    Reply::from(d.close(place))
 }

@@ -5,7 +5,7 @@
 
 ghost use Rattle.std.specs.Prelude.{◌≡◌, length};
 ghost use Rattle.charts.specs.Chart.{reading, write_outcome, write_leaves};
-ghost use Rattle.ffi.specs.Answers.{plain, said_outcome, check_outcome, filled_by, Fills};
+ghost use Rattle.ffi.specs.Answers.{plain, said_outcome, check_outcome, Fills};
 
 mod dispatches;
 mod logs;
@@ -14,8 +14,7 @@ mod shelves;
 mod simulations;
 mod trees;
 
-use charts::{ReadAnswer, WriteAnswer};
-use graph::Graph;
+use graph::{Graph, Refusal, Refused};
 
 // What a call answers beside document 01's numbers; no refusal has one of these. First 'no tree' and 'dead'.
 pub(crate) const NONE: u32 = 1000;
@@ -34,7 +33,7 @@ pub(crate) const IDLE: u32 = 1005;
 
 // What a call answers.
 #[repr(C)]
-#[derive(Clone, Copy)]
+#[derive(Clone, Copy, Debug, PartialEq, Eq, Default)]
 pub struct Reply {
     pub number: u32,
     pub place: u64,
@@ -42,22 +41,63 @@ pub struct Reply {
     pub nodes: u64,
 }
 
-// A lent graph as a call leaves it, and the answer.
-#[derive(Clone, Copy)]
-pub(crate) struct GraphReply {
-    pub graph: Graph,
-    pub said: Reply,
+impl Reply {
+    // A number and a place alone.
+    fn plain(number: u32, place: u64) -> Reply
+        ensures { result ≡ plain number place }
+    {
+        Reply {
+            number,
+            place,
+            ..Reply::default()
+        }
+    }
 }
 
-// A number and a place alone.
-pub(crate) fn plain(number: u32, place: u64) -> Reply
-    ensures { result ≡ plain number place }
-{
-    Reply {
-        number: number,
-        place: place,
-        value: 0,
-        nodes: 0,
+// A call that has nothing to tell.
+impl From<()> for Reply {
+    ghost use Rattle.ffi.specs.Answers.{plain};
+
+    ghost from_gives = { λ _ said. said ≡ plain 0 0 };
+
+    fn from(_done: ()) -> Reply {
+        Reply::plain(0, 0)
+    }
+}
+
+impl From<Refusal> for Reply {
+    ghost use Rattle.graph.specs.Refusals.{number};
+    ghost use Rattle.ffi.specs.Answers.{plain};
+
+    ghost from_gives = { λ refusal said. said ≡ plain (number refusal) 0 };
+
+    fn from(refusal: Refusal) -> Reply {
+        Reply::plain(refusal.number(), 0)
+    }
+}
+
+impl From<Refused> for Reply {
+    ghost use Rattle.graph.specs.Refusals.{number};
+    ghost use Rattle.ffi.specs.Answers.{plain};
+
+    ghost from_gives = { λ refused said. said ≡ plain (number refused.refusal) refused.place };
+
+    fn from(refused: Refused) -> Reply {
+        Reply::plain(refused.refusal.number(), refused.place)
+    }
+}
+
+// What was told, or why it was refused: each has its numbers above, or beside the calls that tell it.
+impl<T: Into<Reply>, E: Into<Reply>> From<Result<T, E>> for Reply {
+    ghost use Rattle.std.specs.Prelude.{MatchResult};
+
+    ghost from_gives = { λ r said. MatchResult r (λ x. T.converts x said) (λ e. E.converts e said) };
+
+    fn from(answer: Result<T, E>) -> Reply {
+        match answer {
+            Ok(x) => x.into(),
+            Err(e) => e.into(),
+        }
     }
 }
 
@@ -66,56 +106,34 @@ pub(crate) fn plain(number: u32, place: u64) -> Reply
 pub extern "C" fn planner_check(g: Graph) -> Reply
     ensures { result ≡ said_outcome (check_outcome g) }
 {
-    if graph::check(g) {
-        return plain(0, 0);
-    }
-    plain(15, 0)
-}
-
-// Reading, on a graph by value: where the bytes are refused the graph is as it was.
-fn read_into(g: Graph, bytes: &[u8]) -> GraphReply
-    ensures { result ≡ filled_by g (reading bytes.now) }
-{
-    let r = charts::read(bytes);
-    let answer = r.answer;
-    match answer {
-        ReadAnswer::Read => {
-            let h = r.graph;
-            let said = plain(0, 0);
-            GraphReply {
-                graph: h,
-                said: said,
-            }
-        }
-        ReadAnswer::Refused(number, at) => {
-            let said = plain(number, at);
-            GraphReply {
-                graph: g,
-                said: said,
-            }
-        }
+    if g.check() {
+        Reply::from(())
+    } else {
+        Reply::from(Refusal::Graph)
     }
 }
 
 // Ruled out: a graph changed by a refusal; a place left out.
+#[tactic(auto, unfolding(charts::specs::Chart::read_meaning, charts::specs::Chart::accept, charts::specs::Chart::refuse))]
 #[unsafe(no_mangle)]
 pub extern "C" fn planner_read(g: &mut Graph, bytes: &[u8]) -> Reply
     ensures { Fills g.old (reading bytes.now) result g.new }
 {
-    let out = read_into(*g, bytes);
-    *g = out.graph;
-    out.said
+    match charts::read(bytes) {
+        Ok(read) => {
+            *g = read;
+            Reply::from(())
+        }
+        Err(refused) => Reply::from(refused),
+    }
 }
 
 // Ruled out: a byte written by a refusal; 11 for a graph that breaks 'Legs and marks'.
+#[tactic(auto, unfolding(charts::specs::Answers::write_meaning))]
 #[unsafe(no_mangle)]
 pub extern "C" fn planner_write(g: Graph, out: &mut [u8]) -> Reply
     ensures { (result ≡ said_outcome (write_outcome g (length out.old)))
         × (out.new ≡ write_leaves g out.old) }
 {
-    let answer = charts::write(g, out);
-    match answer {
-        WriteAnswer::Written => plain(0, 0),
-        WriteAnswer::Refused(number, at) => plain(number, at),
-    }
+    Reply::from(charts::write(&g, out))
 }

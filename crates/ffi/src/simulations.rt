@@ -5,19 +5,40 @@ ghost use Rattle.compare.specs.Comparison.{compare_reply, compare_leaves};
 ghost use Rattle.ffi.specs.Answers.{said_of, said_sailing};
 
 use crate::Reply;
-use crate::searches::said_of;
 use compare::Terms;
-use graph::Graph;
-use simulation::SimulationAnswer;
+use graph::{Graph, Refusal};
 
 // What a simulation answers: 0, the total and the last state; or a refusal's number and place, and 0 for the others.
 #[repr(C)]
-#[derive(Clone, Copy)]
+#[derive(Clone, Copy, Debug, PartialEq, Eq, Default)]
 pub struct Sailed {
     pub number: u32,
     pub place: u64,
     pub total: i64,
     pub state: u64,
+}
+
+impl From<Result<simulation::Sailed, Refusal>> for Sailed {
+    ghost use Rattle.std.specs.Prelude.{◌≡◌};
+    ghost use Rattle.simulation.specs.Answers.{simulation_meaning};
+    ghost use Rattle.ffi.specs.Answers.{said_sailing};
+
+    ghost from_gives = { λ answer said. said ≡ said_sailing (simulation_meaning answer) };
+
+    #[tactic(auto, unfolding(simulation::specs::Answers::simulation_meaning))]
+    fn from(answer: Result<simulation::Sailed, Refusal>) -> Sailed {
+        match answer {
+            Ok(sailed) => Sailed {
+                total: sailed.total,
+                state: sailed.state,
+                ..Sailed::default()
+            },
+            Err(refusal) => Sailed {
+                number: refusal.number(),
+                ..Sailed::default()
+            },
+        }
+    }
 }
 
 // Ruled out: a tour's edges accepted in another order; a time written by a refusal.
@@ -32,21 +53,7 @@ pub extern "C" fn planner_simulate(
     ensures { (result ≡ said_sailing (simulation_reply g edges.now student spread (length times.old)))
         × (times.new ≡ simulation_leaves g edges.now student spread times.old) }
 {
-    let answer = simulation::simulate(g, edges, student, spread, times);
-    match answer {
-        SimulationAnswer::Sailed(total, state) => Sailed {
-            number: 0,
-            place: 0,
-            total: total,
-            state: state,
-        },
-        SimulationAnswer::Refused(number, at) => Sailed {
-            number: number,
-            place: at,
-            total: 0,
-            state: 0,
-        },
-    }
+    Sailed::from(simulation::simulate(&g, edges, student, spread, times))
 }
 
 // Ruled out: a budget handed on from one pair to the next; a count written before a later pair is refused.
@@ -62,6 +69,5 @@ pub extern "C" fn planner_compare(
     ensures { (result ≡ said_of (compare_reply g multipliers.now terms sweeps.now steps.now (length report.old)))
         × (report.new ≡ compare_leaves g multipliers.now terms sweeps.now steps.now report.old) }
 {
-    let answer = compare::compare(g, multipliers, terms, sweeps, steps, report);
-    said_of(answer)
+    Reply::from(compare::compare(&g, multipliers, terms, sweeps, steps, report))
 }

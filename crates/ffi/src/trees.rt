@@ -3,20 +3,25 @@
 ghost use Rattle.std.specs.Prelude.{◌≡◌, length};
 ghost use Rattle.onetree.specs.Answers.{tree_reply, tree_leaves, rule_reply, rule_leaves};
 ghost use Rattle.preview.specs.Preview.{preview_reply, preview_leaves};
-ghost use Rattle.ffi.specs.Answers.{bound, said_reply};
+ghost use Rattle.ffi.specs.Answers.{said_reply};
 
-use crate::{NONE, Reply, plain};
+use crate::{NONE, Reply};
 use graph::Graph;
-use onetree::{RuleAnswer, TreeAnswer};
 
-fn bound(value: i64) -> Reply
-    ensures { result ≡ bound value }
-{
-    Reply {
-        number: 0,
-        place: 0,
-        value: value,
-        nodes: 0,
+impl From<Option<i64>> for Reply {
+    ghost use Rattle.std.specs.Prelude.{◌≡◌};
+    ghost use Rattle.ffi.specs.Answers.{said_bound};
+
+    ghost from_gives = { λ bound said. said ≡ said_bound bound };
+
+    fn from(bound: Option<i64>) -> Reply {
+        match bound {
+            Some(value) => Reply {
+                value,
+                ..Reply::default()
+            },
+            None => Reply::plain(NONE, 0),
+        }
     }
 }
 
@@ -31,12 +36,7 @@ pub extern "C" fn planner_tree(
     ensures { (result ≡ said_reply (tree_reply g multipliers.now denominator (length out.old)))
         × (out.new ≡ tree_leaves g multipliers.now denominator out.old) }
 {
-    let answer = onetree::tree(g, multipliers, denominator, out);
-    match answer {
-        TreeAnswer::Bound(value) => bound(value),
-        TreeAnswer::NoTree => plain(NONE, 0),
-        TreeAnswer::Refused(number, at) => plain(number, at),
-    }
+    Reply::from(onetree::tree(&g, multipliers, denominator, out))
 }
 
 // Ruled out: the edge's mark left as it is; an answer for an edge that is not free.
@@ -52,12 +52,7 @@ pub extern "C" fn planner_preview(
     ensures { (result ≡ said_reply (preview_reply g multipliers.now denominator edge mark (length out.old)))
         × (out.new ≡ preview_leaves g multipliers.now denominator edge mark out.old) }
 {
-    let answer = preview::preview(g, multipliers, denominator, edge, mark, out);
-    match answer {
-        TreeAnswer::Bound(value) => bound(value),
-        TreeAnswer::NoTree => plain(NONE, 0),
-        TreeAnswer::Refused(number, at) => plain(number, at),
-    }
+    Reply::from(preview::preview(&g, multipliers, denominator, edge, mark, out))
 }
 
 // Ruled out: a ruling written where no 1-tree is within the ceiling; 0 for a ceiling out of range.
@@ -72,10 +67,5 @@ pub extern "C" fn planner_rule(
     ensures { (result ≡ said_reply (rule_reply g multipliers.now ceiling denominator (length out.old)))
         × (out.new ≡ rule_leaves g multipliers.now ceiling denominator out.old) }
 {
-    let answer = onetree::rule(g, multipliers, ceiling, denominator, out);
-    match answer {
-        RuleAnswer::Bound(value) => bound(value),
-        RuleAnswer::Infeasible => plain(NONE, 0),
-        RuleAnswer::Refused(number, at) => plain(number, at),
-    }
+    Reply::from(onetree::rule(&g, multipliers, ceiling, denominator, out))
 }

@@ -1,6 +1,7 @@
 -- The loops of the check: what is wrong with an edge, which each of them counts, and what their answers say of the graph. Assumes nothing.
 use Rattle.std.specs.Prelude.{ℕ, ◌+◌, ◌<◌, ◌≤◌, ◌≡◌, refl, Bool, true, false, not, ◌&&◌, List, leb, length, get_or, set, replicate, ℤ, pos}
-use Rattle.std.proofs.Common.{sym, ◌∙◌, ap, arith, length-set, leb-true, le-leb}
+use Rattle.std.proofs.Common.{sym, ◌∙◌, ap, arith, length-set, leb-true, le-leb, true≢false}
+use mir.Val.{bool_byte}
 use Rattle.std.proofs.lemmas.Bool.{not-false}
 use Rattle.lists.specs.Bools.{Says, bit, and_both}
 use Rattle.lists.specs.Hits.{Nowhere, hits, hits_none, hits_next, next_most}
@@ -35,6 +36,33 @@ pair_again a b k = pair_met a b k (get_or a k 0) (get_or b k 0)
 -- the pairs of m edges have places in the table
 abbrev pub InPairs : List ℕ → List ℕ → ℕ → Type 0
 InPairs a b m = (k : ℕ) → k < m → (get_or a k 0 < get_or b k 0) × (get_or b k 0 ≤ max_vertices)
+
+-- ---- the numbers of vertices and edges
+
+pub record Sized (g : Graph) : Type 0 where
+  pub low : min_vertices ≤ g.n
+  pub high : g.n ≤ max_vertices
+  pub few : g.m ≤ max_edges
+
+abbrev pub sized : Graph → Bool
+sized g = leb min_vertices g.n && leb g.n max_vertices && leb g.m max_edges
+
+pub sized_is : (g : Graph) → sized g ≡ true → Sized g
+sized_is g h =
+    let p = and_both (leb min_vertices g.n && leb g.n max_vertices) (leb g.m max_edges) h in
+    let q = and_both (leb min_vertices g.n) (leb g.n max_vertices) p.0 in
+    record { low = leb-true min_vertices g.n q.0; high = leb-true g.n max_vertices q.1; few = leb-true g.m max_edges p.1 }
+
+pub not_sized : (g : Graph) → sized g ≡ false → valid g ≡ false
+not_sized g h =
+    not_valid g (λ v. true≢false (rw (le-leb min_vertices g.n v.low, le-leb g.n max_vertices v.high, le-leb g.m max_edges v.few) at h))
+
+-- a test as a number, as the code converts it
+pub bit_of : (x : ℕ) (b c : Bool) → x ≡ bool_byte (not b) → b ≡ c → x ≡ bit (not c)
+bit_of x true true e f = e
+bit_of x false false e f = e
+bit_of x true false e f = absurd (true≢false f)
+bit_of x false true e f = absurd (true≢false (sym f))
 
 -- ---- the loop over the pairs
 

@@ -1,9 +1,11 @@
--- What a reader must believe: the limits, the network that a graph value stands for, when it is valid, and when two are the same
+-- What a reader must believe: the limits, the network that a graph value stands for, when it is valid, when two are the same, and the numbers of
+-- the refusals
 pub mod Limits
 pub mod Network
 pub mod Valid
 pub mod Edgeless
 pub mod Same
+pub mod Refusals
 -- What follows is proved, or says what code knows.
 -- how large numbers get: laws over the limits
 pub mod Fits

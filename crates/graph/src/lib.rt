@@ -1,12 +1,14 @@
 // Document 01's 'Legs and marks'. Our words: graph for chart or sea, vertex for buoy, edge for leg.
 #![tactic(auto)]
 
-ghost use Rattle.std.specs.Prelude.{◌≡◌, ◌<◌};
+ghost use Rattle.std.specs.Prelude.{◌≡◌};
 ghost use Rattle.graph.specs.Edgeless.{edgeless};
 
+mod refusals;
 mod valid;
 
-pub use valid::{check, check_parts, cost_ok, ends_ok};
+pub use refusals::{Refusal, Refused};
+pub use valid::{cost_ok, ends_ok};
 
 // Limits. The definitions in specs/Limits.antt state them; every size fact is a law over those.
 pub const MIN_VERTICES: usize = 3;
@@ -17,7 +19,7 @@ pub const MAX_EDGES: usize = 190;
 
 pub const MAX_COST: i32 = 100_000_000;
 
-// Marks.
+// Marks. Numbers and no enum, since C fills the bytes of a graph with what it likes, and `check` tells what is none.
 pub const FREE: u8 = 0;
 
 pub const REQUIRED: u8 = 1;
@@ -27,7 +29,7 @@ pub const EXCLUDED: u8 = 2;
 // A graph by value, with any contents: vertices 1 to n, edges 1 to m. Edge k stands at place k - 1 of the arrays and joins a and b;
 // what stands past m counts for nothing. The fields stand widest first, so that no byte lies between them.
 #[repr(C)]
-#[derive(Clone, Copy)]
+#[derive(Clone, Copy, Debug, PartialEq, Eq)]
 pub struct Graph {
     pub cost: [i32; MAX_EDGES],
     pub a: [u8; MAX_EDGES],
@@ -35,14 +37,6 @@ pub struct Graph {
     pub mark: [u8; MAX_EDGES],
     pub n: u8,
     pub m: u8,
-}
-
-// A byte as the number that it is: a graph's n or m, an end.
-// Ruled out: another number; a byte taken as signed.
-pub fn wide(x: u8) -> usize
-    ensures { (result ≡ x) × (x < 256) }
-{
-    x as usize
 }
 
 impl Graph {
@@ -56,12 +50,12 @@ impl Graph {
             a: [0; MAX_EDGES],
             b: [0; MAX_EDGES],
             mark: [0; MAX_EDGES],
-            n: n,
+            n,
             m: 0,
         }
     }
 
-    // The graph that stands beside a refusal: no vertex, no edge, zero at every place.
+    // No vertex and no edge, zero at every place.
     // Ruled out: one with vertices; one with an edge or a mark left past m.
     pub fn empty() -> Graph
         ensures { result ≡ edgeless 0 }

@@ -53,6 +53,10 @@ pub record ChargeAt (q : ℕ) (g : Graph) (d : List ℤ) (k x : ℕ) : Type 0 wh
 abbrev pub Charged : ℕ → Graph → List ℤ → List ℕ → Type 0
 Charged q g d c = (k : ℕ) → k < g.m → ChargeAt q g d k (get_or c k 0)
 
+-- none of them is too large for its key
+abbrev pub Cheap : Graph → List ℕ → Type 0
+Cheap g c = (k : ℕ) → k < g.m → get_or c k 0 ≤ max_charge
+
 -- as the laws of bounds want it
 pub offs : (q : ℕ) (g : Graph) (d : List ℤ) (c : List ℕ) → Charged q g d c → Shifted (scaled_by q (network g)) (multiplier d) offset (entry c)
 offs q g d c h e m =

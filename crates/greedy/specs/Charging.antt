@@ -50,21 +50,20 @@ Chargeable n a b cost = (1 ≤ a) × (a ≤ n) × (1 ≤ b) × (b ≤ n) × InRa
 abbrev pub ChargeOf : ℕ → ℕ → ℕ → ℤ → List ℤ → ℕ → Type 0
 ChargeOf q a b cost d x = IsDiff ((q times cost +ℤ multiplier d a) +ℤ multiplier d b) x offset × (1 ≤ x) × (x ≤ max_charge)
 
--- the first n places of c have the charges of the edges with those ends and costs
-abbrev pub ChargesOf : ℕ → List ℕ → List ℕ → List ℤ → List ℤ → List ℕ → ℕ → Type 0
-ChargesOf q a b cost d c n = (k : ℕ) → k < n → ChargeOf q (get_or a k 0) (get_or b k 0) (get_or cost k (pos 0)) d (get_or c k 0)
+-- the first n places of c have the charges of the graph's edges
+abbrev pub ChargesOf : ℕ → Graph → List ℤ → List ℕ → ℕ → Type 0
+ChargesOf q g d c n = (k : ℕ) → k < n → ChargeOf q (get_or g.a k 0) (get_or g.b k 0) (get_or g.cost k (pos 0)) d (get_or c k 0)
 
 -- one more place
-pub charges_more : (q : ℕ) (a b : List ℕ) (cost d : List ℤ) (c : List ℕ) (n x : ℕ) → n < length c → ChargesOf q a b cost d c n
-    → ChargeOf q (get_or a n 0) (get_or b n 0) (get_or cost n (pos 0)) d x → ChargesOf q a b cost d (set c n x) (n + 1)
-charges_more q a b cost d c n x room t new k l = at (ℕ_discrete k n)
+pub charges_more : (q : ℕ) (g : Graph) (d : List ℤ) (c : List ℕ) (n x : ℕ) → n < length c → ChargesOf q g d c n
+    → ChargeOf q (get_or g.a n 0) (get_or g.b n 0) (get_or g.cost n (pos 0)) d x → ChargesOf q g d (set c n x) (n + 1)
+charges_more q g d c n x room t new k l = at (ℕ_discrete k n)
   where
-    at : Dec (k ≡ n) → ChargeOf q (get_or a k 0) (get_or b k 0) (get_or cost k (pos 0)) d (get_or (set c n x) k 0)
+    at : Dec (k ≡ n) → ChargeOf q (get_or g.a k 0) (get_or g.b k 0) (get_or g.cost k (pos 0)) d (get_or (set c n x) k 0)
     at (yes e) = rw (e, get_or-set_same c n x 0 room) new
     at (no e) = rw (get_or-set_other c n k x 0 e) (t k (omega arith))
 
--- of a graph's edges
-pub charged_of : (q : ℕ) (g : Graph) (d : List ℤ) (c : List ℕ) → ChargesOf q g.a g.b g.cost d c g.m → Charged q g d c
+pub charged_of : (q : ℕ) (g : Graph) (d : List ℤ) (c : List ℕ) → ChargesOf q g d c g.m → Charged q g d c
 unfolding charge
 charged_of q g d c t k h =
     let x = t k h in

@@ -1,37 +1,22 @@
 -- The loops that make the greedy choice, as what holds before and after each turn: of the edges away from vertex 1, and of those at it. Assumes
 -- nothing.
-use Rattle.std.specs.Prelude.{◌≡◌, ◌≢◌, List, [], ◌∷◌, length, get_or, set, pos}
+use Rattle.std.specs.Prelude.{◌≡◌, ◌≢◌, List, [], ◌∷◌, length, get_or, set}
 use Rattle.std.proofs.Common.{◌∙◌, sym, ap, arith, length-set}
 use Rattle.std.proofs.Math.Path.{subst}
 use Prim.Native.Nat.{ℕ, zero, suc, ◌+◌, ◌*◌, ◌%◌, ◌<◌, ◌≤◌}
 use Rattle.std.proofs.Math.Decide.{ℕ_discrete}
 use Rattle.graph.specs.Limits.{max_vertices, max_edges}
-use Rattle.graph.specs.Network.{Network, free}
+use Rattle.graph.specs.Network.{Network}
 use Rattle.spanning.specs.Walks.{label, relabel}
 use Rattle.spanning.specs.Components.{rank}
 use Rattle.spanning.specs.Held.{HoldsLabels, holds_join, holds_idle}
 use Rattle.greedy.specs.Charged.{max_charge}
-use Rattle.greedy.specs.Keys.{queued, queued-step, queued-length}
+use Rattle.greedy.specs.Keys.{SamePlaces, queued, queued-step, queued-length, queued-same}
 use Rattle.greedy.specs.Growth.{TakenGreedily, grew_none, grow_near, grow_spare, grow_join, grow_idle}
 
 -- vertices number from 1, so labels have a place more
 abbrev pub max_labels : ℕ
 max_labels = max_vertices + 1
-
--- place k of the ends a, b and the charges c is an edge's, and its ends have labels
-abbrev pub Joins : List ℕ → List ℕ → List ℕ → ℕ → Type 0
-Joins a b c k = (k < max_edges) × (get_or a k 0 < max_labels) × (get_or b k 0 < max_labels) × (get_or c k 0 ≤ max_charge)
-
--- the first f edges to look at have the ends a, b in the network
-abbrev pub Reads : Network → List ℕ → List ℕ → List ℕ → ℕ → Type 0
-Reads G a b ks f =
-    (i : ℕ) → i < f
-    → (G.a (suc (get_or ks i 0 % 256)) ≡ get_or a (get_or ks i 0 % 256) 0) × (G.b (suc (get_or ks i 0 % 256)) ≡ get_or b (get_or ks i 0 % 256) 0)
-
--- a network with these ends
-abbrev pub joining : List ℕ → List ℕ → Network
-joining a b =
-    record { n = 0; m = 0; a = λ k. get_or (0 ∷ a) k 0; b = λ k. get_or (0 ∷ b) k 0; cost = λ k. pos 0; mark = λ k. free }
 
 -- ---- the edges away from vertex 1
 
@@ -44,16 +29,9 @@ pub record ChoiceSoFar (G : Network) (c ks : List ℕ) (i : ℕ) (l w : List ℕ
   pub holds : HoldsLabels G.a G.b max_labels l (queued ks i)
   pub grew : TakenGreedily G c [] (queued ks i) w far sum
 
--- so it is in every network that has these ends
-abbrev pub ChoiceByEnds : List ℕ → List ℕ → List ℕ → List ℕ → ℕ → ℕ → List ℕ → List ℕ → ℕ → ℕ → Type 0
-ChoiceByEnds a b c ks f i l w far sum = (G : Network) → Reads G a b ks f → ChoiceSoFar G c ks i l w far sum
-
 -- before each turn from `from` on, up to turn i, fewer than `enough` were taken: of the first q edges so many join two components
 abbrev pub Lacking : Network → List ℕ → ℕ → ℕ → ℕ → Type 0
 Lacking G ks enough from i = (q : ℕ) → from ≤ q → q < i → rank G.a G.b (queued ks q) < enough
-
-abbrev pub LackingByEnds : List ℕ → List ℕ → List ℕ → ℕ → ℕ → ℕ → ℕ → Type 0
-LackingByEnds a b ks f enough from i = (G : Network) → Reads G a b ks f → Lacking G ks enough from i
 
 pub lacking_more : (G : Network) (c ks : List ℕ) (i : ℕ) (l w : List ℕ) (far sum enough from : ℕ) → ChoiceSoFar G c ks i l w far sum
     → far < enough → Lacking G ks enough from i → Lacking G ks enough from (i + 1)
@@ -111,6 +89,23 @@ module _ (G : Network) (c ks : List ℕ) (i : ℕ) (l w : List ℕ) (far sum k a
     holds = rw next (holds_idle G.a G.b max_labels l (suc k) (queued ks i) la lb t.holds (rw (ea, eb) e));
     grew = rw next (grow_idle G c [] (queued ks i) w far sum t.grew k room l max_labels la lb t.holds (rw (ea, eb) e));
   }
+
+-- so it is with other keys of the same edges
+module _ (G : Network) (c ks ls : List ℕ) (f : ℕ) (same : SamePlaces ks ls f) where
+  pub choice-same : (i : ℕ) (l w : List ℕ) (far sum : ℕ) → i ≤ f → ChoiceSoFar G c ks i l w far sum → ChoiceSoFar G c ls i l w far sum
+  choice-same i l w far sum h t =
+      let e : queued ks i ≡ queued ls i = queued-same ks ls i (λ j m. same j (omega arith)) in
+      record {
+        long = t.long;
+        wide = t.wide;
+        less = t.less;
+        light = t.light;
+        holds = rw e at t.holds;
+        grew = rw e at t.grew;
+      }
+
+  pub lacking-same : (enough from i : ℕ) → i ≤ f → Lacking G ks enough from i → Lacking G ls enough from i
+  lacking-same enough from i h t q a b = rw (queued-same ks ls q (λ j m. same j (omega arith))) at (t q a b)
 
 -- ---- those at vertex 1
 

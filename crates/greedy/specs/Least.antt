@@ -1,123 +1,88 @@
 -- What the search for the least 1-tree answers, and every byte that it leaves in the lists that it is lent, for every input: the first
 -- fault; or the least 1-tree, or that there is none.
---   Lists             what is lent: the tree, the charges, the order and the labels
---   nothing_for        the answer without a tree: for a fault, or for none
---   TreeFound         the answer and the lists where there is no fault
---   LeastOrRefused    both together, by the fault
+--   Weighed           what stands in the lists where there is no fault, whether there is a 1-tree or not
+--   TreeFound         the least 1-tree is found
+--   NoTree            there is none
+--   Leaves            all of these by the answer
+--   LeastOrRefused    and which answer it is
 --   Searched          what the search for the tree itself comes to, before a tree that is none is wiped out
-use Rattle.std.specs.Prelude.{◌≡◌, refl, ◌≢◌, true, false, List, ℕ, zero, suc, ◌≤◌, length, get_or, ℤ, pos}
-use Rattle.std.proofs.Common.{◌∙◌, sym, inl, true≢false, arith}
-use Rattle.lists.specs.Rows.{zeros}
+use Rattle.std.specs.Prelude.{◌≡◌, refl, ◌⊎◌, List, ℕ, ◌<◌, ◌≤◌, length, get_or, replicate, ℤ, Option, None, Some, Result, Ok, Err}
+use Rattle.std.specs.Int.Signed.{mag}
+use Rattle.integers.specs.Parts.{up, dn}
 use Rattle.graph.specs.declared.Graph.{Graph}
+use Rattle.graph.specs.declared.Refusal.{Refusal}
 use Rattle.graph.specs.Limits.{max_edges}
-use Rattle.tree_theory.specs.Inputs.{or_else, denominator_fault, input_fault}
-use Rattle.tree_theory.specs.Arrays.{blank}
+use Rattle.graph.specs.Network.{network}
+use Rattle.graph.specs.Refusals.{fault_of}
+use Rattle.tree_theory.specs.OneTree.{Edges, OneTree, Least, bound}
+use Rattle.tree_theory.specs.Inputs.{multiplier, or_else, denominator_fault, input_fault}
+use Rattle.tree_theory.specs.Scaled.{scaled_by}
+use Rattle.tree_theory.specs.Arrays.{blank, bytes}
 use Rattle.tree_theory.specs.Merges.{Merges}
+use Rattle.greedy.specs.declared.Lists.{Lists}
 use Rattle.greedy.specs.declared.Found.{Found}
-use Rattle.greedy.specs.Found.{FoundIs}
+use Rattle.greedy.specs.Charged.{high_bound, low_bound, Charged}
+use Rattle.greedy.specs.ChoiceSoFar.{max_labels}
 use Rattle.greedy.specs.Hint.{Hinted}
 
-pub record Lists : Type 0 where
-  pub tree : List ℕ
-  pub charges : List ℕ
-  pub order : List ℕ
-  pub labels : List ℕ
+-- 0 at every place
+abbrev pub blank_lists : Lists
+blank_lists = record { tree = blank; charges = blank; order = blank; labels = replicate max_labels 0 }
 
-abbrev pub lists : List ℕ → List ℕ → List ℕ → List ℕ → Lists
-lists tree charges order labels = record { tree = tree; charges = charges; order = order; labels = labels }
-
-abbrev pub nothing_for : ℕ → Found
-nothing_for fault = record { fault = fault; any = false; bound = pos 0; live = 0 }
-
--- the tree is the least and its bytes past the edges are 0; each edge has its charge, and past the edges stands 0; the order lists the edges
--- that are not excluded, each once, then 0; each vertex has its label. Of the order it is free which edge stands where: no answer depends on it
-pub record TreeFound (q : ℕ) (g : Graph) (d : List ℤ) (r : Found) (after : Lists) : Type 0 where
-  pub faultless : r.fault ≡ 0
-  pub found : FoundIs q g d r.any r.bound after.tree after.charges
-  pub long : (length after.tree ≡ max_edges) × (length after.charges ≡ max_edges)
+-- each edge has its charge, where multipliers count in q-ths, and past the edges stands 0; each vertex has its label
+pub record Weighed (q : ℕ) (g : Graph) (d : List ℤ) (after : Lists) : Type 0 where
+  pub charged : Charged q g d after.charges
   pub rest : (k : ℕ) → g.m ≤ k → get_or after.charges k 0 ≡ 0
+  pub long : length after.charges ≡ max_edges
   pub merges : Merges g after.labels
-  pub hinted : r.any ≡ true → Hinted g.mark g.m after.order r.live
-  pub nothing : r.any ≡ false → (r ≡ nothing_for 0) × (after.tree ≡ blank) × (after.order ≡ blank)
+
+-- the tree is the least, one byte an edge and 0 past them, and the bound is its bound; the order lists the edges that are not excluded, each
+-- once, then 0. Of the order it is free which edge stands where: no answer depends on it
+pub record TreeFound (q : ℕ) (g : Graph) (d : List ℤ) (r : Found) (after : Lists) : Type 0 where
+  pub weighed : Weighed q g d after
+  pub least : Least (scaled_by q (network g)) (multiplier d) (bytes after.tree)
+  pub bound_is : r.bound ≡ bound (scaled_by q (network g)) (multiplier d) (bytes after.tree)
+  pub fits : mag r.bound < 9223372036854775808
+  pub high : up r.bound ≤ high_bound
+  pub low : dn r.bound ≤ low_bound
+  pub bits : (k : ℕ) → (get_or after.tree k 0 ≡ 0) ⊎ (get_or after.tree k 0 ≡ 1)
+  pub past : (k : ℕ) → g.m ≤ k → get_or after.tree k 0 ≡ 0
+  pub long : length after.tree ≡ max_edges
+  pub hinted : Hinted g.mark g.m after.order r.live
+
+-- no byte is left of a tree, nor of a hint
+pub record NoTree (q : ℕ) (g : Graph) (d : List ℤ) (after : Lists) : Type 0 where
+  pub weighed : Weighed q g d after
+  pub none : (t : Edges) → ¬ OneTree (scaled_by q (network g)) t
+  pub tree : after.tree ≡ blank
+  pub order : after.order ≡ blank
 
 -- the charges are blanked before all else, and a fault changes nothing more
 abbrev pub blanked : Lists → Lists
-blanked l = lists l.tree blank l.order l.labels
+blanked l = record l { charges = blank }
 
-abbrev pub FoundByFault : ℕ → ℕ → Graph → List ℤ → Lists → Found → Lists → Type 0
-FoundByFault zero q g d before r after = TreeFound q g d r after
-FoundByFault (suc fault) q g d before r after = (r ≡ nothing_for (suc fault)) × (after ≡ blanked before)
+abbrev pub Leaves : ℕ → Graph → List ℤ → Lists → Result (Option Found) Refusal → Lists → Type 0
+Leaves q g d before (Err fault) after = after ≡ blanked before
+Leaves q g d before (Ok None) after = NoTree q g d after
+Leaves q g d before (Ok (Some r)) after = TreeFound q g d r after
 
 -- lent is the length of the list for an answer, and later the fault that the caller has left to tell; document 02, C-17: "32 when q is out of range"
 -- comes after it
-abbrev pub LeastOrRefused : ℕ → Graph → List ℤ → ℕ → ℕ → Lists → Found → Lists → Type 0
-LeastOrRefused q g d lent later before r after = FoundByFault (input_fault g d lent (or_else later (denominator_fault q))) q g d before r after
+pub record LeastOrRefused (q : ℕ) (g : Graph) (d : List ℤ) (lent later : ℕ) (before : Lists) (r : Result (Option Found) Refusal) (after : Lists)
+    : Type 0 where
+  pub fault : fault_of r ≡ input_fault g d lent (or_else later (denominator_fault q))
+  pub leaves : Leaves q g d before r after
 
--- ---- how code shows it, and what a caller has
+-- ---- the search for the tree itself
 
-pub by_fault : (fault f q : ℕ) (g : Graph) (d : List ℤ) (before : Lists) → f ≡ fault → f ≢ 0 → FoundByFault fault q g d before (nothing_for f) (blanked before)
-by_fault zero f q g d before e n = absurd (n e)
-by_fault (suc fault) f q g d before e n = rw e (refl, refl)
+abbrev pub Searched : ℕ → Graph → List ℤ → Option Found → Lists → Type 0
+Searched q g d None after = Weighed q g d after × ((t : Edges) → ¬ OneTree (scaled_by q (network g)) t)
+Searched q g d (Some r) after = TreeFound q g d r after
 
-pub by_tree : (fault q : ℕ) (g : Graph) (d : List ℤ) (before : Lists) (r : Found) (after : Lists) → fault ≡ 0 → TreeFound q g d r after
-    → FoundByFault fault q g d before r after
-by_tree zero q g d before r after e h = h
-by_tree (suc fault) q g d before r after e h = absurd (let z : suc fault ≡ 0 = e in omega arith)
-
-pub by_refused : (fault q : ℕ) (g : Graph) (d : List ℤ) (before : Lists) (r : Found) (after : Lists) → FoundByFault fault q g d before r after
-    → r.fault ≢ 0 → (r.fault ≡ fault) × (after ≡ blanked before)
-by_refused zero q g d before r after h n = absurd (n h.faultless)
-by_refused (suc fault) q g d before r after h n = rw h.0 (refl, h.1)
-
-pub by_found : (fault q : ℕ) (g : Graph) (d : List ℤ) (before : Lists) (r : Found) (after : Lists) → FoundByFault fault q g d before r after
-    → r.fault ≡ 0 → (fault ≡ 0) × TreeFound q g d r after
-by_found zero q g d before r after h e = (refl, h)
-by_found (suc fault) q g d before r after h e = absurd (let z : suc fault ≡ 0 = rw h.0 at e in omega arith)
-
-pub record Searched (q : ℕ) (g : Graph) (d : List ℤ) (r : Found) (after : Lists) : Type 0 where
-  pub faultless : r.fault ≡ 0
-  pub found : FoundIs q g d r.any r.bound after.tree after.charges
-  pub long : (length after.tree ≡ max_edges) × (length after.charges ≡ max_edges)
-  pub rest : (k : ℕ) → g.m ≤ k → get_or after.charges k 0 ≡ 0
-  pub merges : Merges g after.labels
-  pub hinted : Hinted g.mark g.m after.order r.live
-
-module _ (q : ℕ) (g : Graph) (d : List ℤ) (r : Found) (after : Lists) (s : Searched q g d r after) where
-  searched_some : r.any ≡ true → TreeFound q g d r after
-  searched_some e = record {
-    faultless = s.faultless;
-    found = s.found;
-    long = s.long;
-    rest = s.rest;
-    merges = s.merges;
-    hinted = λ t. s.hinted;
-    nothing = λ n. absurd (true≢false (sym e ∙ n));
-  }
-
-  searched_none : r.any ≡ false → TreeFound q g d (nothing_for 0) (lists blank after.charges blank after.labels)
-  searched_none e = record {
-    faultless = refl;
-    found = record {
-      charged = s.found.charged;
-      fits = omega arith;
-      high = omega arith;
-      low = omega arith;
-      some = λ t. absurd (true≢false (sym t));
-      none = λ t. s.found.none e;
-      bits = λ k. inl (zeros max_edges k);
-      past = λ k h. zeros max_edges k;
-    };
-    long = (refl, s.long.1);
-    rest = s.rest;
-    merges = s.merges;
-    hinted = λ t. absurd (true≢false (sym t));
-    nothing = λ t. (refl, refl, refl);
-  }
-
-  module _ (fault : ℕ) (before : Lists) (accepted : fault ≡ 0) where
-    pub by_some : r.any ≡ true → FoundByFault fault q g d before r after
-    by_some e = by_tree fault q g d before r after accepted (searched_some e)
-
-    pub by_nothing : r.any ≡ false → (s : Found) (tree order : List ℕ) → s ≡ nothing_for 0 → tree ≡ blank → order ≡ blank
-        → FoundByFault fault q g d before s (lists tree after.charges order after.labels)
-    by_nothing e s tree order p t o = rw (p, t, o) (by_tree fault q g d before _ _ accepted (searched_none e))
+pub wiped : (q : ℕ) (g : Graph) (d : List ℤ) (after : Lists) → Searched q g d None after → NoTree q g d (record after { tree = blank; order = blank })
+wiped q g d after s = record {
+  weighed = record { charged = s.0.charged; rest = s.0.rest; long = s.0.long; merges = s.0.merges };
+  none = s.1;
+  tree = refl;
+  order = refl;
+}

@@ -2,7 +2,6 @@
 -- only what `Hint` says
 pub mod Hint
 pub mod Charged
-pub mod Found
 pub mod Least
 -- What follows is proved, or says what code knows.
 -- how large the numbers get: laws over the limits
@@ -25,3 +24,5 @@ pub mod Required
 pub mod Kruskal
 -- and that the loop may end as soon as the vertices are connected; at how many edges it then looked
 pub mod Stopping
+-- what code is given, and what it answers
+pub mod Chosen

@@ -39,13 +39,13 @@ free_of g es = select (λ k. not (needed (network g) k)) es
 -- the key of an edge
 unfoldable key : Graph → List ℕ → ℕ → ℕ
 key g c zero = 0
-key g c (suc k) = key_at g.mark c k
+key g c (suc k) = key_at g c k
 
 -- c are the charges of a graph value's edges, and ks the f keys of those of one kind that are not excluded, in ascending order
 pub record InKeyOrder (g : Graph) (kind : Kind) (c ks : List ℕ) (f : ℕ) : Type 0 where
   pub valid : value.Valid g
   pub low : (k : ℕ) → k < g.m → 1 ≤ get_or c k 0
-  pub keyed : Keyed kind g.mark c g.m ks f
+  pub keyed : Keyed kind g c ks f
   pub ascending : Ascending f ks
 
 -- they are all of that kind, and in the order that the greedy choice wants
@@ -58,12 +58,12 @@ module _ (g : Graph) (kind : Kind) (c ks : List ℕ) (f : ℕ) (o : InKeyOrder g
   abbrev v : value.Valid g
   v = o.valid
 
-  abbrev y : Keyed kind g.mark c g.m ks f
+  abbrev y : Keyed kind g c ks f
   y = o.keyed
 
   -- the edge looked at in a turn, and its key
   pub turn_key : (i : ℕ) → i < f → (k : ℕ) × (k < g.m) × (get_or g.mark k 0 ≢ 2) × (get_or ks i 0 % 256 ≡ k) × (kind k ≡ true)
-      × (get_or ks i 0 ≡ key_at g.mark c k)
+      × (get_or ks i 0 ≡ key_at g c k)
   turn_key i h =
       let r = y.form i h in
       let place = key_low (get_or g.mark r.0 0) (get_or c r.0 0) r.0 (omega (arith, r.1, v.few)) in

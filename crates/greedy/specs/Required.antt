@@ -1,6 +1,6 @@
 -- The required edges of a kind are the first that are looked at: their keys are below 256, and no other edge's is. So the labels after those
 -- away from vertex 1 say which vertices they join. Assumes nothing.
-use Rattle.std.specs.Prelude.{◌≡◌, ◌≢◌, true, false, not, List, ℕ, zero, suc, ◌+◌, ◌-◌, ◌%◌, ◌<◌, ◌≤◌, min, length, get_or, eqb}
+use Rattle.std.specs.Prelude.{◌≡◌, ◌≢◌, true, false, not, List, ℕ, zero, suc, ◌+◌, ◌%◌, ◌<◌, ◌≤◌, min, length, get_or, eqb}
 use Rattle.std.proofs.Common.{◌∙◌, sym, ap, subst, arith, eq-eqb, ne_eqb}
 use Rattle.std.proofs.Math.Decide.{ℕ_discrete}
 use Rattle.lists.specs.Members.{◌∈◌, in_right}
@@ -25,17 +25,15 @@ abbrev pub Small : List ℕ → ℕ → ℕ → Type 0
 Small ks f r = (r ≤ f) × ((i : ℕ) → i < r → get_or ks i 0 < 256) × (r < f → 256 ≤ get_or ks r 0)
 
 -- so it is with the keys of either kind
-pub near-small : (ks : List ℕ) (f r : ℕ) → Reached ks 0 f 256 r → Small ks f r
-near-small ks f r h = (h.1, λ i l. h.2 i (omega arith) l, h.3)
+pub near-small : (ks : List ℕ) (f r : ℕ) → Reached ks f 256 r → Small ks f r
+near-small ks f r h = h
 
-pub far-small : (ks fs : List ℕ) (from to r : ℕ) → ((i : ℕ) → from + i < to → get_or ks (from + i) 0 ≡ far_keys + get_or fs i 0)
-    → Reached ks from to (far_keys + 256) r → Small fs (to - from) (r - from)
-far-small ks fs from to r at h = (
-  omega (arith, h.0, h.1),
-  λ i l. omega (arith, at i (omega (arith, h.1)), h.2 (from + i) (omega arith) (omega arith)),
-  λ l.
-      let e : from + (r - from) ≡ r = omega (arith, h.0) in
-      omega (arith, at (r - from) (omega (arith, h.0, h.1)), ap (λ (x : ℕ). get_or ks x 0) e, h.3 (omega (arith, h.0))),
+pub far-small : (ks fs : List ℕ) (f r : ℕ) → ((i : ℕ) → i < f → get_or ks i 0 ≡ far_keys + get_or fs i 0)
+    → Reached ks f (far_keys + 256) r → Small fs f r
+far-small ks fs f r at h = (
+  h.0,
+  λ i l. omega (arith, at i (omega (arith, h.0)), h.1 i l),
+  λ l. omega (arith, at r l, h.2 l),
 )
 
 -- the edge looked at in turn i
@@ -63,7 +61,7 @@ module _ (g : Graph) (kind : Kind) (c ks : List ℕ) (f : ℕ) (o : InKeyOrder g
       × ((256 ≤ get_or ks i 0) → needed (network g) (turned ks i) ≡ false)
   marked i h = rw x.3 (rw (needed-at g k x.1) (go (ℕ_discrete (get_or g.mark k 0) 1)))
     where
-      x : (k : ℕ) × (k < g.m) × (get_or g.mark k 0 ≢ 2) × (get_or ks i 0 % 256 ≡ k) × (kind k ≡ true) × (get_or ks i 0 ≡ key_at g.mark c k)
+      x : (k : ℕ) × (k < g.m) × (get_or g.mark k 0 ≢ 2) × (get_or ks i 0 % 256 ≡ k) × (kind k ≡ true) × (get_or ks i 0 ≡ key_at g c k)
       x = turn_key g kind c ks f o i h
 
       k : ℕ

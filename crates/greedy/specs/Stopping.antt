@@ -13,8 +13,6 @@ use Rattle.integers.specs.Parts.{diff_lt, diff_one}
 use Rattle.graph.specs.declared.Graph.{Graph}
 use Rattle.graph.specs.Network.{Network, network}
 use Rattle.graph.specs.Valid as value
-use Rattle.graph.specs.Valid.{graph_of}
-use Rattle.graph.specs.Places.{network_a, network_b}
 use Rattle.spanning.specs.Components.{rank, Within, same_rank}
 use Rattle.spanning.specs.Connected.{rank_most, rank-inside}
 use Rattle.spanning.specs.Choice.{Listing}
@@ -27,9 +25,9 @@ use Rattle.tree_theory.specs.Arrays.{network_n, needed-at, network-valid}
 use Rattle.tree_theory.specs.Looked.{required_among, free_among, Before, Sorted, InOrder, Looked}
 use Rattle.tree_theory.specs.Looking.{rank_at, looked_by_rank}
 use Rattle.greedy.specs.Charged.{offset, Charged}
-use Rattle.greedy.specs.Keys.{key_at, key_free, Kind, far_at, queued, queued_in, in_queued}
+use Rattle.greedy.specs.Keys.{key_at, key_free, far_at, queued, queued_in, in_queued}
 use Rattle.greedy.specs.Growth.{TakenGreedily, grow_none}
-use Rattle.greedy.specs.ChoiceSoFar.{Reads, Lacking, LackingByEnds, ChoiceByEnds}
+use Rattle.greedy.specs.ChoiceSoFar.{ChoiceSoFar, Lacking}
 use Rattle.greedy.specs.Queue.{InKeyOrder, turn_key, far-queued}
 use Rattle.greedy.specs.Required.{Small, turned, on, off, required_first, of_far}
 
@@ -149,15 +147,15 @@ module _ (g : Graph) (c ks : List ℕ) (f : ℕ) (o : InKeyOrder g (far_at g.a) 
     before i j a b h = rw (x.3, y.3) (go (dec_le (suc (get_or c k 0)) (get_or c l 0)))
       where
         at_turn : (t : ℕ) → t < f → (k : ℕ) × (k < g.m) × (get_or g.mark k 0 ≢ 2) × (get_or ks t 0 % 256 ≡ k) × (far_at g.a k ≡ true)
-            × (get_or ks t 0 ≡ key_at g.mark c k)
+            × (get_or ks t 0 ≡ key_at g c k)
         at_turn = turn_key g (far_at g.a) c ks f o
 
         x : (k : ℕ) × (k < g.m) × (get_or g.mark k 0 ≢ 2) × (get_or ks i 0 % 256 ≡ k) × (far_at g.a k ≡ true)
-            × (get_or ks i 0 ≡ key_at g.mark c k)
+            × (get_or ks i 0 ≡ key_at g c k)
         x = at_turn i (omega arith)
 
         y : (k : ℕ) × (k < g.m) × (get_or g.mark k 0 ≢ 2) × (get_or ks j 0 % 256 ≡ k) × (far_at g.a k ≡ true)
-            × (get_or ks j 0 ≡ key_at g.mark c k)
+            × (get_or ks j 0 ≡ key_at g c k)
         y = at_turn j h
 
         k : ℕ
@@ -167,7 +165,7 @@ module _ (g : Graph) (c ks : List ℕ) (f : ℕ) (o : InKeyOrder g (far_at g.a) 
         l = y.0
 
         -- a free edge's key
-        free_key : (t : ℕ) → r ≤ t → t < f → (e : ℕ) → e < g.m → get_or ks t 0 % 256 ≡ e → get_or ks t 0 ≡ key_at g.mark c e
+        free_key : (t : ℕ) → r ≤ t → t < f → (e : ℕ) → e < g.m → get_or ks t 0 % 256 ≡ e → get_or ks t 0 ≡ key_at g c e
             → get_or ks t 0 ≡ get_or c e 0 * 256 + e
         free_key t lo hi e m place key =
             key ∙ key_free (get_or g.mark e 0) (get_or c e 0) e (eqb-false (get_or g.mark e 0) 1
@@ -288,27 +286,17 @@ module _ (g : Graph) (c ks : List ℕ) (f : ℕ) (o : InKeyOrder g (far_at g.a) 
 
 -- ---- as the loop has it
 
--- of every graph whose edges away from vertex 1 have these keys, the first `from` of them required, the loop that ended at turn i looked at as many
+-- where these are the keys of a graph's edges away from vertex 1, the first `from` of them required, the loop that ended at turn i looked at as many
 -- free edges as document 02 says
-abbrev pub LooksAsSaid : List ℕ → List ℕ → List ℕ → List ℕ → ℕ → ℕ → ℕ → ℕ → Type 0
-LooksAsSaid a b c ks f enough from i =
-    (den n m : ℕ) (cost : List ℤ) (mark : List ℕ) (d : List ℤ) → let g = graph_of n m a b cost mark in
-    InKeyOrder g (far_at a) c ks f → Small ks f from → Charged den g d c → n ≡ enough + 2
+abbrev pub LooksAsSaid : Graph → List ℕ → List ℕ → ℕ → ℕ → ℕ → ℕ → Type 0
+LooksAsSaid g c ks f enough from i =
+    (den : ℕ) (d : List ℤ) → InKeyOrder g (far_at g.a) c ks f → Small ks f from → Charged den g d c → g.n ≡ enough + 2
     → Looked (scaled_by den (network g)) (multiplier d) (i - from)
 
--- the ends of the edges looked at, in the network
-pub reads : (g : Graph) (kind : Kind) (c ks : List ℕ) (f : ℕ) → InKeyOrder g kind c ks f → Reads (network g) g.a g.b ks f
-reads g kind c ks f o i h =
-    let r = turn_key g kind c ks f o i h in
-    let small : get_or ks i 0 % 256 < g.m = omega (arith, r.1, r.3) in
-    (network_a g _ small, network_b g _ small)
-
-pub looks_as_said : (a b c ks : List ℕ) (f enough from i : ℕ) (l w : List ℕ) (far sum : ℕ) → from ≤ i → i ≤ f
-    → ChoiceByEnds a b c ks f i l w far sum → LackingByEnds a b ks f enough from i → (i < f → enough ≤ far)
-    → LooksAsSaid a b c ks f enough from i
-looks_as_said a b c ks f enough from i l w far sum lo hi choice lacking full den n m cost mark d o s ch e =
-    let g = graph_of n m a b cost mark in
-    let ends = reads g (far_at a) c ks f o in
+pub looks_as_said : (g : Graph) (c ks : List ℕ) (f enough from i : ℕ) (l w : List ℕ) (far sum : ℕ) → from ≤ i → i ≤ f
+    → ChoiceSoFar (network g) c ks i l w far sum → Lacking (network g) ks enough from i → (i < f → enough ≤ far)
+    → LooksAsSaid g c ks f enough from i
+looks_as_said g c ks f enough from i l w far sum lo hi choice lacking full den d o s ch e =
     looked g c ks f o from s den d ch i lo hi
-    (λ q x y. omega (arith, lacking (network g) ends q x y))
-    (λ h. omega (arith, full h, (choice (network g) ends).grew.joined))
+    (λ q x y. omega (arith, lacking q x y))
+    (λ h. omega (arith, full h, choice.grew.joined))

@@ -1,118 +1,73 @@
-// Refusals 15, 11, 12, 13 and 32: what is wrong with a call's input. A fault is its number, 0 where there is none.
-ghost use Rattle.std.specs.Prelude.{◌≡◌, ◌&&◌, eqb};
+// Refusals 15, 11, 12, 13 and 32: what is wrong with a call's input.
+ghost use Rattle.std.specs.Prelude.{◌≡◌};
+ghost use Rattle.std.specs.List.{list_all};
 ghost use Rattle.integers.specs.Range.{within};
 ghost use Rattle.graph.specs.Limits.{max_multiplier};
-ghost use Rattle.graph.specs.Valid.{graph_of};
-ghost use Rattle.tree_theory.specs.Inputs.{multipliers_fit, ceiling_fits, denominator_fits, denominator_fault, or_else, input_fault};
+ghost use Rattle.graph.specs.Refusals.{fault_of};
+ghost use Rattle.tree_theory.specs.Inputs.{multipliers_fit, ceiling_fits, denominator_fits, denominator_fault, input_fault};
 
 use crate::{MAX_CEILING, MAX_DENOMINATOR, MAX_MULTIPLIER};
-use graph::MAX_EDGES;
+use graph::{Graph, Refusal};
 
-fn multiplier_ok(x: i32) -> bool
+fn multiplier_fits(x: i32) -> bool
     ensures { result ≡ within max_multiplier x }
 {
-    if x < -MAX_MULTIPLIER {
-        return false;
-    }
-    x <= MAX_MULTIPLIER
+    (-MAX_MULTIPLIER..=MAX_MULTIPLIER).contains(&x)
+}
+
+fn all_fit(multipliers: &[i32]) -> bool
+    ensures { result ≡ list_all (within max_multiplier) multipliers.now }
+{
+    multipliers.iter().all(|x| multiplier_fits(*x))
 }
 
 // Is each multiplier in its range, and that of vertex 1 zero?
 // Ruled out: yes where only the last is out of range; no for a list that is right but empty.
-pub fn multipliers_fit(d: &[i32]) -> bool
-    ensures { result ≡ multipliers_fit d.now }
+pub fn multipliers_fit(multipliers: &[i32]) -> bool
+    ensures { result ≡ multipliers_fit multipliers.now }
 {
-    let mut i = 0;
-    while i < d.len() {
-        if !multiplier_ok(d[i]) {
-            return false;
-        }
-        i = i + 1;
-    }
-    if i == 0 {
-        return true;
-    }
-    if d[0] != 0 {
-        return false;
-    }
-    true
+    all_fit(multipliers) && (multipliers.is_empty() || multipliers[0] == 0)
 }
 
 // Is the ceiling in its range?
 // Ruled out: no for a ceiling at either end of the range; yes for one past it.
-pub fn ceiling_fits(z: i64) -> bool
-    ensures { result ≡ ceiling_fits z }
+pub fn ceiling_fits(ceiling: i64) -> bool
+    ensures { result ≡ ceiling_fits ceiling }
 {
-    if z < -MAX_CEILING {
-        return false;
-    }
-    z <= MAX_CEILING
+    (-MAX_CEILING..=MAX_CEILING).contains(&ceiling)
 }
 
 // Is the denominator in its range?
 // Ruled out: yes for 0; no for either end of the range.
-pub fn denominator_fits(q: u64) -> bool
-    ensures { result ≡ denominator_fits q }
+pub fn denominator_fits(denominator: u64) -> bool
+    ensures { result ≡ denominator_fits denominator }
 {
-    if q < 1 {
-        return false;
-    }
-    q <= MAX_DENOMINATOR
+    (1..=MAX_DENOMINATOR).contains(&denominator)
 }
 
-// Refusal 32, 0 where the denominator fits.
-// Ruled out: 32 at either end of the range; 0 past it.
-pub fn denominator_fault(q: u64) -> u32
-    ensures { result ≡ denominator_fault q }
+// Refusal 32 where the denominator is out of its range.
+// Ruled out: 32 at either end of the range; none past it.
+pub fn denominator_fault(denominator: u64) -> Result<(), Refusal>
+    ensures { fault_of result ≡ denominator_fault denominator }
 {
-    if denominator_fits(q) {
-        return 0;
+    if !denominator_fits(denominator) {
+        return Err(Refusal::Denominator);
     }
-    32
+    Ok(())
 }
 
-// A fault, or where there is none the next.
-pub(crate) fn or_else(fault: u32, next: u32) -> u32
-    ensures { result ≡ or_else fault next }
+// The first fault of a graph, its multipliers and a lent list of length lent, in document 01's order.
+pub(crate) fn input_fault(g: &Graph, multipliers: &[i32], lent: usize) -> Result<(), Refusal>
+    ensures { fault_of result ≡ input_fault g.now multipliers.now lent 0 }
 {
-    if fault != 0 {
-        return fault;
+    if !g.check() {
+        return Err(Refusal::Graph);
     }
-    next
-}
-
-fn lengths_fit(n: usize, m: usize, multipliers: usize, len: usize) -> bool
-    ensures { result ≡ eqb multipliers n && eqb len m }
-{
-    if multipliers != n {
-        return false;
-    }
-    len == m
-}
-
-// The first fault of a graph, its multipliers and a lent list of length len, in document 01's order; else what is left to say.
-pub(crate) fn input_fault<'a>(
-    n: usize,
-    m: usize,
-    a: &'a [u8; MAX_EDGES],
-    b: &'a [u8; MAX_EDGES],
-    cost: &'a [i32; MAX_EDGES],
-    mark: &'a [u8; MAX_EDGES],
-    multipliers: &'a [i32],
-    len: usize,
-    left: u32,
-) -> u32
-    ensures { result ≡ input_fault (graph_of n m a.now b.now cost.now mark.now)
-        multipliers.now len left }
-{
-    if !graph::check_parts(n, m, a, b, cost, mark) {
-        return 15;
-    }
-    if !lengths_fit(n, m, multipliers.len(), len) {
-        return 11;
+    if multipliers.len() != usize::from(g.n) || lent != usize::from(g.m) {
+        return Err(Refusal::Length);
     }
     if !multipliers_fit(multipliers) {
-        return 12;
+        return Err(Refusal::Multiplier);
     }
-    left
+    Ok(())
 }

@@ -1,2 +1,4 @@
 -- the ends of a turn of a node's passes
 pub mod Turns
+-- what the loops over a word's bits keep
+pub mod Loops

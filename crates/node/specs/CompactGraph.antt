@@ -14,7 +14,7 @@ use Rattle.graph.specs.declared.Graph.{Graph}
 use Rattle.graph.specs.Limits.{max_edges, max_cost}
 use Rattle.graph.specs.Network.{Network, free, excluded, mark_of, place, network}
 use Rattle.graph.specs.Places.{place_at, place_zero, place_past}
-use Rattle.graph.specs.Valid.{Valid, graph_of}
+use Rattle.graph.specs.Valid.{Valid}
 use Rattle.tree_theory.specs.OneTree.{Edges}
 use Rattle.tree_theory.specs.Scaled.{scaled_by}
 use Rattle.machine.specs.Machine.{Marks, passes}
@@ -22,9 +22,9 @@ use Rattle.compaction.specs.Ranks.{rank, nth, rank_yes, rank_most, rank_mono, ra
 use Rattle.compaction.specs.Thinned.{thin}
 use Rattle.compaction.specs.Spread.{spread_marks, spread_opened, spread_is}
 use Rattle.compaction.specs.Passes.{passes-thin}
-use Rattle.node.specs.Marks.{marks_in, marks-size, marks-at, Padded}
+use Rattle.node.specs.Marks.{with_bytes, marks_in, marks-size, marks-at, Padded}
 use Rattle.node.specs.Opened.{kept, left_of, left}
-use Rattle.node.specs.Compacting.{Listed, listed_at, gathered_is, old, old-rank, old-nth, listed-old}
+use Rattle.node.specs.Compacting.{Listed, listed_at, Gathered, gathered_is, old, old-rank, old-nth, listed-old}
 use Rattle.node.specs.Expanding.{Places, Placed, expanded_at}
 
 -- ---- what a kept edge has
@@ -191,20 +191,15 @@ module _ (marks : List ℕ) (m : ℕ) (few : m ≤ max_edges) (q : List ℕ) (h 
           true≢false (sym (old u m j b).kept ∙ ap (λ (k : ℕ). u (suc k)) (sym (listed-old u m j b q h) ∙ o) ∙ p))
           ∙ replicate-at max_edges 0 i
 
--- ---- the code's arrays
+-- ---- the code's graph
 
-pub left_is : (g : Graph) (q : List ℕ) (f : ℕ) (a b : List ℕ) (cost : List ℤ) (mark : List ℕ) → f ≡ rank (kept g.mark) g.m
-    → Listed (kept g.mark) g.m q
-    → Filling 0 max_edges f (listed_at 0 g.a q) a
-    → Filling 0 max_edges f (listed_at 0 g.b q) b
-    → Filling (pos 0) max_edges f (listed_at (pos 0) g.cost q) cost
-    → Filling 0 max_edges f (listed_at 0 g.mark q) mark
-    → graph_of g.n f a b cost mark ≡ left g
-left_is g q f a b cost mark e d fa fb fc fm = λ i. record {
-  n = g.n;
-  m = e i;
-  a = gathered_is 0 g.mark g.m f g.a a q e d fa i;
-  b = gathered_is 0 g.mark g.m f g.b b q e d fb i;
-  cost = gathered_is (pos 0) g.mark g.m f g.cost cost q e d fc i;
-  mark = gathered_is 0 g.mark g.m f g.mark mark q e d fm i;
+pub left_is : (g : Graph) (marks q : List ℕ) (was l : Graph) (f : ℕ) → was.m ≡ f → was.n ≡ g.n → f ≡ rank (kept marks) g.m
+    → Listed (kept marks) g.m q → Gathered f q g was l → Filling 0 max_edges f (listed_at 0 marks q) was.mark → l ≡ left (with_bytes g marks)
+left_is g marks q was l f m n e d h fm = λ i. record {
+  n = (h.n ∙ n) i;
+  m = (h.m ∙ m ∙ e) i;
+  a = gathered_is 0 marks g.m f g.a l.a q e d h.a i;
+  b = gathered_is 0 marks g.m f g.b l.b q e d h.b i;
+  cost = gathered_is (pos 0) marks g.m f g.cost l.cost q e d h.cost i;
+  mark = (h.mark ∙ gathered_is 0 marks g.m f marks was.mark q e d fm) i;
 }

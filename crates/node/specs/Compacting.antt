@@ -1,10 +1,11 @@
 -- The loops that compact a graph to the edges that a node's marks do not exclude: one lists the places of those edges, the other copies
 -- what stands there. Assumes nothing.
-use Rattle.std.specs.Prelude.{◌≡◌, true, List, ℕ, suc, ◌+◌, ◌≤◌, ◌<◌, length, get_or, set}
+use Rattle.std.specs.Prelude.{◌≡◌, true, List, ℕ, suc, ◌+◌, ◌≤◌, ◌<◌, length, get_or, set, replicate, pos, refl}
 use Rattle.std.proofs.Common.{sym, ap, ◌∙◌, subst, arith, add-one, length-set, get_or-set_same, get_or-set_other}
 use Rattle.std.proofs.Math.Decide.{ℕ_discrete}
 use Rattle.lists.specs.Bools.{by_cases}
-use Rattle.lists.specs.Filling.{Filling, filling_is}
+use Rattle.lists.specs.Filling.{Filling, filling_none, filling_is}
+use Rattle.graph.specs.declared.Graph.{Graph}
 use Rattle.graph.specs.Limits.{max_edges}
 use Rattle.graph.specs.Network.{place}
 use Rattle.graph.specs.Places.{place_at, place_zero}
@@ -60,6 +61,26 @@ listed_to c k m q e h = subst (λ (i : ℕ). Listed c i q) e h
 -- the value at the place that is listed at j
 abbrev pub listed_at : {A : Type 0} → A → List A → List ℕ → ℕ → A
 listed_at z was q j = get_or was (get_or q j 0) z
+
+-- what is copied of the first f edges that are left, with the rest of their graph as it was
+pub record Gathered (f : ℕ) (q : List ℕ) (g was left : Graph) : Type 0 where
+  pub a : Filling 0 max_edges f (listed_at 0 g.a q) left.a
+  pub b : Filling 0 max_edges f (listed_at 0 g.b q) left.b
+  pub cost : Filling (pos 0) max_edges f (listed_at (pos 0) g.cost q) left.cost
+  pub n : left.n ≡ was.n
+  pub m : left.m ≡ was.m
+  pub mark : left.mark ≡ was.mark
+
+pub gathered_none : (q : List ℕ) (g was : Graph) → was.a ≡ replicate max_edges 0 → was.b ≡ replicate max_edges 0
+    → was.cost ≡ replicate max_edges (pos 0) → Gathered 0 q g was was
+gathered_none q g was a b cost = record {
+  a = rw a (filling_none 0 max_edges (listed_at 0 g.a q));
+  b = rw b (filling_none 0 max_edges (listed_at 0 g.b q));
+  cost = rw cost (filling_none (pos 0) max_edges (listed_at (pos 0) g.cost q));
+  n = refl;
+  m = refl;
+  mark = refl;
+}
 
 -- the kept edge that has a new place
 module _ (c : Edges) (m j : ℕ) (l : j < rank c m) where

@@ -1,17 +1,18 @@
 -- The degrees of all vertices, counted in one loop over the edges: each edge that is in adds one at both its ends. Assumes nothing.
-use Rattle.std.specs.Prelude.{◌≡◌, ◌≢◌, Bool, true, false, ◌&&◌, ◌||◌, List, [], ℕ, suc, ◌+◌, ◌≤◌, ◌<◌, length, set, replicate}
+use Rattle.std.specs.Prelude.{◌≡◌, ◌≢◌, Bool, true, false, ◌&&◌, ◌||◌, List, ℕ, zero, suc, ◌+◌, ◌≤◌, ◌<◌, length, set, replicate, All, slice_range, take, drop, ◌-◌}
 use Rattle.std.proofs.Math.Path.{refl}
-use Rattle.std.proofs.Common.{sym, ap, ◌∙◌, subst, arith, add-one, length-set, get_or-set_same, get_or-set_other}
+use Rattle.std.proofs.Common.{sym, ap, ◌∙◌, subst, arith, add-one, length-set, length-take, length-drop, get_or-set_same, get_or-set_other, get_or-take}
+use Rattle.std.proofs.lemmas.Grind.{get_or_after_one}
 use Rattle.std.proofs.Math.Decide.{ℕ_discrete}
 use Rattle.std.proofs.Math.Dec.{eqb}
 use Rattle.std.proofs.Math.ListN.{get_or}
 use Rattle.std.proofs.lemmas.List.{length-replicate}
-use borrow.Author.Tests.{eqb-true, eqb-false, eq-eqb, ne_eqb}
-use Rattle.lists.specs.Bools.{bit, by_cases}
+use Rattle.std.proofs.lemmas.List.Elements.{All-get_or, All-from_get_or}
+use borrow.Author.Tests.{eq-eqb, ne_eqb}
+use Rattle.lists.specs.Bools.{bit}
 use Rattle.lists.specs.Members.{◌∈◌}
-use Rattle.lists.specs.All.{every_of, every_of_in, not-every_of}
 use Rattle.lists.specs.Select.{keep, select}
-use Rattle.lists.specs.Numbers.{up_to, up_to_in}
+use Rattle.lists.specs.Numbers.{up_to, in_up_to}
 use Rattle.lists.specs.Fill.{replicate-at}
 use Rattle.graph.specs.declared.Graph.{Graph}
 use Rattle.graph.specs.Network.{network}
@@ -157,41 +158,31 @@ module _ (k : ℕ) (g : Graph) (w r : List ℕ) (h : k < g.m) (c : DegreesTo k g
 pub degrees_to : (k m : ℕ) (g : Graph) (w r : List ℕ) → k ≡ m → DegreesTo k g w r → DegreesTo m g w r
 degrees_to k m g w r e h = subst (λ (i : ℕ). DegreesTo i g w r) e h
 
--- the degrees depend on the edges' ends alone: a graph that has these
-abbrev pub edged : ℕ → List ℕ → List ℕ → Graph
-edged m a b = record { n = 0; m = m; a = a; b = b; cost = []; mark = [] }
-
-pub degrees_edged : (g : Graph) (w r : List ℕ) → DegreesTo g.m (edged g.m g.a g.b) w r → DegreesTo g.m g w r
-unfolding degree_to network
-degrees_edged g w r c = record { size = c.size; at = c.at; most = c.most }
-
 -- ---- the test of the degrees
 
 -- the degrees of vertices 1 to n are 2
-unfoldable pub all_two : List ℕ → ℕ → Bool
-unfolding every_of up_to
-all_two degrees n = every_of (λ v. eqb (get_or degrees v 0) 2) (up_to n)
+abbrev pub AllTwo : List ℕ → ℕ → Type 0
+AllTwo degrees n = All (λ (d : ℕ). d ≡ 2) (slice_range degrees 1 (n + 1))
 
-module _ (degrees : List ℕ) where
-  pub two_none : all_two degrees 0 ≡ true
-  unfolding all_two every_of up_to
-  two_none = refl
+module _ (degrees : List ℕ) (n : ℕ) (room : n < length degrees) where
+  part-is : slice_range degrees 1 (n + 1) ≡ take n (drop 1 degrees)
+  part-is = let e : (n + 1) - 1 ≡ n = omega arith in rw e refl
 
-  pub two-more : (v : ℕ) → all_two degrees v ≡ true → get_or degrees (v + 1) 0 ≡ 2 → all_two degrees (v + 1) ≡ true
-  unfolding all_two every_of up_to
-  two-more v h e = rw (add-one v, eq-eqb (get_or degrees (suc v) 0) 2 (ap (λ (i : ℕ). get_or degrees i 0) (sym (add-one v)) ∙ e), h)
+  part-at : (i : ℕ) → i < n → get_or (slice_range degrees 1 (n + 1)) i 0 ≡ get_or degrees (suc i) 0
+  part-at i h =
+      ap (λ (l : List ℕ). get_or l i 0) part-is
+      ∙ get_or-take n (drop 1 degrees) i 0 h ∙ get_or_after_one degrees i 0 ∙ ap (λ (k : ℕ). get_or degrees k 0) (omega arith)
 
-  pub two-each : (n : ℕ) → all_two degrees n ≡ true → (v : ℕ) → v ∈ up_to n → get_or degrees v 0 ≡ 2
-  unfolding all_two
-  two-each n h v m = eqb-true (get_or degrees v 0) 2 (every_of_in (λ v. eqb (get_or degrees v 0) 2) (up_to n) h v m)
+  part-size : length (slice_range degrees 1 (n + 1)) ≡ n
+  part-size = omega (arith, ap {A = List ℕ} length part-is, length-take n (drop 1 degrees), length-drop 1 degrees)
 
-  pub two-not : (n v : ℕ) → v < n → get_or degrees (v + 1) 0 ≢ 2 → all_two degrees n ≡ false
-  two-not n v b ne =
-      by_cases (all_two degrees n)
-      (λ e. absurd (ne (two-each n e (v + 1) (up_to_in n (v + 1) (omega arith) (omega arith))))) (λ e. e)
+  pub two-each : AllTwo degrees n → (v : ℕ) → v ∈ up_to n → get_or degrees v 0 ≡ 2
+  two-each h zero m = absurd (let z : 1 ≤ 0 = (in_up_to n zero m).0 in omega arith)
+  two-each h (suc i) m =
+      let b : i < n = (in_up_to n (suc i) m).1 in
+      sym (part-at i b) ∙ All-get_or (λ d. d ≡ 2) (slice_range degrees 1 (n + 1)) i 0 (omega (arith, part-size)) h
 
-  pub not-two : (n : ℕ) → all_two degrees n ≡ false → (v : ℕ) × (v ∈ up_to n) × (get_or degrees v 0 ≢ 2)
-  unfolding all_two
-  not-two n h =
-      let r = not-every_of (λ v. eqb (get_or degrees v 0) 2) (up_to n) h in
-      (r.0, r.1, eqb-false (get_or degrees r.0 0) 2 r.2)
+  pub all_two : ((v : ℕ) → 1 ≤ v → v ≤ n → get_or degrees v 0 ≡ 2) → AllTwo degrees n
+  all_two h =
+      All-from_get_or (λ d. d ≡ 2) (slice_range degrees 1 (n + 1)) 0
+      (λ i b. let c : i < n = omega (arith, part-size) in part-at i c ∙ h (suc i) (omega arith) c)

@@ -1,6 +1,6 @@
 -- What a multiplier gains after a pass: the numbers fit their words, and the array of the next multipliers is the machine's list.
 -- Assumes nothing.
-use Rattle.std.specs.Prelude.{◌≡◌, refl, true, false, cond, List, leb, length, set, ℤ, pos, negsuc, ◌+ℤ◌, ◌*ℤ◌, ◌-ℤ◌, neg_ℤ}
+use Rattle.std.specs.Prelude.{◌≡◌, refl, Bool, true, false, cond, List, leb, length, set, ℤ, pos, negsuc, ◌+ℤ◌, ◌*ℤ◌, ◌-ℤ◌, neg_ℤ}
 use Rattle.std.proofs.Math.Path.{sym, ap}
 use Rattle.std.proofs.Common.{◌∙◌, subst, arith, mul-le-mul, add-one, length-set, get_or-set_same, get_or-set_other, SFits}
 use Prim.Native.Nat.{ℕ, zero, suc, ◌+◌, ◌*◌, ◌≤◌, ◌<◌}
@@ -8,7 +8,7 @@ use Rattle.std.proofs.Math.Decide.{ℕ_discrete}
 use Rattle.std.proofs.Math.ListN.{get_or}
 use Rattle.std.specs.Int.Signed.{lt_z}
 use Rattle.std.proofs.lemmas.Bool.{lt-leb}
-use Rattle.std.specs.Int.{w32}
+use Rattle.std.specs.Int.{w32, int_max, int_min}
 use Rattle.lists.specs.Rows.{row, row-size, row_at}
 use Rattle.lists.specs.Fill.{fill_is, fit, fit_at}
 use Rattle.integers.specs.Parts.{up, dn, mag_of_parts, add-up, add-dn, neg-up, neg-dn}
@@ -64,18 +64,15 @@ sum_fits x p r q = record {
   sfits = mag_of_parts (x +ℤ p) 2147483648 (omega (arith, add-up x p, r.high, q.high)) (omega (arith, add-dn x p, r.low, q.low));
 }
 
--- "is held to its range": the three cases of the test
-pub held_low : (z : ℤ) → lt_z z (neg_ℤ (pos max_multiplier)) ≡ true → neg_ℤ (pos max_multiplier) ≡ clamp max_multiplier z
+-- "is held to its range": std's clamp, as it is told
+pub held : (z r : ℤ) → r ≡ int_max (neg_ℤ (pos max_multiplier)) (int_min z (pos max_multiplier)) → r ≡ clamp max_multiplier z
 unfolding clamp
-held_low z h = rw h
-
-pub held_high : (z : ℤ) → lt_z z (neg_ℤ (pos max_multiplier)) ≡ false → lt_z (pos max_multiplier) z ≡ true → pos max_multiplier ≡ clamp max_multiplier z
-unfolding clamp
-held_high z h k = rw (h, k)
-
-pub held_same : (z : ℤ) → lt_z z (neg_ℤ (pos max_multiplier)) ≡ false → lt_z (pos max_multiplier) z ≡ false → z ≡ clamp max_multiplier z
-unfolding clamp
-held_same z h k = rw (h, k)
+held (pos n) r e = e ∙ go (lt_z (pos max_multiplier) (pos n))
+  where
+    go : (b : Bool) → int_max (neg_ℤ (pos max_multiplier)) (cond b (pos max_multiplier) (pos n)) ≡ cond b (pos max_multiplier) (pos n)
+    go true = refl
+    go false = refl
+held (negsuc n) r e = e
 
 -- ---- the array
 
@@ -83,14 +80,15 @@ held_same z h k = rw (h, k)
 abbrev pub gained_by : ℕ → ℕ → ℤ → ℤ
 gained_by step deg x = clamp max_multiplier (x +ℤ gain_of step deg)
 
--- vertices 2 to k have gained; vertex v stands at place v − 1, its degree at place v
+-- vertices 2 to k have gained, and the others not; vertex v stands at place v − 1, its degree at place v
 pub record GainsTo (k step : ℕ) (degrees : List ℕ) (d r : List ℤ) : Type 0 where
   pub size : length r ≡ max_vertices
   pub first : get_or r 0 (pos 0) ≡ get_or d 0 (pos 0)
   pub new : (i : ℕ) → 1 ≤ i → i < k → get_or r i (pos 0) ≡ gained_by step (get_or degrees (i + 1) 0) (get_or d i (pos 0))
+  pub rest : (i : ℕ) → k ≤ i → get_or r i (pos 0) ≡ get_or d i (pos 0)
 
 pub gains_none : (step : ℕ) (degrees : List ℕ) (d : List ℤ) → length d ≡ max_vertices → GainsTo 1 step degrees d d
-gains_none step degrees d e = record { size = e; first = refl; new = λ i a b. absurd (omega arith) }
+gains_none step degrees d e = record { size = e; first = refl; new = λ i a b. absurd (omega arith); rest = λ i a. refl }
 
 pub gains_more : (k step : ℕ) (degrees : List ℕ) (d r : List ℤ) (v : ℤ) → 1 ≤ k → k < max_vertices
     → v ≡ gained_by step (get_or degrees (k + 1) 0) (get_or d k (pos 0)) → GainsTo k step degrees d r
@@ -99,6 +97,7 @@ gains_more k step degrees d r v low b e h = record {
   size = length-set r k v ∙ h.size;
   first = get_or-set_other r k 0 v (pos 0) (omega arith) ∙ h.first;
   new = λ i a c. new i a c (ℕ_discrete i k);
+  rest = λ i a. get_or-set_other r k i v (pos 0) (omega arith) ∙ h.rest i (omega arith);
 }
   where
     new : (i : ℕ) → 1 ≤ i → i < k + 1 → Dec (i ≡ k)

@@ -2,6 +2,7 @@
 -- their laws.
 --   byte_of, marks_in, bytes_of   a mark's byte; the marks in a list of bytes; the bytes of a node's marks
 --   bytes_of_tour                the bytes of a tour
+--   with_bytes                   a graph with other marks
 use Rattle.std.specs.Prelude.{◌≡◌, refl, Bool, false, List, ℕ, zero, suc, ◌≤◌, ◌<◌, length, get_or}
 use Rattle.std.proofs.Common.{sym, ap, ◌∙◌, arith}
 use Rattle.std.proofs.Math.Decide.{dec_le}
@@ -33,6 +34,10 @@ bytes_of x = fill max_edges (λ j. byte_of (get_or x j free))
 unfoldable pub bytes_of_tour : List Bool → List ℕ
 unfolding fill
 bytes_of_tour r = fill max_edges (λ i. bit (get_or r i false))
+
+-- a graph with other marks
+abbrev pub with_bytes : Graph → List ℕ → Graph
+with_bytes g x = record { n = g.n; m = g.m; a = g.a; b = g.b; cost = g.cost; mark = x }
 
 -- ---- a mark and its byte
 

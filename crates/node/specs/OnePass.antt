@@ -1,12 +1,13 @@
 -- A pass of the machine, from what a pass of crate onetree tells: the least tree and a byte for each of its edges, and a byte for each
 -- edge's ruling. `VerdictIs` is what the code of a pass has to show, by its verdict.
-use Rattle.std.specs.Prelude.{◌≡◌, refl, ◌≢◌, Bool, true, cond, List, ℕ, zero, suc, ◌≤◌, ◌<◌, eqb, length, get_or, ℤ}
-use Rattle.std.proofs.Common.{sym, ◌∙◌, subst, arith}
+use Rattle.std.specs.Prelude.{◌≡◌, refl, Bool, true, cond, List, ℕ, zero, suc, ◌≤◌, ◌<◌, eqb, length, get_or, ℤ, Result, Ok, Err}
+use Rattle.std.proofs.Common.{sym, ◌∙◌, subst, true≢false, arith}
 use Rattle.std.proofs.Math.Path.{ap}
 use Rattle.std.proofs.Math.Bool.{false}
+use Rattle.std.proofs.Math.Decide.{ℕ_discrete}
 use Rattle.std.proofs.Math.ListN.{get_or-eq_default}
 use Rattle.std.specs.Int.Signed.{lt_z}
-use Rattle.lists.specs.Bools.{bit}
+use Rattle.lists.specs.Bools.{bit, by_cases}
 use Rattle.lists.specs.Members.{◌∈◌}
 use Rattle.lists.specs.Numbers.{up_to, up_to_in, in_up_to}
 use Rattle.lists.specs.Rows.{row, row_at}
@@ -14,6 +15,8 @@ use Rattle.lists.specs.Fill.{fill-at}
 use Rattle.lists.specs.Filling.{Filling, filling_is}
 use Rattle.integers.specs.Multiples.{◌times◌}
 use Rattle.graph.specs.declared.Graph.{Graph}
+use Rattle.graph.specs.declared.refusals.Refusal.{Refusal}
+use Rattle.graph.specs.Refusals.{number}
 use Rattle.graph.specs.Limits.{max_edges}
 use Rattle.graph.specs.Network.{Network, free, network}
 use Rattle.graph.specs.Valid as value
@@ -36,7 +39,7 @@ use Rattle.tours.specs.DegreeTest.{test_yes, test_no}
 use Rattle.node.specs.declared.passes.Verdict.{Verdict}
 use Rattle.node.specs.declared.passes.Verdict.TheVariants as verdict
 use Rattle.node.specs.Marks.{byte_of, bytes_of_tour, bytes_of}
-use Rattle.node.specs.Counting.{DegreesTo, degree_all, all_two, two-each, not-two}
+use Rattle.node.specs.Counting.{DegreesTo, degree_all, AllTwo, all_two, two-each}
 use Rattle.node.specs.Marking.{mark_byte, mark_ruling}
 
 -- ---- what the code of a pass shows
@@ -66,16 +69,13 @@ abbrev pub top_of : Opening → ℤ
 top_of o = o.settings.denominator times o.settings.ceiling
 
 -- refused with its fault, or without one what the machine's pass is
-abbrev pub VerdictIs : Opening → Verdict → List ℕ → List ℕ → Type 0
-VerdictIs o (verdict.Refused k) w degrees = (fault o ≡ k) × (k ≢ 0) × (w ≡ o.graph.mark)
-VerdictIs o verdict.Shut w degrees =
+abbrev pub VerdictIs : Opening → Result Verdict Refusal → List ℕ → Type 0
+VerdictIs o (Err r) w = (fault o ≡ number r) × (w ≡ o.graph.mark)
+VerdictIs o (Ok verdict.Shut) w =
     (fault o ≡ 0) × (pass (scaled_by o.settings.denominator (network o.graph)) (multiplier o.multipliers) (top_of o) ≡ shut)
-VerdictIs o verdict.Found w degrees = (fault o ≡ 0) × FoundAs o.settings.denominator o.graph o.multipliers (top_of o) w
-VerdictIs o (verdict.Ruled live) w degrees =
+VerdictIs o (Ok verdict.Found) w = (fault o ≡ 0) × FoundAs o.settings.denominator o.graph o.multipliers (top_of o) w
+VerdictIs o (Ok (verdict.Ruled live degrees)) w =
     (fault o ≡ 0) × RuledAs o.settings.denominator o.graph o.multipliers (top_of o) w degrees × (live ≤ max_edges)
-
-pub verdict_as : (o : Opening) (w degrees : List ℕ) (v u : Verdict) → v ≡ u → VerdictIs o v w degrees → VerdictIs o u w degrees
-verdict_as o w degrees v u e h = subst (λ (x : Verdict). VerdictIs o x w degrees) e h
 
 -- ---- the bytes of a tree
 
@@ -140,7 +140,10 @@ module _ (den : ℕ) (g : Graph) (valid : value.Valid g) (d : List ℤ) (upper b
   vertex : (v : ℕ) → v ∈ up_to (network g).n → v ∈ up_to g.n
   vertex v i = subst (λ (n : ℕ). v ∈ up_to n) (network_n g) i
 
-  pub tree_found : all_two degrees g.n ≡ true → FoundAs den g d upper w
+  room : g.n < length degrees
+  room = omega (arith, counted.size, valid.high)
+
+  pub tree_found : AllTwo degrees g.n → FoundAs den g d upper w
   tree_found h = record {
     tour = t;
     is = pass_tour (scaled_by den (network g)) (multiplier d) upper b t least low tour;
@@ -152,7 +155,7 @@ module _ (den : ℕ) (g : Graph) (valid : value.Valid g) (d : List ℤ) (upper b
           test_yes (scaled_by den (network g)) (valid_scaled den (network g) (network-valid g valid)) t (least_tree_lem (scaled_by den (network g)) (multiplier d) upper b t least)
           (λ v i.
           sym (degrees_are v (in_up_to g.n v (vertex v i)).1)
-          ∙ two-each degrees g.n h v (vertex v i))
+          ∙ two-each degrees g.n room h v (vertex v i))
 
   module _ (rulings x : List ℕ)
       (ruled : (k : ℕ) → k < g.m → get_or rulings k 0 ≡ ruling_byte (ruling (scaled_by den (network g)) (multiplier d) upper (suc k)))
@@ -177,19 +180,26 @@ module _ (den : ℕ) (g : Graph) (valid : value.Valid g) (d : List ℤ) (upper b
         filling_is 0 max_edges (λ k. mark_byte (get_or rulings k 0)) g.m x (λ k. byte_of (get_or marks k free)) made mark_at_lem
         (λ k h. ap byte_of (get_or-eq_default marks free (omega (arith, long))))
 
-    pub tree-ruled : all_two degrees g.n ≡ false → RuledAs den g d upper x degrees
+    pub tree-ruled : (AllTwo degrees g.n → ⊥) → RuledAs den g d upper x degrees
     unfolding marks
     tree-ruled h = record {
       tree = t;
       marks = marks;
-      is = pass-ruled (scaled_by den (network g)) (multiplier d) upper b t least low (go (not-two degrees g.n h));
+      is = pass-ruled (scaled_by den (network g)) (multiplier d) upper b t least low no_tour;
       long = long;
       bytes = marks-bytes;
       degree = λ v l i. unfold T.degree in degrees_are v i;
     }
       where
-        go : (v : ℕ) × (v ∈ up_to g.n) × (get_or degrees v 0 ≢ 2) → is_tour (scaled_by den (network g)) t ≡ false
-        go r =
-            test_no (scaled_by den (network g)) (valid_scaled den (network g) (network-valid g valid)) t r.0
-            (subst (λ (n : ℕ). r.0 ∈ up_to n) (sym (network_n g)) r.1)
-            (λ e. r.2 (degrees_are r.0 (in_up_to g.n r.0 r.1).1 ∙ e))
+        -- a tour would have two edges at each vertex
+        two : is_tour (scaled_by den (network g)) t ≡ true → (v : ℕ) → 1 ≤ v → v ≤ g.n → Dec (get_or degrees v 0 ≡ 2) → get_or degrees v 0 ≡ 2
+        two i v a b (yes e) = e
+        two i v a b (no e) =
+            absurd (true≢false (sym i
+            ∙ test_no (scaled_by den (network g)) (valid_scaled den (network g) (network-valid g valid)) t v
+            (subst (λ (n : ℕ). v ∈ up_to n) (sym (network_n g)) (up_to_in g.n v a b))
+            (λ k. e (degrees_are v b ∙ k))))
+
+        no_tour : is_tour (scaled_by den (network g)) t ≡ false
+        no_tour = by_cases (is_tour (scaled_by den (network g)) t)
+            (λ i. absurd (h (all_two degrees g.n room (λ v a b. two i v a b (ℕ_discrete (get_or degrees v 0) 2))))) (λ i. i)

@@ -20,23 +20,24 @@ use Rattle.mark_rows.specs.SixWords.{marks-length}
 use Rattle.mark_rows.proofs.SixWords.{rows_back}
 use Rattle.compaction.specs.Spread.{spread_marks, spread_tour, spread_opened, spread-size, branch-spread}
 use Rattle.node.specs.declared.Fate.TheVariants as fate
-use Rattle.node.specs.Marks.{marks_in, bytes_of, bytes_of_tour, bytes_back}
-use Rattle.node.specs.Opened.{opened, opened_as, no_rows, no_multipliers, kept, left, left_in, node_fault, opens_by, opens}
+use Rattle.node.specs.declared.Workspace.{Workspace}
+use Rattle.node.specs.Marks.{with_bytes, marks_in, bytes_of, bytes_of_tour, bytes_back}
+use Rattle.node.specs.Opened.{refuses, comes_to, opened_as, marked, no_rows, no_multipliers, kept, left, left_in, node_fault, opens_by, opens}
 use Rattle.node.specs.Faults.{Fit, fault_15, fit-fault}
 use Rattle.node.specs.OnePass.{top_of}
-use Rattle.node.specs.Passes.{FoundIn, Pending, with_bytes, valid-bytes, passes_from_lem}
+use Rattle.node.specs.Passes.{FoundIn, Pending, valid-bytes, passes_from_lem}
 use Rattle.node.specs.Refusing.{outcome, opens-refused, opens_accepted}
 use Rattle.node.specs.CompactGraph.{left_few, left-valid, left-passes}
 
 -- ---- by what it comes to on the edges that are left
 
-module _ (o : Opening) (rows top tour : List ℕ) (last : List ℤ) where
+module _ (o : Opening) (node : Workspace) where
   -- there are too many edges, or those that are left make no valid graph
-  pub opens_15 : (o.graph.m ≤ max_edges → Valid (left o.graph) → ⊥) → opened (fate.Refused 15) rows top tour last ≡ opens o rows top tour last
+  pub opens_15 : (o.graph.m ≤ max_edges → Valid (left o.graph) → ⊥) → refuses 15 node ≡ opens o node
   unfolding opens node_fault
   opens_15 h =
-      opens-refused o rows top tour last 15 (omega arith)
-      ∙ ap (λ (k : ℕ). opens_by k o rows top tour last) (sym (go (dec_le o.graph.m max_edges)))
+      opens-refused o node 15 (omega arith)
+      ∙ ap (λ (k : ℕ). opens_by k o node) (sym (go (dec_le o.graph.m max_edges)))
     where
       go : Dec (o.graph.m ≤ max_edges) → cond (leb o.graph.m max_edges) (fault (left_in o)) 15 ≡ 15
       go (yes b) = rw (le-leb o.graph.m max_edges b) (fault_15 (left_in o) (not_valid (left o.graph) (h b)))
@@ -47,40 +48,40 @@ module _ (o : Opening) (rows top tour : List ℕ) (last : List ℤ) where
     unfolding node_fault
     number = rw (le-leb o.graph.m max_edges few)
 
-    pub left-refused : (k : ℕ) → fault (left_in o) ≡ k → k ≢ 0 → opened (fate.Refused k) rows top tour last ≡ opens o rows top tour last
+    pub left-refused : (k : ℕ) → fault (left_in o) ≡ k → k ≢ 0 → refuses k node ≡ opens o node
     unfolding opens
     left-refused k e n =
-        opens-refused o rows top tour last k n ∙ ap (λ (i : ℕ). opens_by i o rows top tour last) (sym (number ∙ e))
+        opens-refused o node k n ∙ ap (λ (i : ℕ). opens_by i o node) (sym (number ∙ e))
 
     -- a node of a valid graph is not refused
     module _ (fine : fault (left_in o) ≡ 0) where
-      pub opens-valid : opened_as (outcome o) ≡ opens o rows top tour last
+      pub opens-valid : opened_as (outcome o) ≡ opens o node
       unfolding opens
-      opens-valid = opens_accepted o rows top tour last (node_fault o) (number ∙ fine)
+      opens-valid = opens_accepted o node (node_fault o) (number ∙ fine)
 
       left-opens : (out : M.Opened) → outcome (left_in o) ≡ out
-          → opened_as (spread_opened (kept o.graph.mark) o.graph.m out) ≡ opens o rows top tour last
+          → opened_as (spread_opened (kept o.graph.mark) o.graph.m out) ≡ opens o node
       left-opens out e =
           ap (λ (x : M.Opened). opened_as (spread_opened (kept o.graph.mark) o.graph.m x)) (sym e)
           ∙ ap opened_as (left-passes o.graph (left_few o.graph few) o.settings.denominator o.multipliers o.settings.step (top_of o)
           o.settings.sweeps)
           ∙ opens-valid
 
-      pub left_shut : outcome (left_in o) ≡ closes → opened_as closes ≡ opens o rows top tour last
+      pub left_shut : outcome (left_in o) ≡ closes → opened_as closes ≡ opens o node
       left_shut e = left-opens closes e
 
       -- the tour's bytes for all edges
       pub left_found : (w v : List ℕ) (f : FoundIn (outcome (left_in o)) w)
           → v ≡ bytes_of_tour (spread_tour (kept o.graph.mark) o.graph.m f.tour)
-          → opened fate.Finds no_rows no_rows v no_multipliers ≡ opens o rows top tour last
+          → comes_to fate.Finds no_rows no_rows v no_multipliers ≡ opens o node
       unfolding opened_as
       left_found w v f e =
-          (λ i. opened fate.Finds no_rows no_rows (e i) no_multipliers) ∙ left-opens (finds f.tour) f.is
+          (λ i. comes_to fate.Finds no_rows no_rows (e i) no_multipliers) ∙ left-opens (finds f.tour) f.is
 
       -- the words of the marks of all edges
       pub left_unclosed : (w : List ℕ) (told : List ℤ) (p : Pending (left o.graph).m (outcome (left_in o)) w told) (l : List ℕ)
           → l ≡ rows_of (spread_marks (kept o.graph.mark) o.graph.m p.marks)
-          → opened_as (branch p.multipliers (marks_in_rows o.graph.m l)) ≡ opens o rows top tour last
+          → opened_as (branch p.multipliers (marks_in_rows o.graph.m l)) ≡ opens o node
       left_unclosed w told p l e =
           ap (λ (x : Marks). opened_as (branch p.multipliers x))
           (ap (marks_in_rows o.graph.m) e ∙ rows_back o.graph.m _ few (spread-size (kept o.graph.mark) o.graph.m _ _ p.marks))
@@ -92,14 +93,13 @@ pub canonical : (m : ℕ) (y : Marks) (l : List ℕ) → m ≤ max_edges → len
 canonical m y l few long e = e ∙ ap rows_of (sym (ap (marks_in_rows m) e ∙ rows_back m y few long))
 
 -- A NODE OF A SEARCH, on the graph of its opening: nothing is refused, whatever marks that graph had, and whatever six words the node's are
-pub opens_node : (o : Opening) → Fit o → (x rows top tour : List ℕ) (last : List ℤ)
-    → opens (record { graph = with_bytes o.graph (bytes_of (marks_in_rows o.graph.m x)); multipliers = o.multipliers; settings = o.settings })
-    rows top tour last
+pub opens_node : (o : Opening) → Fit o → (x : List ℕ) (node : Workspace)
+    → opens (record { graph = marked o.graph x; multipliers = o.multipliers; settings = o.settings }) node
     ≡ opened_as (passes (scaled_by o.settings.denominator (network o.graph)) o.settings.step (top_of o) o.settings.sweeps
     o.multipliers (marks_in_rows o.graph.m x))
-opens_node o f x rows top tour last =
-    sym (opens-valid node rows top tour last f.valid.few (fit-fault (left_in node) (record {
-      valid = left-valid node.graph (valid-bytes o.graph y f.valid);
+opens_node o f x node =
+    sym (opens-valid given node f.valid.few (fit-fault (left_in given) (record {
+      valid = left-valid given.graph (valid-bytes o.graph y f.valid);
       long = f.long;
       multipliers = f.multipliers;
       ceiling = f.ceiling;
@@ -115,8 +115,8 @@ opens_node o f x rows top tour last =
     y : Marks
     y = marks_in_rows o.graph.m x
 
-    node : Opening
-    node = record { graph = with_bytes o.graph (bytes_of y); multipliers = o.multipliers; settings = o.settings }
+    given : Opening
+    given = record { graph = with_bytes o.graph (bytes_of y); multipliers = o.multipliers; settings = o.settings }
 
     back : marks_in o.graph.m (bytes_of y) ≡ y
     back = bytes_back o.graph.m y f.valid.few (marks-length o.graph.m x)

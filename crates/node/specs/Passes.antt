@@ -19,13 +19,10 @@ use Rattle.machine.specs.Outcomes.{finds}
 use Rattle.tours.specs.Tours as T
 use Rattle.machine.specs.Machine as M
 use Rattle.machine.specs.Machine.{Marks, with_marks, Pass, shut, found, unclosed, pass, gained, branch, concluded, passes}
-use Rattle.node.specs.Marks.{marks_in, mark_byte_lem, bytes_of, bytes_of_tour, bytes-at, bytes_small, marks-size}
+use Rattle.node.specs.Marks.{with_bytes, marks_in, mark_byte_lem, bytes_of, bytes_of_tour, bytes-at, bytes_small, marks-size}
 use Rattle.node.specs.Opened.{places}
 
 -- ---- the graph with other marks
-
-abbrev pub with_bytes : Graph → List ℕ → Graph
-with_bytes g x = record { n = g.n; m = g.m; a = g.a; b = g.b; cost = g.cost; mark = x }
 
 module _ (g : Graph) (x : Marks) (few : g.m ≤ max_edges) (long : length x ≡ g.m) where
   mark_is : (k : ℕ) → mark_of (place 0 g.m (bytes_of x) k) ≡ get_or (free ∷ x) k free

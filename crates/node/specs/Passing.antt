@@ -1,12 +1,10 @@
 -- What crate onetree's pass promises: which number is refused, and where none is, the least tree, where it is within the ceiling, and the
 -- rulings.
-use Rattle.std.specs.Prelude.{◌≡◌, Bool, true, false, List, ℕ, zero, suc, ◌≤◌, ◌<◌, leb, length, get_or, ℤ}
+use Rattle.std.specs.Prelude.{◌≡◌, Bool, true, false, List, ℕ, zero, suc, ◌≤◌, ◌<◌, leb, length, get_or, ℤ, Option, None, Some, Result, Ok, Err}
 use Rattle.std.proofs.Math.Path.{refl}
-use Rattle.std.proofs.Common.{sym, ap, ◌∙◌, true≢false, arith}
+use Rattle.std.proofs.Common.{sym, ap, ◌∙◌, arith}
 use Rattle.std.proofs.Math.Bool.{cond}
-use Rattle.std.proofs.lemmas.Bool.{false≢true}
 use Rattle.std.proofs.Math.Decide.{dec_le}
-use Rattle.std.proofs.lemmas.List.{length-replicate}
 use Rattle.std.proofs.Math.ListN.{get_or-eq_default}
 use Rattle.std.specs.Int.Signed.{lt_z}
 use borrow.Author.Tests.{eq-eqb, le-leb, lt-leb}
@@ -15,6 +13,8 @@ use Rattle.lists.specs.Rows.{row, row-size, row_at}
 use Rattle.lists.specs.Fill.{fill_is}
 use Rattle.integers.specs.Multiples.{◌times◌}
 use Rattle.graph.specs.declared.Graph.{Graph}
+use Rattle.graph.specs.declared.refusals.Refusal.{Refusal}
+use Rattle.graph.specs.Refusals.{number}
 use Rattle.graph.specs.Limits.{max_edges}
 use Rattle.graph.specs.Network.{network}
 use Rattle.graph.specs.Valid as value
@@ -23,28 +23,20 @@ use Rattle.tree_theory.specs.OneTree.{Edges}
 use Rattle.tree_theory.specs.Inputs.{input_fault, multiplier, multipliers_fit, ceiling_fits, denominator_fault}
 use Rattle.tree_theory.specs.Scaled.{scaled_by}
 use Rattle.tree_theory.specs.Enumeration.{Tree, no_tree, a_tree, least_tree, ruling}
-use Rattle.onetree.specs.declared.RuleAnswer.{RuleAnswer}
-use Rattle.onetree.specs.declared.RuleAnswer.TheVariants as answer
-use Rattle.onetree.specs.Answers.{HintAfter, Reply, refused, none, bounded, rule_meaning, rule_fault, unless_fault, rule_says, rule_reply, ruling_byte, padded, pass_tree, pass_rulings}
+use Rattle.greedy.specs.declared.Found.{Found}
+use Rattle.onetree.specs.Answers.{HintAfter, Reply, refused, none, bounded, pass_meaning, rule_fault, unless_fault, rule_says, rule_reply, ruling_byte, padded, pass_tree, pass_rulings}
 use Rattle.machine.specs.Machine.{Opening, shut, pass}
 use Rattle.machine.specs.Calls.{fault}
 use Rattle.node.specs.Marks.{bytes_of_tour}
-use Rattle.node.specs.Faults.{settings_fault, lastly, fault_rule}
-use Rattle.node.specs.OnePass.{tree_bytes, pass_none, pass-above}
-
--- is there a tree within the ceiling?
-unfoldable pub is_bound : RuleAnswer → Bool
-is_bound answer.Infeasible = false
-is_bound (answer.Bound b) = true
-is_bound (answer.Refused n p) = false
+use Rattle.node.specs.Faults.{settings_fault, lastly, fault_rule, fault-fit}
+use Rattle.node.specs.OnePass.{top_of, tree_bytes, pass_none, pass-above}
 
 -- ---- refusals
 
 -- what is refused once the tree part has answered, or 0
-unfoldable pub refusal : RuleAnswer → ℕ → ℕ → ℕ
-refusal answer.Infeasible sweeps step = settings_fault sweeps step
-refusal (answer.Bound b) sweeps step = settings_fault sweeps step
-refusal (answer.Refused number place) sweeps step = lastly number sweeps step
+abbrev pub refusal : Result (Option Found) Refusal → ℕ → ℕ → ℕ
+refusal (Ok found) sweeps step = settings_fault sweeps step
+refusal (Err r) sweeps step = lastly (number r) sweeps step
 
 says_no_number : (n p : ℕ) (upper : ℤ) (t : Tree) → refused n p ≡ rule_says upper t → ⊥
 says_no_number n p upper no_tree h = let z : ◌≡◌ {A = ℕ} 0 1 = cc in omega arith
@@ -55,36 +47,28 @@ says_no_number n p upper (a_tree b t) h = go (lt_z upper b) h
     go false h = let z : ◌≡◌ {A = ℕ} 0 1 = cc in omega arith
 
 -- it is the fault of the opening
-pub refusal-fault : (o : Opening) (a : RuleAnswer)
-    → rule_meaning a ≡ rule_reply o.graph o.multipliers o.settings.ceiling o.settings.denominator o.graph.m
+pub refusal-fault : (o : Opening) (a : Result (Option Found) Refusal)
+    → pass_meaning a ≡ rule_reply o.graph o.multipliers o.settings.ceiling o.settings.denominator o.graph.m
     → fault o ≡ refusal a o.settings.sweeps o.settings.step
-unfolding rule_reply refusal rule_meaning
+unfolding rule_reply
 refusal-fault o a e =
     fault_rule o
     ∙ go a (rule_fault o.graph o.multipliers o.settings.ceiling o.settings.denominator o.graph.m) e
   where
-    go : (a : RuleAnswer) (f : ℕ)
-        → rule_meaning a
+    go : (a : Result (Option Found) Refusal) (f : ℕ)
+        → pass_meaning a
         ≡ unless_fault f (rule_says (o.settings.denominator times o.settings.ceiling)
         (least_tree (scaled_by o.settings.denominator (network o.graph)) (multiplier o.multipliers)))
         → lastly f o.settings.sweeps o.settings.step ≡ refusal a o.settings.sweeps o.settings.step
-    go answer.Infeasible zero h = refl
-    go (answer.Bound b) zero h = refl
-    go (answer.Refused n p) zero h =
-        absurd (says_no_number n p (o.settings.denominator times o.settings.ceiling)
+    go (Ok None) zero h = refl
+    go (Ok (Some found)) zero h = refl
+    go (Err r) zero h =
+        absurd (says_no_number (number r) 0 (o.settings.denominator times o.settings.ceiling)
         (least_tree (scaled_by o.settings.denominator (network o.graph)) (multiplier o.multipliers)) h)
-    go answer.Infeasible (suc f) h = absurd (let z : ◌≡◌ {A = ℕ} 0 1 = cc in omega arith)
-    go (answer.Bound b) (suc f) h = absurd (let z : ◌≡◌ {A = ℕ} 0 1 = cc in omega arith)
-    go (answer.Refused n p) (suc f) h =
-        let s : n ≡ suc f = cc in ap (λ (k : ℕ). lastly k o.settings.sweeps o.settings.step) (sym s)
-
--- a hint is never longer than its array
-pub hint_fits : (r : Reply) (marks : List ℕ) (m : ℕ) (out order : List ℕ) (live : ℕ) → HintAfter r marks m out order live
-    → length out ≡ max_edges → (live ≤ max_edges) × (length order ≡ max_edges)
-hint_fits (refused number place) marks m out order live h long = (omega (arith, h.1), ap {A = List ℕ} length h.0 ∙ long)
-hint_fits none marks m out order live h long =
-    (omega (arith, h.1), ap {A = List ℕ} length h.0 ∙ length-replicate {A = ℕ} max_edges 0)
-hint_fits (bounded b) marks m out order live h long = (h.looks.few, h.long)
+    go (Ok None) (suc f) h = absurd (let z : ◌≡◌ {A = ℕ} 0 1 = cc in omega arith)
+    go (Ok (Some found)) (suc f) h = absurd (let z : ◌≡◌ {A = ℕ} 0 1 = cc in omega arith)
+    go (Err r) (suc f) h =
+        let s : number r ≡ suc f = cc in ap (λ (k : ℕ). lastly k o.settings.sweeps o.settings.step) (sym s)
 
 -- a tree within the ceiling
 pub record Within (den : ℕ) (g : Graph) (d : List ℤ) (upper b : ℤ) : Type 0 where
@@ -110,7 +94,8 @@ module _ (den : ℕ) (g : Graph) (d : List ℤ) (upper : ℤ) (valid : value.Val
   not-refused : (n p : ℕ) → refused n p ≡ rule_reply g d upper den g.m → ⊥
   not-refused n p e = says_no_number n p top (least_tree (scaled_by den (network g)) (multiplier d)) (e ∙ says)
 
-  none_shut : none ≡ rule_reply g d upper den g.m → pass (scaled_by den (network g)) (multiplier d) top ≡ shut
+  -- by the answer: there is none within the ceiling, or there is one
+  pub none_shut : none ≡ rule_reply g d upper den g.m → pass (scaled_by den (network g)) (multiplier d) top ≡ shut
   none_shut e = go (least_tree (scaled_by den (network g)) (multiplier d)) refl (e ∙ says)
     where
       second : (b : ℤ) (t : Edges) → least_tree (scaled_by den (network g)) (multiplier d) ≡ a_tree b t → (x : Bool) → lt_z top b ≡ x
@@ -122,7 +107,7 @@ module _ (den : ℕ) (g : Graph) (d : List ℤ) (upper : ℤ) (valid : value.Val
       go no_tree q h = pass_none (scaled_by den (network g)) (multiplier d) top q
       go (a_tree b t) q h = second b t q (lt_z top b) refl h
 
-  bounded_within : (b : ℤ) → bounded b ≡ rule_reply g d upper den g.m → Within den g d top b
+  pub bounded_within : (b : ℤ) → bounded b ≡ rule_reply g d upper den g.m → Within den g d top b
   bounded_within b e = go (least_tree (scaled_by den (network g)) (multiplier d)) refl (e ∙ says)
     where
       second : (c : ℤ) (t : Edges) → least_tree (scaled_by den (network g)) (multiplier d) ≡ a_tree c t → (x : Bool) → lt_z top c ≡ x
@@ -135,20 +120,6 @@ module _ (den : ℕ) (g : Graph) (d : List ℤ) (upper : ℤ) (valid : value.Val
       go : (t : Tree) → least_tree (scaled_by den (network g)) (multiplier d) ≡ t → bounded b ≡ rule_says top t → Within den g d top b
       go no_tree q h = absurd (let z : ◌≡◌ {A = ℕ} 0 1 = cc in omega arith)
       go (a_tree c t) q h = second c t q (lt_z top c) refl h
-
-  -- by the answer
-  pub answer_shut : (a : RuleAnswer) → is_bound a ≡ false → rule_meaning a ≡ rule_reply g d upper den g.m
-      → pass (scaled_by den (network g)) (multiplier d) top ≡ shut
-  unfolding is_bound rule_meaning
-  answer_shut answer.Infeasible i e = none_shut e
-  answer_shut (answer.Bound b) i e = absurd (true≢false i)
-  answer_shut (answer.Refused n p) i e = absurd (not-refused n p e)
-
-  pub answer-within : (a : RuleAnswer) → is_bound a ≡ true → rule_meaning a ≡ rule_reply g d upper den g.m → (b : ℤ) × Within den g d top b
-  unfolding is_bound rule_meaning
-  answer-within answer.Infeasible i e = absurd (false≢true i)
-  answer-within (answer.Bound b) i e = (b, bounded_within b e)
-  answer-within (answer.Refused n p) i e = absurd (false≢true i)
 
   -- the bytes of the tree and of the rulings
   pub pass-tree : (out : List ℕ) (b : ℤ) (w : Within den g d top b) → pass_tree g d upper den out ≡ tree_bytes g.m w.tree
@@ -179,3 +150,47 @@ module _ (den : ℕ) (g : Graph) (d : List ℤ) (upper : ℤ) (valid : value.Val
       rw (no_fault, w.least, w.low)
       (row_at max_edges (λ j. cond (leb j g.m) (ruling_byte (ruling (scaled_by den (network g)) (multiplier d) top j)) 0) k 0 (omega (arith, valid.few))
       ∙ rw (le-leb (suc k) g.m h))
+
+-- ---- what the code is told
+
+-- the least 1-tree is within the upper bound; its bytes, those of its rulings, and how long a hint is
+pub record LeastIs (o : Opening) (found : Found) (tree rulings : List ℕ) : Type 0 where
+  pub none : fault o ≡ 0
+  pub within : Within o.settings.denominator o.graph o.multipliers (top_of o) found.bound
+  pub bytes : tree ≡ tree_bytes o.graph.m within.tree
+  pub ruled : (k : ℕ) → k < o.graph.m
+      → get_or rulings k 0
+      ≡ ruling_byte (ruling (scaled_by o.settings.denominator (network o.graph)) (multiplier o.multipliers) (top_of o) (suc k))
+  pub few : found.live ≤ max_edges
+
+-- refused with its fault, or without one the least 1-tree, where it is within the upper bound
+abbrev pub TreeIs : Opening → Result (Option Found) Refusal → List ℕ → List ℕ → Type 0
+TreeIs o (Err r) tree rulings = fault o ≡ number r
+TreeIs o (Ok None) tree rulings =
+    (fault o ≡ 0) × (pass (scaled_by o.settings.denominator (network o.graph)) (multiplier o.multipliers) (top_of o) ≡ shut)
+TreeIs o (Ok (Some found)) tree rulings = LeastIs o found tree rulings
+
+module _ (o : Opening) (none : fault o ≡ 0) (tree rulings tree_before rulings_before : List ℕ) where
+  abbrev replied : Reply
+  replied = rule_reply o.graph o.multipliers o.settings.ceiling o.settings.denominator o.graph.m
+
+  -- once it refuses nothing
+  pub tree_is : (x : Option Found) → pass_meaning (Ok x) ≡ replied
+      → tree ≡ pass_tree o.graph o.multipliers o.settings.ceiling o.settings.denominator tree_before
+      → rulings ≡ pass_rulings o.graph o.multipliers o.settings.ceiling o.settings.denominator rulings_before
+      → (marks out order : List ℕ) → HintAfter (Ok x) marks o.graph.m out order → TreeIs o (Ok x) tree rulings
+  tree_is None said t r marks out order hint =
+      let f = fault-fit o none in
+      (none, none_shut _ _ _ _ f.valid f.long f.multipliers f.ceiling f.denominator said)
+  tree_is (Some found) said t r marks out order hint =
+      let f = fault-fit o none in
+      let w = bounded_within _ _ _ _ f.valid f.long f.multipliers f.ceiling f.denominator found.bound said in
+      record {
+        none = none;
+        within = w;
+        bytes = t ∙ pass-tree _ _ _ _ f.valid f.long f.multipliers f.ceiling f.denominator tree_before found.bound w;
+        ruled = λ k h.
+            ap (λ (l : List ℕ). get_or l k 0) r
+            ∙ pass-rulings _ _ _ _ f.valid f.long f.multipliers f.ceiling f.denominator rulings_before found.bound w k h;
+        few = hint.looks.few;
+      }

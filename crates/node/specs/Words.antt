@@ -27,7 +27,7 @@ use Rattle.mark_rows.proofs.SixWords.{rows_required, rows_excluded}
 use Rattle.compaction.specs.Ranks.{rank}
 use Rattle.node.specs.declared.Fate.TheVariants as fate
 use Rattle.node.specs.Marks.{byte_of, bytes_of, bytes-at}
-use Rattle.node.specs.Opened.{opened, opened_as, places, kept}
+use Rattle.node.specs.Opened.{comes_to, opened_as, places, kept}
 use Rattle.node.specs.Compacting.{Listed, listed_none, listed_at, old, listed-old}
 use Rattle.node.specs.Expanding.{expanded_at}
 use Rattle.node.specs.Walking.{cut, Masked, Walk, walk_first, walk_more, last_clear, power, in_word, from, within, met, between}
@@ -509,11 +509,11 @@ module _ (m : ℕ) (rows : List ℕ) (few : m ≤ max_edges) (k : ℕ) (f : Firs
   edge_set from = set rows (from + k / 64) (bit_or (get_or rows (from + k / 64) 0) (2 ^ (k % 64)))
 
   pub branch_splits : (d : List ℤ) → k < m → rows ≡ rows_of marks
-      → opened fate.Splits (edge_set row_words) (edge_set 0) (replicate max_edges 0) (places d) ≡ opened_as (branch d marks)
+      → comes_to fate.Splits (edge_set row_words) (edge_set 0) (replicate max_edges 0) (places d) ≡ opened_as (branch d marks)
   unfolding branch opened_as
   branch_splits d h e =
       rw (first, lt-ltb k (length marks) (omega (arith, marks-length m rows)))
-      (λ i. opened fate.Splits (lower i) (upper i) (replicate max_edges 0) (places d))
+      (λ i. comes_to fate.Splits (lower i) (upper i) (replicate max_edges 0) (places d))
     where
       open_edge : get_or marks k free ≡ free
       open_edge = free_is (get_or marks k free) (f.here h)

@@ -1,67 +1,56 @@
 // The edges that a node does not exclude, moved together, and bytes for them made bytes for all edges again.
-ghost use Rattle.std.specs.Prelude.{◌≡◌, ℕ, ◌≤◌, ◌<◌, pos, length, get_or, replicate};
-ghost use Rattle.lists.specs.Filling.{Filling};
+ghost use Rattle.std.specs.Prelude.{◌≡◌, ℕ, ◌≤◌, ◌<◌, pos, get_or, replicate};
 ghost use Rattle.graph.specs.Limits.{max_edges};
-ghost use Rattle.node.specs.Compacting.{listed_at};
+ghost use Rattle.node.specs.Opened.{left, marked};
+ghost use Rattle.node.specs.Compacting.{Listed, Gathered};
 ghost use Rattle.node.specs.Expanding.{Places, Placed};
+ghost use Rattle.node.specs.Words.{kept_in};
 
-use graph::{MAX_EDGES, wide};
+use crate::NODE_WORDS;
+use crate::rows::list_left;
+use graph::{Graph, MAX_EDGES};
 
-// The ends and costs of the edges at the f places that are listed, into blank arrays.
-pub(crate) fn gather<'a>(
-    place: &'a [u8; MAX_EDGES],
-    f: usize,
-    a: &'a [u8; MAX_EDGES],
-    b: &'a [u8; MAX_EDGES],
-    cost: &'a [i32; MAX_EDGES],
-    starts: &mut [u8; MAX_EDGES],
-    stops: &mut [u8; MAX_EDGES],
-    costs: &mut [i32; MAX_EDGES],
-)
-    requires { (f ≤ max_edges) × ((j : ℕ) → j < f → get_or place.now j 0 < max_edges) × (starts.old ≡ replicate max_edges 0)
-        × (stops.old ≡ replicate max_edges 0) × (costs.old ≡ replicate max_edges (pos 0)) }
-    ensures { Filling 0 max_edges f (listed_at 0 a.now place.now) starts.new
-        × Filling 0 max_edges f (listed_at 0 b.now place.now) stops.new
-        × Filling (pos 0) max_edges f (listed_at (pos 0) cost.now place.now) costs.new }
+// The ends and costs of the edges at the places that are listed, as many as `left` has edges, into its blank arrays.
+fn gather(place: &[u8; MAX_EDGES], g: &Graph, left: &mut Graph)
+    requires few { left.old.m ≤ max_edges }
+    requires places { (j : ℕ) → j < left.old.m → get_or place.now j 0 < max_edges }
+    requires blank_a { left.old.a ≡ replicate max_edges 0 }
+    requires blank_b { left.old.b ≡ replicate max_edges 0 }
+    requires blank_cost { left.old.cost ≡ replicate max_edges (pos 0) }
+    ensures { Gathered left.old.m place.now g.now left.old left.new }
 {
-    let mut j = 0;
-    while j < f {
-        let k = wide(place[j]);
-        starts[j] = a[k];
-        stops[j] = b[k];
-        costs[j] = cost[k];
-        j = j + 1;
+    for j in 0..usize::from(left.m) {
+        let k = usize::from(place[j]);
+        left.a[j] = g.a[k];
+        left.b[j] = g.b[k];
+        left.cost[j] = g.cost[k];
     }
 }
 
-// The first f bytes of a row, each put at its place.
-fn put_each<'a>(
-    place: &'a [u8; MAX_EDGES],
-    f: usize,
-    row: &'a [u8; MAX_EDGES],
-    r: &mut [u8; MAX_EDGES],
-)
-    requires { Places f place.now × (length r.old ≡ max_edges) }
-    ensures { Placed f place.now row.now r.old r.new }
+// The graph of the edges that the node with these words does not exclude, with its marks, and the place of each among all edges.
+pub(crate) fn without_excluded(
+    g: &Graph,
+    rows: &[u64; NODE_WORDS],
+    place: &mut [u8; MAX_EDGES],
+) -> Graph
+    requires { g.now.m ≤ max_edges }
+    ensures graph { result ≡ left (marked g.now rows.now) }
+    ensures listed { Listed (kept_in g.now.m rows.now) g.now.m place.new }
 {
-    let mut j = 0;
-    while j < f {
-        let k = wide(place[j]);
-        r[k] = row[j];
-        j = j + 1;
-    }
+    let mut left = Graph::edgeless(g.n);
+    let f = list_left(usize::from(g.m), rows, place, &mut left.mark);
+    left.m = f as u8;
+    gather(place, g, &mut left);
+    left
 }
 
-// Bytes for all edges, from those for the edges that are left; zero for the others.
-pub(crate) fn expand<'a>(
-    place: &'a [u8; MAX_EDGES],
-    f: usize,
-    row: &'a [u8; MAX_EDGES],
-    r: &mut [u8; MAX_EDGES],
-)
-    requires { Places f place.now }
-    ensures { Placed f place.now row.now (replicate max_edges 0) r.new }
+// Bytes for all edges, from the marks of the edges that are left; zero for the others.
+pub(crate) fn expand(place: &[u8; MAX_EDGES], left: &Graph, tour: &mut [u8; MAX_EDGES])
+    requires { Places left.now.m place.now }
+    ensures { Placed left.now.m place.now left.now.mark (replicate max_edges 0) tour.new }
 {
-    *r = [0; MAX_EDGES];
-    put_each(place, f, row, r);
+    *tour = [0; MAX_EDGES];
+    for j in 0..usize::from(left.m) {
+        tour[usize::from(place[j])] = left.mark[j];
+    }
 }

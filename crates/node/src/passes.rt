@@ -1,314 +1,237 @@
 // The passes of a node. Arrays of an edge's byte have 190 places, zero past m.
-ghost use Rattle.std.specs.Prelude.{◌≡◌, ℕ, ◌<◌, ◌≤◌, length, get_or, replicate, pos, ◌+ℤ◌};
+ghost use Rattle.std.specs.Prelude.{◌≡◌, ◌↔◌, IsTrue, ℕ, ◌<◌, ◌≤◌, get_or, pos, ◌+ℤ◌};
 ghost use Rattle.lists.specs.Fill.{fit};
 ghost use Rattle.lists.specs.Filling.{Filling};
 ghost use Rattle.integers.specs.Range.{InRange, clamp};
+ghost use Rattle.graph.specs.Refusals.{number, fault_of};
 ghost use Rattle.graph.specs.Limits.{max_vertices, max_edges, max_multiplier, max_step};
-ghost use Rattle.graph.specs.Valid.{graph_of};
-ghost use Rattle.node.specs.Marks.{marks_in, bytes_of, Padded};
+ghost use Rattle.node.specs.Marks.{marks_in, bytes_of, with_bytes, Padded};
 ghost use Rattle.node.specs.Opened.{places, taken};
 ghost use Rattle.node.specs.Faults.{settings_fault, lastly};
-ghost use Rattle.node.specs.Counting.{Ends, edged, DegreesTo, all_two};
+ghost use Rattle.node.specs.Counting.{Ends, DegreesTo, AllTwo};
 ghost use Rattle.node.specs.Gains.{gain_of, max_gain, GainsTo};
 ghost use Rattle.node.specs.Marking.{mark_byte};
 ghost use Rattle.node.specs.OnePass.{VerdictIs};
-ghost use Rattle.node.specs.Passing.{refusal, is_bound};
+ghost use Rattle.node.specs.Passing.{TreeIs};
 ghost use Rattle.node.specs.Refusing.{EndsAs};
 
-use crate::{MAX_STEP, MAX_SWEEPS, Subproblem};
-use graph::{MAX_EDGES, MAX_VERTICES, wide};
-use onetree::{BAR, MAX_MULTIPLIER, RuleAnswer};
+use crate::{MAX_STEP, MAX_SWEEPS};
+use graph::{Graph, MAX_EDGES, MAX_VERTICES, Refusal};
+use machine::Settings;
+use onetree::{Found, MAX_MULTIPLIER, PassLists, Ruling};
 
 // A place for each vertex, counted from 1, and one for 0.
-const PLACES: usize = 21;
+const PLACES: usize = MAX_VERTICES + 1;
 
-// Multipliers go from minus to plus MAX_MULTIPLIER.
-const MIN_MULTIPLIER: i32 = -MAX_MULTIPLIER;
-
-// The degree of each vertex in the edges that are in, vertex v's at place v of r: one loop over the edges.
-fn count_degrees<'a>(
-    from: &'a [u8; MAX_EDGES],
-    to: &'a [u8; MAX_EDGES],
-    m: usize,
-    w: &'a [u8; MAX_EDGES],
-    r: &mut [u8; PLACES],
-)
-    requires { (m ≤ max_edges) × ((k : ℕ) → k < m → Ends (edged m from.now to.now) k) × (r.old ≡ replicate 21 0) }
-    ensures { DegreesTo m (edged m from.now to.now) w.now r.new }
+// The degree of each vertex in the edges that are in, vertex v's at place v: one loop over the edges.
+fn count_degrees(g: &Graph, tree: &[u8; MAX_EDGES]) -> [u8; PLACES]
+    requires few { g.now.m ≤ max_edges }
+    requires ends { (k : ℕ) → k < g.now.m → Ends g.now k }
+    ensures { DegreesTo g.now.m g.now tree.now result }
 {
-    let mut k = 0;
-    while k < m {
-        if w[k] == 1 {
-            let a = wide(from[k]);
-            let b = wide(to[k]);
-            r[a] = r[a] + 1;
-            r[b] = r[b] + 1;
+    let mut degrees = [0u8; PLACES];
+    for k in 0..usize::from(g.m) {
+        if tree[k] == 1 {
+            degrees[usize::from(g.a[k])] += 1;
+            degrees[usize::from(g.b[k])] += 1;
         }
-        k = k + 1;
     }
+    degrees
 }
 
 // Is every degree 2? A 1-tree is then a tour.
 fn two_each(degrees: &[u8; PLACES], n: usize) -> bool
     requires { n ≤ max_vertices }
-    ensures { result ≡ all_two degrees.now n }
+    ensures { IsTrue result ↔ AllTwo degrees.now n }
 {
-    let mut v = 0;
-    while v < n {
-        if degrees[v + 1] != 2 {
-            return false;
-        }
-        v = v + 1;
-    }
-    true
+    degrees[1..=n].iter().all(|&degree| degree == 2)
 }
 
 // What a vertex of this degree gains.
 fn gain(step: u32, degree: u8) -> i32
     requires { step ≤ max_step }
-    ensures { (result ≡ gain_of step degree) × InRange max_gain result }
+    ensures value { result ≡ gain_of step degree }
+    ensures range { InRange max_gain result }
 {
-    (step as i32) * (degree as i32 - 2)
+    (step as i32) * (i32::from(degree) - 2)
 }
 
 // A multiplier with its gain, held to its range.
-fn gained(x: i32, p: i32) -> i32
-    requires { InRange max_multiplier x × InRange max_gain p }
-    ensures { result ≡ clamp max_multiplier (x +ℤ p) }
+fn gained(x: i32, gain: i32) -> i32
+    requires multiplier { InRange max_multiplier x }
+    requires gain { InRange max_gain gain }
+    ensures { result ≡ clamp max_multiplier (x +ℤ gain) }
 {
-    let z = x + p;
-    if z < MIN_MULTIPLIER {
-        return MIN_MULTIPLIER;
-    }
-    if z > MAX_MULTIPLIER {
-        return MAX_MULTIPLIER;
-    }
-    z
+    (x + gain).clamp(-MAX_MULTIPLIER, MAX_MULTIPLIER)
 }
 
-// The next multipliers: vertex 1 keeps its own.
-fn gains(degrees: &[u8; PLACES], d: [i32; MAX_VERTICES], n: usize, step: u32) -> [i32; MAX_VERTICES]
-    requires { (1 ≤ n) × (n ≤ max_vertices) × (step ≤ max_step) × ((i : ℕ) → i < n → InRange max_multiplier (get_or d i (pos 0))) }
-    ensures { GainsTo n step degrees.now d result }
+// The next multipliers of n vertices: vertex 1 keeps its own.
+fn gains(degrees: &[u8; PLACES], n: usize, step: u32, d: &mut [i32; MAX_VERTICES])
+    requires some { 1 ≤ n }
+    requires few { n ≤ max_vertices }
+    requires step { step ≤ max_step }
+    requires ranged { (i : ℕ) → i < n → InRange max_multiplier (get_or d.old i (pos 0)) }
+    ensures { GainsTo n step degrees.now d.old d.new }
 {
-    let mut r = d;
-    let mut v = 1;
-    while v < n {
-        r[v] = gained(d[v], gain(step, degrees[v + 1]));
-        v = v + 1;
+    for v in 1..n {
+        d[v] = gained(d[v], gain(step, degrees[v + 1]));
     }
-    r
 }
 
 // The mark of an edge once its ruling is applied: keep, force and bar have the numbers of free, required and excluded, and what an edge was
-// before has its mark's number two higher.
+// before has its mark's number two higher. Bytes, as the lists that a pass is lent and a graph's marks are.
 fn mark_by(ruling: u8) -> u8
     ensures { result ≡ mark_byte ruling }
 {
-    if ruling > BAR {
-        return ruling - BAR;
+    if ruling > Ruling::Bar as u8 {
+        ruling - Ruling::Bar as u8
+    } else {
+        ruling
     }
-    ruling
 }
 
-// The marks, once the rulings are applied; zero past m before and after.
+// The marks of m edges, once the rulings are applied; zero past them before and after.
 fn apply(rulings: &[u8; MAX_EDGES], m: usize, marks: &mut [u8; MAX_EDGES])
-    requires { (m ≤ max_edges) × (marks.old ≡ bytes_of (marks_in m marks.old)) }
+    requires few { m ≤ max_edges }
+    requires of_marks { marks.old ≡ bytes_of (marks_in m marks.old) }
     ensures { Filling 0 max_edges m (λ k. mark_byte (get_or rulings.now k 0)) marks.new }
 {
-    let mut k = 0;
-    while k < m {
+    for k in 0..m {
         marks[k] = mark_by(rulings[k]);
-        k = k + 1;
     }
 }
 
-// The multipliers of n vertices, then zeros. They are written where they are wanted, which the compiler makes better code of than of a copy.
-fn hand_on(d: [i32; MAX_VERTICES], n: usize, last: &mut [i32; MAX_VERTICES])
+// The multipliers of n vertices, then zeros.
+fn hand_on(d: &[i32; MAX_VERTICES], n: usize, last: &mut [i32; MAX_VERTICES])
     requires { n ≤ max_vertices }
-    ensures { last.new ≡ places (fit n (pos 0) d) }
+    ensures { last.new ≡ places (fit n (pos 0) d.now) }
 {
     *last = [0; MAX_VERTICES];
-    let mut v = 0;
-    while v < n {
-        last[v] = d[v];
-        v = v + 1;
-    }
+    last[..n].copy_from_slice(&d[..n]);
 }
 
-// What a pass makes of a node: it is refused, with a number; it is shut; a tour is found; or the rulings are applied, and a hint for the
-// next pass is so long.
-#[derive(Clone, Copy)]
-pub(crate) enum Verdict {
-    Refused(u32),
-    Shut,
-    Found,
-    Ruled(usize),
-}
-
-// 14 where sweeps or step are out of range, or 0.
-fn settings_fault(sweeps: u32, step: u32) -> u32
-    ensures { result ≡ settings_fault sweeps step }
+// Are sweeps and step in range?
+fn settings_fault(settings: Settings) -> Result<(), Refusal>
+    ensures { fault_of result ≡ settings_fault settings.sweeps settings.step }
 {
-    if sweeps > MAX_SWEEPS {
-        return 14;
+    if settings.sweeps > MAX_SWEEPS || settings.step > MAX_STEP {
+        return Err(Refusal::Settings);
     }
-    if step > MAX_STEP {
-        return 14;
-    }
-    0
+    Ok(())
 }
 
-// What the tree part refuses comes first, but 32 after 14.
-fn lastly(number: u32, sweeps: u32, step: u32) -> u32
-    ensures { result ≡ lastly number sweeps step }
+// What the tree part refuses comes first, but the denominator after the settings.
+fn lastly(refusal: Refusal, settings: Settings) -> Refusal
+    ensures { number result ≡ lastly (number refusal) settings.sweeps settings.step }
 {
-    let fault = settings_fault(sweeps, step);
-    if number == 32 {
-        if fault == 0 {
-            return 32;
-        }
-        return fault;
-    }
-    if number == 0 {
-        return fault;
-    }
-    number
-}
-
-// What is refused, or 0.
-fn refusal(answer: RuleAnswer, sweeps: u32, step: u32) -> u32
-    ensures { result ≡ refusal answer sweeps step }
-{
-    match answer {
-        RuleAnswer::Infeasible => settings_fault(sweeps, step),
-        RuleAnswer::Bound(_) => settings_fault(sweeps, step),
-        RuleAnswer::Refused(number, _) => lastly(number, sweeps, step),
+    match settings_fault(settings) {
+        Err(sooner) if refusal == Refusal::Denominator => sooner,
+        _ => refusal,
     }
 }
 
-// Is there a tree within the ceiling?
-fn is_bound(answer: RuleAnswer) -> bool
-    ensures { result ≡ is_bound answer }
+// The least 1-tree within the ceiling, and its rulings, or that there is none: one call of the tree part. The hint is for the tree part alone.
+fn ask(
+    g: &Graph,
+    d: &[i32; MAX_VERTICES],
+    settings: Settings,
+    hint: &[u8],
+    lists: &mut PassLists,
+) -> Result<Option<Found>, Refusal>
+    requires { g.now.n ≤ max_vertices }
+    ensures { TreeIs (taken g.now d.now settings) result lists.new.least.tree lists.new.rulings }
 {
-    match answer {
-        RuleAnswer::Infeasible => false,
-        RuleAnswer::Bound(_) => true,
-        RuleAnswer::Refused(_, _) => false,
-    }
-}
-
-// One pass, by one call of the tree part, on the marks in row, which then has the tour or the marks after the rulings; the degrees of the
-// tree go into `degrees`, zero before. The hint is for the tree part alone.
-fn judge<'a>(
-    p: Subproblem,
-    a: &'a [u8; MAX_EDGES],
-    b: &'a [u8; MAX_EDGES],
-    cost: &'a [i32; MAX_EDGES],
-    hint: &'a [u8],
-    row: &mut [u8; MAX_EDGES],
-    order: &mut [u8; MAX_EDGES],
-    degrees: &mut [u8; PLACES],
-) -> Verdict
-    requires { (p.n ≤ max_vertices) × (p.m ≤ max_edges) × Padded p.m row.old × (length order.old ≡ max_edges)
-        × (degrees.old ≡ replicate 21 0) }
-    ensures { VerdictIs
-        (taken p (graph_of p.n p.m a.now b.now cost.now row.old))
-        result row.new degrees.new × (length order.new ≡ max_edges) }
-{
-    let n = p.n;
-    let m = p.m;
-    let d = p.multipliers;
-    let settings = p.settings;
-    let mut tree = [0u8; MAX_EDGES];
-    let mut rulings = [0u8; MAX_EDGES];
-    let passed = onetree::pass(
-        n,
-        m,
-        a,
-        b,
-        cost,
-        row,
-        &d[..n],
+    let answer = onetree::pass(
+        g,
+        &d[..usize::from(g.n)],
         settings.ceiling,
         settings.denominator,
         hint,
-        &mut tree,
-        &mut rulings,
-        order,
+        lists,
     );
-    let answer = passed.answer;
-    let number = refusal(answer, settings.sweeps, settings.step);
-    if number != 0 {
-        return Verdict::Refused(number);
-    }
-    if !is_bound(answer) {
-        return Verdict::Shut;
-    }
-    count_degrees(a, b, m, &tree, degrees);
-    if two_each(degrees, n) {
-        *row = tree;
-        return Verdict::Found;
-    }
-    apply(&rulings, m, row);
-    Verdict::Ruled(passed.live)
+    let found = match answer {
+        Err(refusal) => return Err(lastly(refusal, settings)),
+        Ok(found) => found,
+    };
+    settings_fault(settings)?;
+    Ok(found)
 }
 
-// What the passes of a node come to: it is refused, with a number; it is shut; a tour is found; or it is unclosed after the last of them.
+// What a pass makes of a node: it is shut; a tour is found; or the rulings are applied, a hint for the next pass is so long, and the tree has
+// these degrees.
+#[derive(Clone, Copy)]
+pub(crate) enum Verdict {
+    Shut,
+    Found,
+    Ruled(usize, [u8; PLACES]),
+}
+
+// One pass on the graph's marks, which then are the tour or the marks after the rulings.
+fn judge(
+    g: &mut Graph,
+    d: &[i32; MAX_VERTICES],
+    settings: Settings,
+    hint: &[u8],
+    lists: &mut PassLists,
+) -> Result<Verdict, Refusal>
+    requires vertices { g.old.n ≤ max_vertices }
+    requires edges { g.old.m ≤ max_edges }
+    requires padded { Padded g.old.m g.old.mark }
+    ensures verdict { VerdictIs (taken g.old d.now settings) result g.new.mark }
+    ensures marks_alone { g.new ≡ with_bytes g.old g.new.mark }
+{
+    let Some(found) = ask(g, d, settings, hint, lists)? else {
+        return Ok(Verdict::Shut);
+    };
+    let degrees = count_degrees(g, &lists.least.tree);
+    if two_each(&degrees, usize::from(g.n)) {
+        g.mark = lists.least.tree;
+        return Ok(Verdict::Found);
+    }
+    apply(&lists.rulings, usize::from(g.m), &mut g.mark);
+    Ok(Verdict::Ruled(found.live, degrees))
+}
+
+// What the passes of a node come to: it is shut; a tour is found; or it is unclosed after the last of them.
 #[derive(Clone, Copy)]
 pub(crate) enum Ending {
-    Refused(u32),
     Shut,
     Found,
     Unclosed,
 }
 
-// The passes of the node with the marks in row, on all edges given: 0 to `sweeps`, from the node's multipliers on. Then row has the tour that is
-// found, or the marks after the last pass, of which `last` gets the multipliers.
-pub(crate) fn open_left<'a>(
-    p: Subproblem,
-    a: &'a [u8; MAX_EDGES],
-    b: &'a [u8; MAX_EDGES],
-    cost: &'a [i32; MAX_EDGES],
-    row: &mut [u8; MAX_EDGES],
+// The passes of the node with the graph's marks, on all edges given: 0 to `sweeps`, from the node's multipliers on. Then the graph's marks are
+// the tour that is found, or the marks after the last pass, of which `last` gets the multipliers.
+pub(crate) fn open_left(
+    g: &mut Graph,
+    multipliers: &[i32; MAX_VERTICES],
+    settings: Settings,
     last: &mut [i32; MAX_VERTICES],
-) -> Ending
-    requires { (p.n ≤ max_vertices) × (p.m ≤ max_edges) × Padded p.m row.old }
-    ensures { EndsAs (taken p (graph_of p.n p.m a.now b.now cost.now row.old))
-        result row.new last.old last.new }
+) -> Result<Ending, Refusal>
+    requires vertices { g.old.n ≤ max_vertices }
+    requires edges { g.old.m ≤ max_edges }
+    requires padded { Padded g.old.m g.old.mark }
+    ensures ending { EndsAs (taken g.old multipliers.now settings) result g.new.mark last.old last.new }
+    ensures marks_alone { g.new ≡ with_bytes g.old g.new.mark }
 {
-    let settings = p.settings;
-    let mut d = p.multipliers;
+    let n = usize::from(g.n);
+    let mut d = *multipliers;
+    let mut lists = PassLists::blank();
     let mut hint = [0u8; MAX_EDGES];
-    let mut order = [0u8; MAX_EDGES];
-    let mut live: usize = 0;
-    let mut left = settings.sweeps;
-    loop {
-        let mut degrees = [0u8; PLACES];
-        let mut q = p;
-        q.multipliers = d;
-        let verdict = judge(q, a, b, cost, &hint[..live], row, &mut order, &mut degrees);
-        match verdict {
-            Verdict::Refused(number) => {
-                return Ending::Refused(number);
-            }
-            Verdict::Shut => {
-                return Ending::Shut;
-            }
-            Verdict::Found => {
-                return Ending::Found;
-            }
-            Verdict::Ruled(next) => {
-                live = next;
+    let mut live = 0;
+    for left in (0..=settings.sweeps).rev() {
+        match judge(g, &d, settings, &hint[..live], &mut lists)? {
+            Verdict::Shut => return Ok(Ending::Shut),
+            Verdict::Found => return Ok(Ending::Found),
+            Verdict::Ruled(next, degrees) => {
+                if left > 0 {
+                    gains(&degrees, n, settings.step, &mut d);
+                    hint = lists.least.order;
+                    live = next;
+                }
             }
         }
-        if left == 0 {
-            hand_on(d, p.n, last);
-            return Ending::Unclosed;
-        }
-        let next = gains(&degrees, d, p.n, settings.step);
-        d = next;
-        hint = order;
-        left = left - 1;
     }
+    hand_on(&d, n, last);
+    Ok(Ending::Unclosed)
 }

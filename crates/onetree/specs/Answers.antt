@@ -1,12 +1,14 @@
 -- What the tree call and the rule call answer, and what they leave in the lent list, for every input: refusals first, in document 01's
 -- order, then by the least 1-tree. Multipliers and bounds count in q-ths of a minute, ceilings in minutes (document 02, C-17). The contracts cite
 -- these. Definitions only.
-use Rattle.std.specs.Prelude.{◌≡◌, not, cond, List, ℕ, zero, suc, leb, length, ℤ}
+use Rattle.std.specs.Prelude.{◌≡◌, not, cond, List, ℕ, zero, suc, leb, length, ℤ, Option, None, Some, Result, Ok, Err}
 use Rattle.std.specs.Int.Signed.{lt_z}
 use Rattle.lists.specs.Bools.{bit}
 use Rattle.lists.specs.Rows.{row}
 use Rattle.integers.specs.Multiples.{◌times◌}
 use Rattle.graph.specs.declared.Graph.{Graph}
+use Rattle.graph.specs.declared.refusals.Refusal.{Refusal}
+use Rattle.graph.specs.Refusals.{number}
 use Rattle.graph.specs.Limits.{max_edges}
 use Rattle.graph.specs.Network.{network}
 use Rattle.tree_theory.specs.OneTree.{Edges}
@@ -14,11 +16,8 @@ use Rattle.tree_theory.specs.Scaled.{scaled_by}
 use Rattle.tree_theory.specs.Inputs.{multiplier, ceiling_fits, denominator_fault, input_fault}
 use Rattle.tree_theory.specs.Arrays.{blank}
 use Rattle.tree_theory.specs.Enumeration.{Tree, no_tree, a_tree, least_tree, Ruling, keeps, forces, bars, was_required, was_excluded, ruling}
+use Rattle.greedy.specs.declared.Found.{Found}
 use Rattle.greedy.specs.Hint.{Hinted}
-use Rattle.onetree.specs.declared.TreeAnswer.{TreeAnswer}
-use Rattle.onetree.specs.declared.TreeAnswer.TheVariants as tree
-use Rattle.onetree.specs.declared.RuleAnswer.{RuleAnswer}
-use Rattle.onetree.specs.declared.RuleAnswer.TheVariants as rule
 
 -- ---- the answers' meaning
 
@@ -28,15 +27,17 @@ pub data Reply : Type 0 where
   none : Reply
   bounded : ℤ → Reply
 
-unfoldable pub tree_meaning : TreeAnswer → Reply
-tree_meaning tree.NoTree = none
-tree_meaning (tree.Bound b) = bounded b
-tree_meaning (tree.Refused number place) = refused number place
+-- of the tree call, the rule call and the preview: a place is told by other calls alone
+abbrev pub meaning : Result (Option ℤ) Refusal → Reply
+meaning (Ok None) = none
+meaning (Ok (Some b)) = bounded b
+meaning (Err r) = refused (number r) 0
 
-unfoldable pub rule_meaning : RuleAnswer → Reply
-rule_meaning rule.Infeasible = none
-rule_meaning (rule.Bound b) = bounded b
-rule_meaning (rule.Refused number place) = refused number place
+-- of a pass
+abbrev pub pass_meaning : Result (Option Found) Refusal → Reply
+pass_meaning (Ok None) = none
+pass_meaning (Ok (Some found)) = bounded found.bound
+pass_meaning (Err r) = refused (number r) 0
 
 -- ---- refusals
 
@@ -139,8 +140,8 @@ pass_rulings g d ceiling q out =
     (pass_writes g.m (q times ceiling) (λ t k. ruling_byte (ruling (scaled_by q (network g)) (multiplier d) (q times ceiling) k))
     (least_tree (scaled_by q (network g)) (multiplier d)))
 
--- what a pass leaves in the list that it is lent for it: a refusal leaves it as it was
-abbrev pub HintAfter : Reply → List ℕ → ℕ → List ℕ → List ℕ → ℕ → Type 0
-HintAfter (refused number place) marks m out order live = (order ≡ out) × (live ≡ 0)
-HintAfter none marks m out order live = (order ≡ blank) × (live ≡ 0)
-HintAfter (bounded b) marks m out order live = Hinted marks m order live
+-- what a pass leaves in the list that it is lent for a hint: a refusal leaves it as it was
+abbrev pub HintAfter : Result (Option Found) Refusal → List ℕ → ℕ → List ℕ → List ℕ → Type 0
+HintAfter (Err r) marks m out order = (order ≡ out)
+HintAfter (Ok None) marks m out order = (order ≡ blank)
+HintAfter (Ok (Some found)) marks m out order = Hinted marks m order found.live

@@ -73,6 +73,11 @@ module _ (a mark w c : List ℕ) (dearest cheapest n : ℕ) (h : NearIs a mark w
 abbrev pub BelowRoot : List ℕ → ℕ → ℕ → Type 0
 BelowRoot queue k v = (j : ℕ) × (1 ≤ j) × (j < k) × (get_or queue j 0 ≡ v)
 
+-- the queue without the root
+pub record AfterRoot (queue : List ℕ) (count : ℕ) (rest : List ℕ) : Type 0 where
+  pub long : length rest + 1 ≡ count
+  pub same : (i : ℕ) → i < length rest → get_or rest i 0 ≡ get_or queue (i + 1) 0
+
 -- the label at place k is the only one more that stands before k + 1
 pub before_last : (queue : List ℕ) (k v j : ℕ) → j < k + 1 → get_or queue j 0 ≡ v → v ≢ get_or queue k 0 → j < k
 before_last queue k v j l e f = go (ℕ_discrete j k)

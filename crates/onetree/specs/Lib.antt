@@ -7,6 +7,8 @@ pub mod Candidates
 pub mod Outside
 pub mod Forcing
 pub mod Ruled
+-- the least 1-tree, hung
+pub mod HungTree
 -- the calls, case by case
 pub mod TreeCall
 pub mod Ceiling

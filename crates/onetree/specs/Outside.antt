@@ -1,7 +1,7 @@
 -- The loop over the free edges, but for those of the tree away from vertex 1. Outside the tree each is judged against the dearest edge that
 -- may give way to it, and offered to every edge of its circle; in the tree, at vertex 1, against the cheapest that may come in. Assumes
 -- nothing.
-use Rattle.std.specs.Prelude.{◌≡◌, refl, ◌≢◌, ◌⊎◌, Bool, true, false, cond, List, ℕ, suc, ◌+◌, ◌<◌, ◌≤◌, length, get_or, set, replicate, eqb, ℤ}
+use Rattle.std.specs.Prelude.{◌≡◌, refl, ◌≢◌, ◌⊎◌, Bool, true, false, cond, List, ℕ, suc, ◌+◌, ◌<◌, ◌≤◌, length, get_or, set, replicate, eqb}
 use Rattle.std.proofs.Common.{◌∙◌, sym, subst, inl, inr, true≢false, arith, length-set, get_or-set_same, get_or-set_other, eq-eqb, ne_eqb}
 use Rattle.std.proofs.Math.Decide.{ℕ_discrete}
 use Rattle.std.proofs.lemmas.List.{length-replicate, get_or-replicate}
@@ -9,14 +9,14 @@ use Rattle.lists.specs.Rows.{zeros}
 use Rattle.graph.specs.declared.Graph.{Graph}
 use Rattle.graph.specs.Limits.{max_edges}
 use Rattle.graph.specs.Network.{network}
-use Rattle.graph.specs.Valid.{Valid, graph_of}
+use Rattle.graph.specs.Valid.{Valid}
 use Rattle.tree_theory.specs.OneTree.{OneTree}
 use Rattle.tree_theory.specs.Arrays.{blank, bytes}
 use Rattle.swaps.specs.Extremes.{Largest, Least, least_none, least_skip, least_more}
-use Rattle.swaps.specs.Visiting.{Rooting, rooting}
+use Rattle.swaps.specs.Visiting.{Rooting}
 use Rattle.swaps.specs.Hanging.{Shape, above}
 use Rattle.swaps.specs.Climbing.{Climbed, Fresh}
-use Rattle.swaps.specs.RootedTree.{RootedIn, Labelled, shape, label_of}
+use Rattle.swaps.specs.RootedTree.{RootedIn, shape, label_of}
 use Rattle.swaps.specs.Swaps.{a_at, b_at, mark_at, Through, Below}
 use Rattle.greedy.specs.Charged.{no_charge}
 use Rattle.onetree.specs.Verdicts.{charge_at, Gives, bar_byte, force_byte}
@@ -29,25 +29,6 @@ pub record Ready (g : Graph) (w c rep : List ℕ) (r : Rooting) (weight : List �
   pub rooted : RootedIn g w rep r
   pub weights : Weighed (Below r) c r.edge weight
   pub one : NearIs g.a g.mark w c dearest near g.m
-
--- the same of arrays that are lent: some graph, some labels and some rooting have them
-pub record Prepared (m : ℕ) (a from to mark w c parent depth weight : List ℕ) (dearest near : ℕ) : Type 0 where
-  pub n : ℕ
-  pub b : List ℕ
-  pub cost : List ℤ
-  pub edge : List ℕ
-  pub rep : List ℕ
-  pub ready : Ready (graph_of n m a b cost mark) w c rep (rooting parent depth edge) weight dearest near
-  pub labelled : Labelled (graph_of n m a b cost mark) rep from to
-
-module _ {m : ℕ} {a from to mark w c parent depth weight : List ℕ} {dearest near : ℕ}
-    (p : Prepared m a from to mark w c parent depth weight dearest near) where
-  -- that graph and that rooting
-  abbrev pub graph_in : Graph
-  graph_in = graph_of p.n m a p.b p.cost mark
-
-  abbrev pub rooting_in : Rooting
-  rooting_in = rooting parent depth p.edge
 
 -- the byte of a free edge at vertex 1, by whether it is in the tree
 unfoldable pub near_byte : ℕ → ℕ → ℕ → ℕ → ℕ → ℕ

@@ -1,12 +1,13 @@
 -- From what code knows to what the tree call promises: its reply and lent list in each of its cases. Assumes nothing.
-use Rattle.std.specs.Prelude.{◌≡◌, refl, ◌≢◌, ◌⊎◌, Bool, true, false, List, ℕ, zero, suc, ◌<◌, get_or, eqb, ℤ}
+use Rattle.std.specs.Prelude.{◌≡◌, refl, ◌≢◌, ◌⊎◌, List, ℕ, zero, suc, ◌<◌, ◌≤◌, get_or, take, eqb, ℤ}
+use Rattle.std.proofs.lemmas.List.{get_or-take, length-take-le}
 use Rattle.std.proofs.Common.{◌∙◌, ap, inl, inr}
 use Rattle.std.proofs.Math.Path.{sym}
 use Rattle.std.proofs.Math.ListN.{length}
 use Rattle.lists.specs.Bools.{bit}
 use Rattle.lists.specs.Members.{◌∈◌}
 use Rattle.lists.specs.Numbers.{up_to}
-use Rattle.lists.specs.Rows.{row, row_same}
+use Rattle.lists.specs.Rows.{row, row_same, row_is}
 use Rattle.graph.specs.declared.Graph.{Graph}
 use Rattle.graph.specs.Network.{network}
 use Rattle.tree_theory.specs.OneTree.{Edges, bound}
@@ -17,7 +18,9 @@ use Rattle.tree_theory.specs.LeastTree.{tree_found, tree_missing}
 use Rattle.onetree.specs.Answers.{Reply, refused, none, bounded, tree_fault, tree_reply, tree_leaves, tree_says, tree_writes, unless_fault, leaves}
 use Rattle.tree_theory.specs.Arrays.{entry, bytes, in_edge}
 use Rattle.tree_theory.specs.Accepted.{no_fault}
-use Rattle.greedy.specs.Found.{FoundIs}
+use Rattle.greedy.specs.declared.Lists.{Lists}
+use Rattle.greedy.specs.declared.Found.{Found}
+use Rattle.greedy.specs.Least.{TreeFound, NoTree}
 
 -- ---- the calls' answers, by the fault
 
@@ -28,6 +31,14 @@ fault-replies (suc f) r n = refl
 pub fault-leaves : (f : ℕ) (out after : List ℕ) → f ≢ 0 → leaves f out after ≡ out
 fault-leaves zero out after n = absurd (n refl)
 fault-leaves (suc f) out after n = refl
+
+-- the first bytes of a list are what stands there
+pub row_front : (l : List ℕ) (n : ℕ) → n ≤ length l → take n l ≡ row n (entry l)
+row_front l n h =
+    row_is (take n l) 0 (entry l) (λ j i. get_or-take n l j 0 (rw long at i)) ∙ ap (λ (m : ℕ). row m (entry l)) long
+  where
+    long : length (take n l) ≡ n
+    long = length-take-le n l h
 
 -- the byte of an edge that is in or out
 pub byte_is : (x : ℕ) → (x ≡ 0) ⊎ (x ≡ 1) → x ≡ bit (eqb x 1)
@@ -55,24 +66,24 @@ module _ (g : Graph) (d : List ℤ) (den : ℕ) (out : List ℕ) where
   unfolding tree_reply tree_leaves
   by_tree t e h = record { reply = rw (e, h); left = rw (e, h) }
 
-  module _ (any : Bool) (b : ℤ) (w c : List ℕ) (e : tree_fault g d den (length out) ≡ 0) (f : FoundIs den g d any b w c) where
-    pub tree_none : any ≡ false → TreeCall g d den out none out
-    tree_none h = by_tree no_tree e (tree_missing (scaled_by den (network g)) (multiplier d) (f.none h))
+  module _ (e : tree_fault g d den (length out) ≡ 0) (after : Lists) where
+    pub tree_none : NoTree den g d after → TreeCall g d den out none out
+    tree_none n = by_tree no_tree e (tree_missing (scaled_by den (network g)) (multiplier d) n.none)
 
-    pub tree_some : any ≡ true → TreeCall g d den out (bounded b) (row (length out) (entry w))
+    pub tree_some : (r : Found) → TreeFound den g d r after → TreeCall g d den out (bounded r.bound) (row (length out) (entry after.tree))
     unfolding tree_fault
-    tree_some h = go (tree_found (scaled_by den (network g)) (multiplier d) (bytes w) (f.some h).0)
+    tree_some r f = go (tree_found (scaled_by den (network g)) (multiplier d) (bytes after.tree) f.least)
       where
         lent : length out ≡ g.m
         lent = (no_fault g d (length out) (denominator_fault den) e).0.lent
 
-        go : (r : Edges) × (least_tree (scaled_by den (network g)) (multiplier d) ≡ a_tree (bound (scaled_by den (network g)) (multiplier d) (bytes w)) r)
-            × ((k : ℕ) → k ∈ up_to (network g).m → r k ≡ bytes w k)
-            → TreeCall g d den out (bounded b) (row (length out) (entry w))
-        go r = rw ((f.some h).1, same) (by_tree (a_tree (bound (scaled_by den (network g)) (multiplier d) (bytes w)) r.0) e r.1)
+        go : (x : Edges) × (least_tree (scaled_by den (network g)) (multiplier d) ≡ a_tree (bound (scaled_by den (network g)) (multiplier d) (bytes after.tree)) x)
+            × ((k : ℕ) → k ∈ up_to (network g).m → x k ≡ bytes after.tree k)
+            → TreeCall g d den out (bounded r.bound) (row (length out) (entry after.tree))
+        go x = rw (f.bound_is, same) (by_tree (a_tree (bound (scaled_by den (network g)) (multiplier d) (bytes after.tree)) x.0) e x.1)
           where
-            at : (j : ℕ) → j < g.m → get_or w j 0 ≡ bit (r.0 (suc j))
-            at j l = byte_is (get_or w j 0) (f.bits j) ∙ ap bit (sym (r.2 (suc j) (in_edge g j l)))
+            at : (j : ℕ) → j < g.m → get_or after.tree j 0 ≡ bit (x.0 (suc j))
+            at j l = byte_is (get_or after.tree j 0) (f.bits j) ∙ ap bit (sym (x.2 (suc j) (in_edge g j l)))
 
-            same : row (length out) (entry w) ≡ row g.m (λ k. bit (r.0 k))
-            same = rw lent (row_same g.m (entry w) (λ k. bit (r.0 k)) at)
+            same : row (length out) (entry after.tree) ≡ row g.m (λ k. bit (x.0 k))
+            same = rw lent (row_same g.m (entry after.tree) (λ k. bit (x.0 k)) at)

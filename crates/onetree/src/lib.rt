@@ -2,209 +2,123 @@
 // many as the denominator says; ceilings are in minutes (document 02, C-17).
 #![tactic(auto)]
 
-ghost use Rattle.std.specs.Prelude.{◌≡◌, ◌<◌, ◌≤◌, length};
-ghost use Rattle.lists.specs.Rows.{row};
-ghost use Rattle.graph.specs.Limits.{max_edges};
-ghost use Rattle.graph.specs.Valid.{graph_of};
-ghost use Rattle.tree_theory.specs.Arrays.{entry};
-ghost use Rattle.onetree.specs.Answers.{HintAfter, tree_meaning, tree_reply, tree_leaves, rule_meaning, rule_reply, rule_leaves, pass_tree, pass_rulings};
+ghost use Rattle.std.specs.Prelude.{◌≡◌, length};
+ghost use Rattle.tree_theory.specs.Arrays.{blank};
+ghost use Rattle.onetree.specs.Answers.{meaning, pass_meaning, HintAfter, tree_reply, tree_leaves, rule_reply, rule_leaves, pass_tree, pass_rulings};
 
 mod climb;
 mod judge;
 mod rooted;
 mod rulings;
 
-use graph::{Graph, MAX_EDGES, wide};
+use graph::{Graph, MAX_EDGES, Refusal};
 pub use greedy::{
-    MAX_CEILING, MAX_DENOMINATOR, MAX_MULTIPLIER, ceiling_fits, denominator_fault,
+    Found, Lists, MAX_CEILING, MAX_DENOMINATOR, MAX_MULTIPLIER, ceiling_fits, denominator_fault,
     denominator_fits, multipliers_fit,
 };
-use greedy::{MAX_LABELS, Sizes, least};
-pub use rulings::{BAR, FORCE, KEEP, WAS_EXCLUDED, WAS_REQUIRED};
+pub use rulings::Ruling;
 
-// What the tree call answers: specs/Answers.antt has the meaning of each case.
+// What a pass is lent: the lists of the least 1-tree, and a byte for each edge's ruling.
 #[derive(Clone, Copy)]
-pub enum TreeAnswer {
-    NoTree,
-    Bound(i64),
-    Refused(u32, u64),
+pub struct PassLists {
+    pub least: Lists,
+    pub rulings: [u8; MAX_EDGES],
 }
 
-// What the rule call answers.
-#[derive(Clone, Copy)]
-pub enum RuleAnswer {
-    Infeasible,
-    Bound(i64),
-    Refused(u32, u64),
-}
-
-// What a pass answers, and in how many bytes of its order it hands on a hint.
-#[derive(Clone, Copy)]
-pub struct Passed {
-    pub answer: RuleAnswer,
-    pub live: usize,
-}
-
-// A byte for each edge, into the lent list.
-pub(crate) fn write(from: &[u8; MAX_EDGES], out: &mut [u8])
-    requires { length out.old ≤ max_edges }
-    ensures { out.new ≡ row (length out.old) (entry from.now) }
-{
-    let mut k = 0;
-    while k < out.len() {
-        out[k] = from[k];
-        k = k + 1;
+impl PassLists {
+    // Ruled out: a byte that is not 0.
+    pub fn blank() -> PassLists
+        ensures { (result.least.tree ≡ blank) × (result.least.order ≡ blank) × (result.rulings ≡ blank) }
+    {
+        PassLists {
+            least: Lists::blank(),
+            rulings: [0; MAX_EDGES],
+        }
     }
 }
 
 // The 1-tree of least bound, or that there is none.
 // Ruled out: of two 1-trees of equal bound the one with the higher-numbered edge; 'no tree' with a byte of `out` changed; the bound in minutes.
-pub fn tree(g: Graph, multipliers: &[i32], denominator: u64, out: &mut [u8]) -> TreeAnswer
-    ensures { (tree_meaning result ≡ tree_reply g multipliers.now denominator (length out.old))
-        × (out.new ≡ tree_leaves g multipliers.now denominator out.old) }
+pub fn tree(
+    g: &Graph,
+    multipliers: &[i32],
+    denominator: u64,
+    out: &mut [u8],
+) -> Result<Option<i64>, Refusal>
+    ensures reply { meaning result ≡ tree_reply g.now multipliers.now denominator (length out.old) }
+    ensures left { out.new ≡ tree_leaves g.now multipliers.now denominator out.old }
 {
-    let sizes = Sizes {
-        n: wide(g.n),
-        m: wide(g.m),
-        lent: out.len(),
-        denominator: denominator,
-    };
-    let mut w = [0u8; MAX_EDGES];
-    let mut c = [0u64; MAX_EDGES];
-    let mut order = [0u8; MAX_EDGES];
-    let mut rep = [0u8; MAX_LABELS];
-    let f = least(
-        sizes,
-        &g.a,
-        &g.b,
-        &g.cost,
-        &g.mark,
+    let mut lists = Lists::blank();
+    let Some(found) = greedy::least(
+        g,
         multipliers,
-        0,
+        denominator,
+        out.len(),
+        Ok(()),
         &[],
-        &mut w,
-        &mut c,
-        &mut order,
-        &mut rep,
-    );
-    if f.fault != 0 {
-        return TreeAnswer::Refused(f.fault, 0);
-    }
-    if !f.any {
-        return TreeAnswer::NoTree;
-    }
-    write(&w, out);
-    TreeAnswer::Bound(f.bound)
+        &mut lists,
+    )?
+    else {
+        return Ok(None);
+    };
+    out.copy_from_slice(&lists.tree[..out.len()]);
+    Ok(Some(found.bound))
 }
 
 // The bound of the least 1-tree, and for each edge whether it can be in or out of a 1-tree within the ceiling; or that none is within it.
 // Ruled out: a required edge swapped out on its circle; BAR at a bound equal to the ceiling; FORCE of a required edge; a bound in parts of a minute
 // compared with a ceiling in minutes.
 pub fn rule(
-    g: Graph,
+    g: &Graph,
     multipliers: &[i32],
     ceiling: i64,
     denominator: u64,
     out: &mut [u8],
-) -> RuleAnswer
-    ensures { (rule_meaning result ≡ rule_reply g multipliers.now ceiling denominator (length out.old))
-        × (out.new ≡ rule_leaves g multipliers.now ceiling denominator out.old) }
+) -> Result<Option<i64>, Refusal>
+    ensures reply { meaning result ≡ rule_reply g.now multipliers.now ceiling denominator (length out.old) }
+    ensures left { out.new ≡ rule_leaves g.now multipliers.now ceiling denominator out.old }
 {
-    let sizes = Sizes {
-        n: wide(g.n),
-        m: wide(g.m),
-        lent: out.len(),
-        denominator: denominator,
-    };
-    let mut w = [0u8; MAX_EDGES];
-    let mut r = [0u8; MAX_EDGES];
-    let mut order = [0u8; MAX_EDGES];
-    let f = judge::judge(
-        sizes,
-        &g.a,
-        &g.b,
-        &g.cost,
-        &g.mark,
+    let mut lists = PassLists::blank();
+    let Some(found) = judge::judge(
+        g,
         multipliers,
         ceiling,
+        denominator,
+        out.len(),
         &[],
-        &mut w,
-        &mut r,
-        &mut order,
-    );
-    if f.fault != 0 {
-        return RuleAnswer::Refused(f.fault, 0);
-    }
-    if !f.any {
-        return RuleAnswer::Infeasible;
-    }
-    write(&r, out);
-    RuleAnswer::Bound(f.bound)
+        &mut lists,
+    )?
+    else {
+        return Ok(None);
+    };
+    out.copy_from_slice(&lists.rulings[..out.len()]);
+    Ok(Some(found.bound))
 }
 
-// What the tree call and the rule call say, from one tree, for a search that lends the parts of a graph: a byte for each edge and 0 past
-// them in `tree` and `rulings`, all 0 where no 1-tree is within the ceiling. hint: an order to start sorting from; whatever it holds, the answers
-// are the same. `order` then has such a hint for the next pass.
+// What the tree call and the rule call say, from one tree, for a search that lends the lists: a byte for each edge and 0 past them in the
+// tree and the rulings, all 0 where no 1-tree is within the ceiling. hint: an order to start sorting from; whatever it holds, the answers
+// are the same. The order then has such a hint for the next pass, in as many bytes as are `live`.
 // Ruled out: a byte of either list where no 1-tree is within the ceiling, or past the edges; a refusal that changes a byte.
-pub fn pass<'a>(
-    n: usize,
-    m: usize,
-    a: &'a [u8; MAX_EDGES],
-    b: &'a [u8; MAX_EDGES],
-    cost: &'a [i32; MAX_EDGES],
-    mark: &'a [u8; MAX_EDGES],
-    multipliers: &'a [i32],
+pub fn pass(
+    g: &Graph,
+    multipliers: &[i32],
     ceiling: i64,
     denominator: u64,
-    hint: &'a [u8],
-    tree: &mut [u8; MAX_EDGES],
-    rulings: &mut [u8; MAX_EDGES],
-    order: &mut [u8; MAX_EDGES],
-) -> Passed
-    ensures { (rule_meaning result.answer
-        ≡ rule_reply (graph_of n m a.now b.now cost.now mark.now) multipliers.now
-        ceiling denominator m)
-        × (tree.new
-        ≡ pass_tree (graph_of n m a.now b.now cost.now mark.now) multipliers.now
-        ceiling denominator tree.old)
-        × (rulings.new
-        ≡ pass_rulings (graph_of n m a.now b.now cost.now mark.now) multipliers.now
-        ceiling denominator rulings.old)
-        × HintAfter (rule_meaning result.answer) mark.now m order.old order.new result.live }
+    hint: &[u8],
+    lists: &mut PassLists,
+) -> Result<Option<Found>, Refusal>
+    ensures reply { pass_meaning result ≡ rule_reply g.now multipliers.now ceiling denominator g.now.m }
+    ensures tree { lists.new.least.tree ≡ pass_tree g.now multipliers.now ceiling denominator lists.old.least.tree }
+    ensures rulings { lists.new.rulings ≡ pass_rulings g.now multipliers.now ceiling denominator lists.old.rulings }
+    ensures hint { HintAfter result g.now.mark g.now.m lists.old.least.order lists.new.least.order }
 {
-    let sizes = Sizes {
-        n: n,
-        m: m,
-        lent: m,
-        denominator: denominator,
-    };
-    let f = judge::judge(
-        sizes,
-        a,
-        b,
-        cost,
-        mark,
+    judge::judge(
+        g,
         multipliers,
         ceiling,
+        denominator,
+        usize::from(g.m),
         hint,
-        tree,
-        rulings,
-        order,
-    );
-    if f.fault != 0 {
-        return Passed {
-            answer: RuleAnswer::Refused(f.fault, 0),
-            live: 0,
-        };
-    }
-    if !f.any {
-        return Passed {
-            answer: RuleAnswer::Infeasible,
-            live: 0,
-        };
-    }
-    Passed {
-        answer: RuleAnswer::Bound(f.bound),
-        live: f.live,
-    }
+        lists,
+    )
 }

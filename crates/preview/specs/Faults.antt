@@ -1,13 +1,13 @@
 -- The fault of a preview, test by test, as its code goes; and what is known where there is none. Assumes nothing.
-use Rattle.std.specs.Prelude.{◌≡◌, ◌⊎◌, Bool, true, false, cond, not, ◌&&◌, ◌||◌, List, eqb, leb, length, ℤ}
+use Rattle.std.specs.Prelude.{◌≡◌, Bool, true, false, ◌&&◌, ◌||◌, List, eqb, leb, length, ℤ}
 use Rattle.std.proofs.Math.Path.{refl}
-use Rattle.std.proofs.Common.{sym, ◌∙◌, inl, inr, arith, leb-true, eqb-true}
+use Rattle.std.proofs.Common.{sym, ◌∙◌, arith, leb-true, eqb-true}
 use Prim.Native.Nat.{ℕ, zero, suc, ◌≤◌, ◌<◌}
 use Rattle.lists.specs.Bools.{by_cases}
 use Rattle.graph.specs.declared.Graph.{Graph}
 use Rattle.graph.specs.Valid.{Valid, valid}
 use Rattle.graph.specs.Meaning.{valid_true}
-use Rattle.tree_theory.specs.Inputs.{input_fault, multipliers_fit, denominator_fits}
+use Rattle.tree_theory.specs.Inputs.{multipliers_fit, denominator_fits}
 use Rattle.onetree.specs.Answers.{refused, unless_fault, leaves, tree_reply, tree_leaves}
 use Rattle.preview.specs.Preview.{remarked, can_be_marked, is_free_edge, preview_fault, preview_reply, preview_leaves}
 

@@ -2,77 +2,67 @@
 #![tactic(auto)]
 
 ghost use Rattle.std.specs.Prelude.{◌≡◌, length};
-ghost use Rattle.onetree.specs.Answers.{tree_meaning};
+ghost use Rattle.graph.specs.Refusals.{fault_of};
+ghost use Rattle.onetree.specs.Answers.{meaning};
 ghost use Rattle.preview.specs.Preview.{can_be_marked, preview_fault, preview_reply, preview_leaves};
 
-use graph::{FREE, Graph, wide};
-use onetree::TreeAnswer;
+use graph::{FREE, Graph, Refusal};
 
 // Is there such an edge, and is the mark 1 or 2?
-fn can_be_marked(g: Graph, edge: usize, mark: u32) -> bool
-    ensures { result ≡ can_be_marked g edge mark }
+fn can_be_marked(g: &Graph, edge: usize, mark: u32) -> bool
+    ensures { result ≡ can_be_marked g.now edge mark }
 {
-    if edge < 1 {
-        return false;
-    }
-    if edge > wide(g.m) {
-        return false;
-    }
-    if mark == 1 {
-        return true;
-    }
-    mark == 2
+    1 <= edge && edge <= usize::from(g.m) && (mark == 1 || mark == 2)
 }
 
-// The first fault of a preview, in document 02's order; 0 where there is none.
-fn fault(g: Graph, multipliers: &[i32], denominator: u64, edge: usize, mark: u32, len: usize) -> u32
-    ensures { result ≡ preview_fault g multipliers.now denominator edge mark len }
+// The first fault of a preview, in document 02's order.
+#[tactic(auto, unfolding(crate::specs::Preview::preview_fault, tree_theory::specs::Inputs::input_fault))]
+fn fault(
+    g: &Graph,
+    multipliers: &[i32],
+    denominator: u64,
+    edge: usize,
+    mark: u32,
+    len: usize,
+) -> Result<(), Refusal>
+    ensures { fault_of result ≡ preview_fault g.now multipliers.now denominator edge mark len }
 {
-    if !graph::check(g) {
-        return 15;
+    if !g.check() {
+        return Err(Refusal::Graph);
     }
-    if multipliers.len() != wide(g.n) {
-        return 11;
-    }
-    if len != wide(g.m) {
-        return 11;
+    if multipliers.len() != usize::from(g.n) || len != usize::from(g.m) {
+        return Err(Refusal::Length);
     }
     if !onetree::multipliers_fit(multipliers) {
-        return 12;
+        return Err(Refusal::Multiplier);
     }
     if !onetree::denominator_fits(denominator) {
-        return 32;
+        return Err(Refusal::Denominator);
     }
     if !can_be_marked(g, edge, mark) {
-        return 30;
+        return Err(Refusal::NoSuchEdge);
     }
-    let marks = g.mark;
-    if marks[edge - 1] != FREE {
-        return 31;
+    if g.mark[edge - 1] != FREE {
+        return Err(Refusal::NotFree);
     }
-    0
+    Ok(())
 }
 
 // The least 1-tree of a copy of the graph in which this free edge has this mark, as the tree call answers; the graph is untouched.
 // Ruled out: the edge numbered from 0; an answer for an edge that is required or excluded already; 31 for a mark that is none.
 pub fn preview(
-    g: Graph,
+    g: &Graph,
     multipliers: &[i32],
     denominator: u64,
     edge: usize,
     mark: u32,
     out: &mut [u8],
-) -> TreeAnswer
-    ensures { (tree_meaning result ≡ preview_reply g multipliers.now denominator edge mark (length out.old))
-        × (out.new ≡ preview_leaves g multipliers.now denominator edge mark out.old) }
+) -> Result<Option<i64>, Refusal>
+    ensures reply { meaning result ≡ preview_reply g.now multipliers.now denominator edge mark (length out.old) }
+    ensures left { out.new ≡ preview_leaves g.now multipliers.now denominator edge mark out.old }
 {
-    let number = fault(g, multipliers, denominator, edge, mark, out.len());
-    if number != 0 {
-        return TreeAnswer::Refused(number, 0);
-    }
-    let mut marks = g.mark;
-    marks[edge - 1] = mark as u8;
-    let mut h = g;
-    h.mark = marks;
-    onetree::tree(h, multipliers, denominator, out)
+    fault(g, multipliers, denominator, edge, mark, out.len())?;
+    let mut h = *g;
+    h.mark[edge - 1] = mark as u8;
+    onetree::tree(&h, multipliers, denominator, out)
 }

@@ -4,7 +4,7 @@ use Rattle.std.specs.Prelude.{◌≡◌, refl, ◌≢◌, take, ℤ, pos}
 use Rattle.std.proofs.Math.Path.{sym, ap, subst}
 use Rattle.std.proofs.Common.{◌∙◌, inl, inr, arith, length-append, get_or-set_same}
 use mathlib.Core.List.{List, [], ◌∷◌, ◌++◌, append-nil}
-use Prim.Native.Nat.{ℕ, zero, suc, ◌+◌, ◌-◌, ◌*◌, ◌%◌, ◌<◌, ◌≤◌, min}
+use Prim.Native.Nat.{ℕ, zero, suc, ◌+◌, ◌-◌, ◌%◌, ◌<◌, ◌≤◌, min}
 use Rattle.std.proofs.Math.Decide.{ℕ_discrete}
 use Rattle.std.proofs.Math.Nat.{mod-lt}
 use Rattle.std.proofs.Math.ListN.{length, get_or, set, length-set}
@@ -15,7 +15,9 @@ use Rattle.graph.specs.Limits.{max_edges}
 use Rattle.recent.specs.Places.{take_in}
 use Rattle.recent.specs.Costs.{Entry, times_of, latest, greatest_or, recent_cost, recent_costs}
 use Rattle.recent.specs.Answers.{max_window}
-use Rattle.recent.specs.Windows.{Window, unused, held, stored, entered_at, entered, entered_all}
+use Rattle.recent.specs.declared.Ring.{Ring}
+use Rattle.recent.specs.declared.Window.{Window}
+use Rattle.recent.specs.Windows.{unused, ring_of, stored, held, entered_at, entered, entered_all}
 use Rattle.recent.specs.Exact.{times-same, times_other, Keeps, keeps_none, ring_next, held-greatest}
 
 module _ (w : ℕ) (low : 1 ≤ w) (high : w ≤ max_window) (cost : List ℤ) where
@@ -27,8 +29,11 @@ module _ (w : ℕ) (low : 1 ≤ w) (high : w ≤ max_window) (cost : List ℤ) w
     abbrev new : Entry
     new = record { edge = suc e; time = t }
 
-    abbrev c : ℕ
-    c = get_or x.counts e 0
+    abbrev old : Ring
+    old = ring_of x.rings e
+
+    abbrev now : Ring
+    now = stored w old t
 
     same : times_of (suc e) (log ++ new ∷ []) ≡ times_of (suc e) log ++ t ∷ []
     same = times-same (suc e) log new refl
@@ -36,38 +41,50 @@ module _ (w : ℕ) (low : 1 ≤ w) (high : w ≤ max_window) (cost : List ℤ) w
     other : (j : ℕ) → e ≢ j → times_of (suc j) (log ++ new ∷ []) ≡ times_of (suc j) log
     other j q = times_other (suc j) log new (λ z. q (omega arith))
 
-    one_more : c + 1 ≡ length (times_of (suc e) (log ++ new ∷ []))
+    one_more : now.count ≡ length (times_of (suc e) (log ++ new ∷ []))
+    unfolding stored
     one_more = omega (arith, p.counted e here, ap length same, length-append (times_of (suc e) log) (t ∷ []))
 
-    counted : (j : ℕ) → j < max_edges → Dec (e ≡ j) → get_or (set x.counts e (c + 1)) j 0 ≡ length (times_of (suc j) (log ++ new ∷ []))
-    counted j h (yes q) =
-        subst (λ (k : ℕ). get_or (set x.counts e (c + 1)) k 0 ≡ length (times_of (suc k) (log ++ new ∷ []))) q
-        (get_or-set_same x.counts e (c + 1) 0 (omega (arith, p.edges)) ∙ one_more)
-    counted j h (no q) = get_or-set_other x.counts e j (c + 1) 0 (λ z. q (sym z)) ∙ p.counted j h ∙ ap length (sym (other j q))
+    -- the edge's own ring, and those of the others
+    own : ring_of (set x.rings e now) e ≡ now
+    own = get_or-set_same x.rings e now _ (omega (arith, p.size))
+
+    apart : (j : ℕ) → e ≢ j → ring_of (set x.rings e now) j ≡ ring_of x.rings j
+    apart j q = get_or-set_other x.rings e j now _ (λ z. q (sym z))
+
+    counted : (j : ℕ) → j < max_edges → Dec (e ≡ j) → (ring_of (set x.rings e now) j).count ≡ length (times_of (suc j) (log ++ new ∷ []))
+    counted j h (yes q) = rw (← q, own) one_more
+    counted j h (no q) = rw (apart j q, other j q) (p.counted j h)
+
+    ring_size : (j : ℕ) → j < max_edges → Dec (e ≡ j) → length (ring_of (set x.rings e now) j).times ≡ max_window
+    unfolding stored
+    ring_size j h (yes q) = rw (← q, own) (length-set old.times (old.count % w) t ∙ p.ring e here)
+    ring_size j h (no q) = rw (apart j q) (p.ring j h)
+
+    kept-now : (i : ℕ) → i < length (times_of (suc e) (log ++ new ∷ [])) → length (times_of (suc e) (log ++ new ∷ [])) ≤ i + w
+        → get_or now.times (i % w) (pos 0) ≡ get_or (times_of (suc e) (log ++ new ∷ [])) i (pos 0)
+    unfolding stored
+    kept-now =
+        rw (same, p.counted e here) (ring_next w old.times (times_of (suc e) log) t low
+        (omega (arith, within (length (times_of (suc e) log)), p.ring e here)) (p.kept e here))
 
     kept : (j : ℕ) → j < max_edges → Dec (e ≡ j) → (i : ℕ) → i < length (times_of (suc j) (log ++ new ∷ []))
         → length (times_of (suc j) (log ++ new ∷ [])) ≤ i + w
-        → get_or (stored w x e t) (max_window * j + i % w) (pos 0) ≡ get_or (times_of (suc j) (log ++ new ∷ [])) i (pos 0)
-    unfolding stored
-    kept j h (yes q) =
-        subst (λ (a : ℕ). (i : ℕ) → i < length (times_of (suc a) (log ++ new ∷ [])) → length (times_of (suc a) (log ++ new ∷ [])) ≤ i + w
-        → get_or (set x.times (max_window * e + c % w) t) (max_window * a + i % w) (pos 0) ≡ get_or (times_of (suc a) (log ++ new ∷ [])) i (pos 0)) q
-        (rw (same, p.counted e here) (ring_next w (max_window * e) x.times (times_of (suc e) log) t low
-        (omega (arith, within (length (times_of (suc e) log)), p.size)) (p.kept e here)))
-    kept j h (no q) =
-        rw (other j q) (λ i l k. get_or-set_other x.times (max_window * e + c % w) (max_window * j + i % w) t (pos 0)
-        (omega (arith, within c, within i)) ∙ p.kept j h i l k)
+        → get_or (ring_of (set x.rings e now) j).times (i % w) (pos 0) ≡ get_or (times_of (suc j) (log ++ new ∷ [])) i (pos 0)
+    kept j h (yes q) = rw (← q, own) kept-now
+    kept j h (no q) = rw (apart j q, other j q) (p.kept j h)
 
     -- the cost of that edge, and of the others
     abbrev top : ℤ
-    top = greatest_or (pos 0) (held (stored w x e t) e (min (c + 1) w))
+    top = greatest_or (pos 0) (held w now)
 
     top_is : top ≡ recent_cost w (get_or cost e (pos 0)) (log ++ new ∷ []) (suc e)
-    unfolding recent_cost
+    unfolding recent_cost held
     top_is =
-        ap (λ (n : ℕ). greatest_or (pos 0) (held (stored w x e t) e (min n w))) one_more
-        ∙ held-greatest w low (stored w x e t) (times_of (suc e) (log ++ new ∷ [])) e (kept e here (ℕ_discrete e e))
-        (get_or cost e (pos 0)) (omega (arith, one_more))
+        ap (λ (n : ℕ). greatest_or (pos 0) (take (min n w) now.times)) one_more
+        ∙ held-greatest w low now.times (times_of (suc e) (log ++ new ∷ []))
+        (unfold stored in omega (arith, length-set old.times (old.count % w) t, p.ring e here))
+        kept-now (get_or cost e (pos 0)) (unfold stored in omega (arith, one_more))
 
     still : (j : ℕ) → e ≢ j → recent_cost w (get_or cost j (pos 0)) (log ++ new ∷ []) (suc j) ≡ recent_cost w (get_or cost j (pos 0)) log (suc j)
     unfolding recent_cost
@@ -98,8 +115,8 @@ module _ (w : ℕ) (low : 1 ≤ w) (high : w ≤ max_window) (cost : List ℤ) w
     keeps_one : Keeps w cost (entered_at w x e t) (log ++ new ∷ [])
     unfolding entered_at
     keeps_one = record {
-      size = (unfold stored in length-set x.times (max_window * e + c % w) t) ∙ p.size;
-      edges = length-set x.counts e (c + 1) ∙ p.edges;
+      size = length-set x.rings e now ∙ p.size;
+      ring = λ j h. ring_size j h (ℕ_discrete e j);
       room = p.room;
       counted = λ j h. counted j h (ℕ_discrete e j);
       kept = λ j h. kept j h (ℕ_discrete e j);

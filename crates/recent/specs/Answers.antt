@@ -1,12 +1,12 @@
 -- What the call answers and which graph it gives, for every input. Definitions only.
-use Rattle.std.specs.Prelude.{Bool, cond, not, ◌&&◌, List, [], ◌∷◌, ℕ, zero, suc, eqb, leb, length, ℤ}
+use Rattle.std.specs.Prelude.{Bool, cond, not, ◌&&◌, List, [], ◌∷◌, ℕ, zero, suc, eqb, leb, length, ℤ, Result, Ok, Err}
 use Rattle.integers.specs.Range.{within}
 use Rattle.graph.specs.declared.Graph.{Graph}
 use Rattle.graph.specs.Limits.{max_cost}
 use Rattle.graph.specs.Valid.{valid}
 use Rattle.recent.specs.Costs.{Entry, log_of, recent_graph}
-use Rattle.recent.specs.declared.Answer.{Answer}
-use Rattle.recent.specs.declared.Answer.TheVariants.{Made, Refused}
+use Rattle.graph.specs.declared.refusals.Refused.{Refused}
+use Rattle.graph.specs.Refusals.{number}
 
 -- "w from 1 to 32"
 abbrev pub max_window : ℕ
@@ -17,9 +17,16 @@ pub data Reply : Type 0 where
   made : Reply
   refused : ℕ → ℕ → Reply
 
-unfoldable pub meaning : Answer → Reply
-meaning Made = made
-meaning (Refused number place) = refused number place
+unfoldable pub meaning : Result (Unit {0}) Refused → Reply
+meaning (Ok _) = made
+meaning (Err r) = refused (number r.refusal) r.place
+
+-- what is refused before the log is read, of lists that are so long; 0 where nothing is
+unfoldable pub first_fault : Graph → ℕ → ℕ → ℕ → ℕ
+first_fault g w edges times =
+    cond (not (valid g)) 15
+    (cond (not (eqb edges times)) 11
+    (cond (not (leb 1 w && leb w max_window)) 38 0))
 
 -- the entry names an edge, 1 to m, and a time in the cost range
 unfoldable pub entry_ok : ℕ → Entry → Bool

@@ -1,26 +1,27 @@
 -- What a window keeps of a log: for each edge the ring has the last w of its times. Time i stands at i's remainder by w, and no later one of the
 -- last w takes its place; so the greatest of the ring is the greatest of the last w. proofs/Exact has one entry more, and `exact`. Assumes nothing.
-use Rattle.std.specs.Prelude.{◌≡◌, refl, ◌≢◌, Bool, true, false, eqb, ℤ, pos}
+use Rattle.std.specs.Prelude.{◌≡◌, refl, ◌≢◌, replicate, Bool, true, false, eqb, ℤ, pos}
 use Rattle.std.proofs.Math.Path.{sym, ap, subst}
-use Rattle.std.proofs.Common.{◌∙◌, arith, length-append, get_or-set_same, eq-eqb, ne_eqb}
+use Rattle.std.proofs.Common.{◌∙◌, arith, length-append, length-take-le, get_or-set_same, eq-eqb, ne_eqb}
 use mathlib.Core.List.{List, [], ◌∷◌, ◌++◌, append-nil}
-use Prim.Native.Nat.{ℕ, suc, ◌+◌, ◌-◌, ◌*◌, ◌%◌, ◌<◌, ◌≤◌, min}
+use Prim.Native.Nat.{ℕ, suc, ◌+◌, ◌-◌, ◌%◌, ◌<◌, ◌≤◌, min}
 use Rattle.std.proofs.Math.Decide.{ℕ_discrete}
 use Rattle.std.proofs.Math.Nat.{mod-lt, mod-le}
-use Rattle.std.proofs.Math.ListN.{length, get_or, set, get_or-append}
-use Rattle.std.proofs.lemmas.List.{length-replicate}
+use Rattle.std.proofs.Math.ListN.{length, get_or, set, take, get_or-append}
+use Rattle.std.proofs.lemmas.List.{length-replicate, get_or-replicate}
 use Rattle.std.proofs.Math.Seq.{drop-nil, get_or-set_other, get_or-append_seam}
 use Rattle.lists.specs.Members.{◌∈◌}
 use Rattle.lists.specs.Select.{keep}
-use Rattle.lists.specs.Rows.{zeros}
-use Rattle.lists.specs.Fill.{fill-size, fill_is}
+use Rattle.lists.specs.Fill.{fill_is}
 use Rattle.graph.specs.Limits.{max_edges}
 use Rattle.recent.specs.Remainders.{remainders_differ, LastWith, last_with}
-use Rattle.recent.specs.Places.{latest_in, in_latest, fill_in, in_fill}
+use Rattle.recent.specs.Places.{latest_in, in_latest, at_take, in_take}
 use Rattle.recent.specs.Greatest.{same-greatest}
 use Rattle.recent.specs.Costs.{Entry, times_of, latest, greatest_or, recent_cost, recent_costs}
 use Rattle.recent.specs.Answers.{max_window}
-use Rattle.recent.specs.Windows.{Window, unused, held}
+use Rattle.recent.specs.declared.Window.{Window}
+use Rattle.recent.specs.declared.Ring.{Ring}
+use Rattle.recent.specs.Windows.{no_times, unused, ring_of}
 
 -- ---- an edge's times, after one entry more
 
@@ -48,75 +49,76 @@ cost_none w c log k e = ap (λ (l : List ℤ). greatest_or c (latest w l)) e ∙
 -- ---- what a window keeps of a log
 
 pub record Keeps (w : ℕ) (cost : List ℤ) (x : Window) (log : List Entry) : Type 0 where
-  pub size : length x.times ≡ max_window * max_edges
-  pub edges : length x.counts ≡ max_edges
+  pub size : length x.rings ≡ max_edges
+  pub ring : (j : ℕ) → j < max_edges → length (ring_of x.rings j).times ≡ max_window
   pub room : length cost ≡ max_edges
   -- of the edge at place j the number of its times, and each of the last w of them
-  pub counted : (j : ℕ) → j < max_edges → get_or x.counts j 0 ≡ length (times_of (suc j) log)
+  pub counted : (j : ℕ) → j < max_edges → (ring_of x.rings j).count ≡ length (times_of (suc j) log)
   pub kept : (j : ℕ) → j < max_edges → (i : ℕ) → i < length (times_of (suc j) log) → length (times_of (suc j) log) ≤ i + w
-      → get_or x.times (max_window * j + i % w) (pos 0) ≡ get_or (times_of (suc j) log) i (pos 0)
+      → get_or (ring_of x.rings j).times (i % w) (pos 0) ≡ get_or (times_of (suc j) log) i (pos 0)
   pub priced : x.costs ≡ recent_costs w cost log
 
+none_at : (j : ℕ) → j < max_edges → ring_of (replicate max_edges no_times) j ≡ no_times
+none_at j h = get_or-replicate max_edges j no_times _ h
+
 pub keeps_none : (w : ℕ) (cost : List ℤ) → length cost ≡ max_edges → Keeps w cost (unused cost) []
-unfolding unused times_of recent_costs
+unfolding unused no_times times_of recent_costs
 keeps_none w cost room = record {
-  size = length-replicate (max_window * max_edges) (pos 0);
-  edges = length-replicate {A = ℕ} max_edges 0;
+  size = length-replicate max_edges no_times;
+  ring = λ j h. ap (λ (r : Ring). length r.times) (none_at j h) ∙ length-replicate max_window (pos 0);
   room = room;
-  counted = λ j h. zeros max_edges j;
+  counted = λ j h. ap (λ (r : Ring). r.count) (none_at j h);
   kept = λ j h i l k. absurd (omega arith);
   priced =
       sym (fill_is (length cost) (λ i. recent_cost w (get_or cost i (pos 0)) [] (suc i)) cost (pos 0) refl
       (λ i h. cost_none w (get_or cost i (pos 0)) [] (suc i) refl));
 }
 
--- one ring, of which place i is place base + i of the list ts: the next time t of T is stored at T's length, by w
-pub ring_next : (w base : ℕ) (ts T : List ℤ) (t : ℤ) → 1 ≤ w → base + length T % w < length ts
-    → ((i : ℕ) → i < length T → length T ≤ i + w → get_or ts (base + i % w) (pos 0) ≡ get_or T i (pos 0))
+-- one ring: the next time t of T is stored at T's length, by w
+pub ring_next : (w : ℕ) (ts T : List ℤ) (t : ℤ) → 1 ≤ w → length T % w < length ts
+    → ((i : ℕ) → i < length T → length T ≤ i + w → get_or ts (i % w) (pos 0) ≡ get_or T i (pos 0))
     → (i : ℕ) → i < length (T ++ t ∷ []) → length (T ++ t ∷ []) ≤ i + w
-    → get_or (set ts (base + length T % w) t) (base + i % w) (pos 0) ≡ get_or (T ++ t ∷ []) i (pos 0)
-ring_next w base ts T t low fits old i l k = go (ℕ_discrete i (length T))
+    → get_or (set ts (length T % w) t) (i % w) (pos 0) ≡ get_or (T ++ t ∷ []) i (pos 0)
+ring_next w ts T t low fits old i l k = go (ℕ_discrete i (length T))
   where
     size : length (T ++ t ∷ []) ≡ length T + 1
     size = length-append T (t ∷ [])
 
-    go : Dec (i ≡ length T) → get_or (set ts (base + length T % w) t) (base + i % w) (pos 0) ≡ get_or (T ++ t ∷ []) i (pos 0)
+    go : Dec (i ≡ length T) → get_or (set ts (length T % w) t) (i % w) (pos 0) ≡ get_or (T ++ t ∷ []) i (pos 0)
     go (yes q) =
-        subst (λ (n : ℕ). get_or (set ts (base + length T % w) t) (base + n % w) (pos 0) ≡ get_or (T ++ t ∷ []) n (pos 0)) (sym q)
-        (get_or-set_same ts (base + length T % w) t (pos 0) fits ∙ sym (get_or-append_seam T t [] (pos 0)))
+        subst (λ (n : ℕ). get_or (set ts (length T % w) t) (n % w) (pos 0) ≡ get_or (T ++ t ∷ []) n (pos 0)) (sym q)
+        (get_or-set_same ts (length T % w) t (pos 0) fits ∙ sym (get_or-append_seam T t [] (pos 0)))
     go (no q) =
-        get_or-set_other ts (base + length T % w) (base + i % w) t (pos 0)
-        (λ z. remainders_differ w i (length T) (omega (arith, size)) (omega (arith, size)) (omega (arith, z)))
+        get_or-set_other ts (length T % w) (i % w) t (pos 0)
+        (remainders_differ w i (length T) (omega (arith, size)) (omega (arith, size)))
         ∙ old i (omega (arith, size)) (omega (arith, size))
         ∙ sym (get_or-append T (t ∷ []) (pos 0) i (omega (arith, size)))
 
 -- the first places of a ring, as many as it holds, are the last w times T, in some order
-module _ (w : ℕ) (low : 1 ≤ w) (ts T : List ℤ) (j : ℕ)
-    (ring : (i : ℕ) → i < length T → length T ≤ i + w → get_or ts (max_window * j + i % w) (pos 0) ≡ get_or T i (pos 0)) where
-  held_in : (z : ℤ) → z ∈ held ts j (min (length T) w) → z ∈ latest w T
-  unfolding held
-  held_in z m = go (in_fill (min (length T) w) (λ n. get_or ts (max_window * j + n) (pos 0)) z m)
+module _ (w : ℕ) (low : 1 ≤ w) (ts T : List ℤ) (room : w ≤ length ts)
+    (ring : (i : ℕ) → i < length T → length T ≤ i + w → get_or ts (i % w) (pos 0) ≡ get_or T i (pos 0)) where
+  abbrev n : ℕ
+  n = min (length T) w
+
+  held_in : (z : ℤ) → z ∈ take n ts → z ∈ latest w T
+  held_in z m = go (in_take n ts (pos 0) z (omega arith) m)
     where
-      go : (n : ℕ) × (n < min (length T) w) × (z ≡ get_or ts (max_window * j + n) (pos 0)) → z ∈ latest w T
+      go : (i : ℕ) × (i < n) × (z ≡ get_or ts i (pos 0)) → z ∈ latest w T
       go r = at (last_with w (length T) r.0 (omega (arith, r.1)) (omega (arith, r.1)))
         where
           at : LastWith w (length T) r.0 → z ∈ latest w T
           at s =
-              rw (r.2 ∙ ap (λ (n : ℕ). get_or ts (max_window * j + n) (pos 0)) (sym s.place) ∙ ring s.at s.below s.near)
+              rw (r.2 ∙ ap (λ (i : ℕ). get_or ts i (pos 0)) (sym s.place) ∙ ring s.at s.below s.near)
               (latest_in w T s.at s.below s.near)
 
-  in_held : (z : ℤ) → z ∈ latest w T → z ∈ held ts j (min (length T) w)
-  unfolding held
+  in_held : (z : ℤ) → z ∈ latest w T → z ∈ take n ts
   in_held z m = go (in_latest w T z m)
     where
-      go : (n : ℕ) × (n < length T) × (length T ≤ n + w) × (z ≡ get_or T n (pos 0)) → z ∈ held ts j (min (length T) w)
+      go : (i : ℕ) × (i < length T) × (length T ≤ i + w) × (z ≡ get_or T i (pos 0)) → z ∈ take n ts
       go r =
           rw (r.3 ∙ sym (ring r.0 r.1 r.2))
-          (fill_in (min (length T) w) (λ n. get_or ts (max_window * j + n) (pos 0)) (r.0 % w)
-          (omega (arith, r.1, mod-lt r.0 low, mod-le r.0 w)))
+          (at_take n ts (r.0 % w) (pos 0) (omega (arith, r.1, mod-lt r.0 low, mod-le r.0 w)) (omega arith))
 
-  pub held-greatest : (c : ℤ) → 1 ≤ length T → greatest_or (pos 0) (held ts j (min (length T) w)) ≡ greatest_or c (latest w T)
-  unfolding held
+  pub held-greatest : (c : ℤ) → 1 ≤ length T → greatest_or (pos 0) (take n ts) ≡ greatest_or c (latest w T)
   held-greatest c some =
-      same-greatest (pos 0) c (held ts j (min (length T) w)) (latest w T)
-      (omega (arith, fill-size (min (length T) w) (λ n. get_or ts (max_window * j + n) (pos 0)))) held_in in_held
+      same-greatest (pos 0) c (take n ts) (latest w T) (omega (arith, length-take-le n ts (omega arith))) held_in in_held

@@ -1,14 +1,14 @@
--- The greatest of some times: as a statement, by membership and order; that the definition is it; and as a loop finds it. Assumes nothing.
-use Rattle.std.specs.Prelude.{◌≡◌, refl, ◌⊎◌, List, [], ◌∷◌, ◌++◌, ℕ, ◌+◌, ◌≤◌, length, ℤ, ◌≤ℤ◌}
-use Rattle.std.proofs.Common.{◌∙◌, inl, inr, arith, add-one}
+-- The greatest of some times: as a statement, by membership and order; that the definition is it; and as a search through a list finds it. Assumes nothing.
+use Rattle.std.specs.Prelude.{◌≡◌, refl, ◌⊎◌, List, [], ◌∷◌, ◌≤◌, length, ℤ, ◌≤ℤ◌}
+use Rattle.std.proofs.Common.{◌∙◌, inl, inr, arith}
 use Rattle.std.specs.Int.Signed.{lt_z}
 use Rattle.lists.specs.Bools.{by_cases}
 use Rattle.lists.specs.Members.{◌∈◌}
-use Rattle.lists.specs.Fill.{fill, fill-size}
+use Rattle.std.specs.List.{All, Contains}
 use Rattle.integers.specs.Parts.{parts_le}
 use Rattle.integers.specs.Order.{le_trans, le_antisym, lt-le, test_lt, test_not_lt}
 use Rattle.recent.specs.Costs.{larger, greatest, greatest_or}
-use Rattle.recent.specs.Places.{fill-next}
+use Rattle.recent.specs.Places.{at_in, in_at}
 
 -- z is among the times, and none of them is above it
 pub record Greatest (ts : List ℤ) (z : ℤ) : Type 0 where
@@ -96,21 +96,12 @@ same-greatest c d (x ∷ l) [] h to from = absurd (to x (inl refl))
 same-greatest c d (x ∷ l) (y ∷ k) h to from =
     greatest-one (x ∷ l) (y ∷ k) (greatest x l) (greatest y k) to from (greatest_is x l) (greatest_is y k)
 
--- ---- as a loop over places finds it
+-- as a search through a list finds it
+pub found : (c : ℤ) (l : List ℤ) (z : ℤ) → Contains l z → All (λ x. x ≤ℤ z) l → z ≡ greatest_or c l
+found c l z h all = is_greatest c l z (record { member = there; most = below })
+  where
+    there : z ∈ l
+    there = rw h.2 at (at_in l h.0 z h.1)
 
-greatest-next : (x : ℤ) (l : List ℤ) (y : ℤ) → greatest x (l ++ y ∷ []) ≡ larger (greatest x l) y
-unfolding greatest
-greatest-next x [] y = refl
-greatest-next x (z ∷ l) y = greatest-next (larger x z) l y
-
-one_more : (c : ℤ) (l : List ℤ) (y : ℤ) → 1 ≤ length l → greatest_or c (l ++ y ∷ []) ≡ larger (greatest_or c l) y
-unfolding greatest_or
-one_more c [] y h = absurd (omega arith)
-one_more c (x ∷ l) y h = greatest-next x l y
-
-pub first-place : (c : ℤ) (f : ℕ → ℤ) → greatest_or c (fill 1 f) ≡ f 0
-unfolding greatest_or fill
-first-place c f = refl
-
-pub next_place_lem : (c : ℤ) (f : ℕ → ℤ) (n : ℕ) → 1 ≤ n → greatest_or c (fill (n + 1) f) ≡ larger (greatest_or c (fill n f)) (f n)
-next_place_lem c f n h = rw (add-one, fill-next n f) (one_more c (fill n f) (f n) (omega (arith, fill-size n f)))
+    below : (y : ℤ) → y ∈ l → y ≤ℤ z
+    below y m = let r = in_at l z y m in rw r.2 (all r.0 z r.1)

@@ -8,12 +8,12 @@ use Rattle.std.proofs.Math.ListN.{length, take}
 use Rattle.std.proofs.Math.Seq.{take-length, drop-length}
 use Rattle.lists.specs.Bools.{and_both}
 use Rattle.lists.specs.Select.{keep}
-use Rattle.lists.specs.Fill.{fill-size}
 use Rattle.integers.specs.Range.{within}
 use Rattle.graph.specs.Limits.{max_edges, max_cost}
-use Rattle.recent.specs.Costs.{Entry, log_of, times_of, recent_cost, recent_costs}
-use Rattle.recent.specs.Answers.{max_window, entry_ok, bad_from}
-use Rattle.recent.specs.Windows.{Window, unused, entered, entered_all, max_counted, CanEnter, Replayed}
+use Rattle.recent.specs.Costs.{Entry, log_of, times_of}
+use Rattle.recent.specs.Answers.{max_window, made, refused, entry_ok, bad_from, unless_bad}
+use Rattle.recent.specs.declared.Window.{Window}
+use Rattle.recent.specs.Windows.{unused, ring_of, entered, entered_all, max_counted, CanEnter, Replayed}
 use Rattle.recent.specs.Exact.{Keeps, keeps_none}
 
 -- ---- the log of two lists
@@ -66,9 +66,9 @@ pub record Replaying (w m : ℕ) (cost : List ℤ) (log : List Entry) (i : ℕ) 
   pub good : bad_from m 1 log ≡ bad_from m (i + 1) (drop i log)
 
 pub replaying_none : (w m : ℕ) (cost : List ℤ) (log : List Entry) → 1 ≤ w → w ≤ max_window → m ≤ max_edges → length cost ≡ max_edges
-    → Replaying w m cost log 0 (unused cost)
+    → (x : Window) → x ≡ unused cost → Replaying w m cost log 0 x
 unfolding entered_all
-replaying_none w m cost log low high few room = record {
+replaying_none w m cost log low high few room x e = rw e (record {
   low = low;
   high = high;
   few = few;
@@ -76,7 +76,7 @@ replaying_none w m cost log low high few room = record {
   folded = refl;
   keeps = keeps_none w cost room;
   good = refl;
-}
+})
 
 -- no edge has more times than there are entries
 times_most : (k : ℕ) (log : List Entry) → length (times_of k log) ≤ length log
@@ -89,14 +89,8 @@ times_most k (e ∷ log) = go (eqb e.edge k) (times_most k log)
     go false h = omega arith
 
 module _ (w m : ℕ) (cost : List ℤ) (log : List Entry) (i : ℕ) (x : Window) (r : Replaying w m cost log i x) where
-  count_most : (k : ℕ) → k < max_edges → get_or x.counts k 0 ≤ i
+  count_most : (k : ℕ) → k < max_edges → (ring_of x.rings k).count ≤ i
   count_most k h = omega (arith, r.keeps.counted k h, times_most (suc k) (take i log), length-take-le i log r.at_most)
-
-  costs_size : length x.costs ≡ max_edges
-  unfolding recent_costs
-  costs_size =
-      ap length r.keeps.priced
-      ∙ fill-size (length cost) (λ j. recent_cost w (get_or cost j (pos 0)) (take i log) (suc j)) ∙ r.keeps.room
 
   pub can_enter : (e : Entry) → entry_ok m e ≡ true → i < max_counted → CanEnter w (e.edge - 1) x
   can_enter e ok h =
@@ -106,9 +100,6 @@ module _ (w m : ℕ) (cost : List ℤ) (log : List Entry) (i : ℕ) (x : Window)
         low = r.low;
         high = r.high;
         edge = k;
-        rings = r.keeps.size;
-        edges = r.keeps.edges;
-        priced = costs_size;
         room = omega (arith, count_most (e.edge - 1) k);
       }
 
@@ -120,22 +111,26 @@ module _ (w m : ℕ) (cost : List ℤ) (log : List Entry) (i : ℕ) (x : Window)
     rest = rw add-one (drop-cons log i e h) ∙ ap (λ (d : Entry). d ∷ drop (i + 1) log) at
 
     -- entry i is refused
-    pub replayed_bad : entry_ok m e ≡ false → Replayed w m cost log (i + 1) x.costs
+    pub replayed_bad : entry_ok m e ≡ false → Replayed w m cost log (refused 39 (i + 1)) x.costs
     unfolding bad_from
-    replayed_bad bad = rw add-one (record {
-      stops = sym (r.good ∙ rw (rest, bad) (omega arith));
-      folded = ap (λ (y : Window). y.costs) r.folded;
-      afresh = r.keeps.priced;
-    })
+    replayed_bad bad =
+        let place : bad_from m 1 log ≡ suc i = r.good ∙ rw (rest, bad) (omega arith) in
+        rw add-one (record {
+          stops = ap unless_bad (sym place);
+          folded = rw place (ap (λ (y : Window). y.costs) r.folded);
+          afresh = rw place r.keeps.priced;
+        })
 
   -- none is
-  pub replayed_all : i ≡ length log → Replayed w m cost log 0 x.costs
+  pub replayed_all : i ≡ length log → Replayed w m cost log made x.costs
   unfolding bad_from
-  replayed_all e = record {
-    stops = sym (r.good ∙ rw (e, drop-length log));
-    folded = ap (λ (y : Window). y.costs) r.folded ∙ ap (λ (l : List Entry). (entered_all w (unused cost) l).costs) whole;
-    afresh = rw (← whole) r.keeps.priced;
-  }
+  replayed_all e =
+      let place : bad_from m 1 log ≡ 0 = r.good ∙ rw (e, drop-length log) in
+      record {
+        stops = ap unless_bad (sym place);
+        folded = rw place (ap (λ (y : Window). y.costs) r.folded ∙ ap (λ (l : List Entry). (entered_all w (unused cost) l).costs) whole);
+        afresh = rw (place, ← whole) r.keeps.priced;
+      }
     where
       whole : take i log ≡ log
       whole = rw e (take-length log)

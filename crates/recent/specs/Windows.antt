@@ -1,43 +1,42 @@
 -- What the loop keeps of the log so far: for each edge a ring of 32 places, of which the first w are used, how many times were entered, and the
 -- cost. An entry is stored at the count's remainder by w, so that it takes the place of the oldest of w. Nothing here grows with the log.
 -- Definitions only.
-use Rattle.std.specs.Prelude.{◌≡◌, List, [], ◌∷◌, ℕ, zero, suc, ◌+◌, ◌-◌, ◌*◌, ◌%◌, ◌<◌, ◌≤◌, min, length, get_or, set, take, replicate, ℤ, pos}
-use Rattle.lists.specs.Fill.{fill}
+use Rattle.std.specs.Prelude.{◌≡◌, List, [], ◌∷◌, ℕ, zero, suc, ◌+◌, ◌-◌, ◌%◌, ◌<◌, ◌≤◌, min, get_or, set, take, replicate, ℤ, pos}
 use Rattle.graph.specs.Limits.{max_edges}
 use Rattle.recent.specs.Costs.{Entry, greatest_or, recent_costs}
-use Rattle.recent.specs.Answers.{max_window, bad_from}
-
-pub record Window : Type 0 where
-  pub times : List ℤ
-  pub counts : List ℕ
-  pub costs : List ℤ
-
-abbrev pub window_of : List ℤ → List ℕ → List ℤ → Window
-window_of times counts costs = record { times = times; counts = counts; costs = costs }
+use Rattle.recent.specs.Answers.{max_window, Reply, bad_from, unless_bad}
+use Rattle.recent.specs.declared.Ring.{Ring}
+use Rattle.recent.specs.declared.Window.{Window}
 
 abbrev pub entry_of : ℕ → ℤ → Entry
 entry_of edge time = record { edge = edge; time = time }
 
+-- one edge's ring: nothing entered; one time more; and the last w times that it holds
+unfoldable pub no_times : Ring
+no_times = record { times = replicate max_window (pos 0); count = 0 }
+
+unfoldable pub stored : ℕ → Ring → ℤ → Ring
+stored w r t = record { times = set r.times (r.count % w) t; count = r.count + 1 }
+
+unfoldable pub held : ℕ → Ring → List ℤ
+held w r = take (min r.count w) r.times
+
 -- nothing entered, and the graph's costs
 unfoldable pub unused : List ℤ → Window
-unused cost = record { times = replicate (max_window * max_edges) (pos 0); counts = replicate max_edges 0; costs = cost }
+unfolding no_times
+unused cost = record { rings = replicate max_edges no_times; costs = cost }
 
--- the first n places of the ring of the edge at place k
-unfoldable pub held : List ℤ → ℕ → ℕ → List ℤ
-unfolding fill
-held times k n = fill n (λ i. get_or times (max_window * k + i) (pos 0))
+-- the ring of the edge at place k
+abbrev pub ring_of : List Ring → ℕ → Ring
+ring_of rings k = get_or rings k (record { times = []; count = 0 })
 
 -- one entry, of the edge at place k
-unfoldable pub stored : ℕ → Window → ℕ → ℤ → List ℤ
-stored w x k t = set x.times (max_window * k + get_or x.counts k 0 % w) t
-
 unfoldable pub entered_at : ℕ → Window → ℕ → ℤ → Window
 unfolding stored held greatest_or
 entered_at w x k t =
     record {
-      times = stored w x k t;
-      counts = set x.counts k (get_or x.counts k 0 + 1);
-      costs = set x.costs k (greatest_or (pos 0) (held (stored w x k t) k (min (get_or x.counts k 0 + 1) w)));
+      rings = set x.rings k (stored w (ring_of x.rings k) t);
+      costs = set x.costs k (greatest_or (pos 0) (held w (stored w (ring_of x.rings k) t)));
     }
 
 abbrev pub entered : ℕ → Window → Entry → Window
@@ -51,10 +50,7 @@ pub record CanEnter (w k : ℕ) (x : Window) : Type 0 where
   pub low : 1 ≤ w
   pub high : w ≤ max_window
   pub edge : k < max_edges
-  pub rings : length x.times ≡ max_window * max_edges
-  pub edges : length x.counts ≡ max_edges
-  pub priced : length x.costs ≡ max_edges
-  pub room : get_or x.counts k 0 < max_counted
+  pub room : (ring_of x.rings k).count < max_counted
 
 -- the entries of a log, one after the other
 unfoldable pub entered_all : ℕ → Window → List Entry → Window
@@ -69,9 +65,9 @@ abbrev pub until : ℕ → List Entry → List Entry
 until zero log = log
 until (suc p) log = take p log
 
-pub record Replayed (w m : ℕ) (cost : List ℤ) (log : List Entry) (place : ℕ) (costs : List ℤ) : Type 0 where
-  pub stops : place ≡ bad_from m 1 log
+pub record Replayed (w m : ℕ) (cost : List ℤ) (log : List Entry) (reply : Reply) (costs : List ℤ) : Type 0 where
+  pub stops : reply ≡ unless_bad (bad_from m 1 log)
   -- it made the entries one after the other
-  pub folded : costs ≡ (entered_all w (unused cost) (until place log)).costs
+  pub folded : costs ≡ (entered_all w (unused cost) (until (bad_from m 1 log) log)).costs
   -- "the costs equal those worked out afresh from the log so far"
-  pub afresh : costs ≡ recent_costs w cost (until place log)
+  pub afresh : costs ≡ recent_costs w cost (until (bad_from m 1 log) log)

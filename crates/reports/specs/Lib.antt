@@ -8,9 +8,7 @@ pub mod Searching
 pub mod Longest
 pub mod ThreeCalls
 -- What follows is proved, or says what code knows.
-pub mod Puts
-pub mod Steps
-pub mod Room
-pub mod EdgeLoop
-pub mod Zeros
+pub mod Reading
+pub mod Numbers
 pub mod Printing
+pub mod Zeros

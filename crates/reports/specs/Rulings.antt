@@ -31,5 +31,5 @@ rules_text ceiling g =
     reply_text g ceiling (rule_reply g (zero_multipliers g) ceiling plain_denominator g.m)
     (rule_leaves g (zero_multipliers g) ceiling plain_denominator (replicate g.m 0))
 
-unfoldable pub rulings_text : List ℕ → List ℕ
+abbrev pub rulings_text : List ℕ → List ℕ
 rulings_text input = printed rules_text input

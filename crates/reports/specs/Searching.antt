@@ -28,14 +28,14 @@ last_answer o =
     cond (is_accepted (step no_search (opens o)).answer) (step ran tell).answer (step no_search (opens o)).answer
 
 -- "'refused N at P'"; or the verdict, "then on a second line 'nodes K'". Nothing is printed of another answer
-unfoldable pub answer_text : Answer → List ℕ
+abbrev pub answer_text : Answer → List ℕ
 answer_text (refused number place) = refused_line number place
 answer_text accepted = []
 answer_text (runs done count) = []
 answer_text (tells verdict count) = verdict_line verdict ++ nodes_line count
 
-unfoldable pub search_text : ℤ → Graph → List ℕ
+abbrev pub search_text : ℤ → Graph → List ℕ
 search_text ceiling g = answer_text (last_answer (plain_opening ceiling g))
 
-unfoldable pub search_program_text : List ℕ → List ℕ
+abbrev pub search_program_text : List ℕ → List ℕ
 search_program_text input = printed search_text input

@@ -40,7 +40,7 @@ edge_line k a b ruling =
     decimal k ++ ascii " " ++ decimal a ++ ascii "-" ++ decimal b ++ ascii " " ++ ruling_word ruling ++ ascii "\n"
 
 -- "prints 'going on', 'none' or 'cost C' (C the best cost)"
-unfoldable pub verdict_line : Verdict → List ℕ
+abbrev pub verdict_line : Verdict → List ℕ
 verdict_line going_on = ascii "going on\n"
 verdict_line none = ascii "none\n"
 verdict_line (best cost) = ascii "cost " ++ signed_decimal cost ++ ascii "\n"

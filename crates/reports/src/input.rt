@@ -1,41 +1,39 @@
 // What both programs read: a ceiling and then a chart.
-ghost use Rattle.std.specs.Prelude.{◌≡◌, ◌+◌, ◌*◌, ◌<◌, ◌≤◌, length};
-ghost use Rattle.reports.specs.Input.{ceiling_size, half, signed64, ceiling_of};
+ghost use Rattle.graph.specs.Valid.{Valid};
 
-use charts::u32_of;
+use graph::{Graph, Refusal, Refused};
 
 // The bytes of the ceiling.
-pub(crate) const CEILING_SIZE: usize = 8;
+const CEILING_SIZE: usize = 8;
 
 // What a program reads: one byte more than the longest input.
 pub const INPUT_SIZE: usize = CEILING_SIZE + charts::MAX_SIZE + 1;
 
-// What the upper half of a number of 64 bits counts for.
-const HALF: usize = 4294967296;
-
-// Two halves as one number.
-fn joined(low: usize, high: usize) -> usize
-    requires { (low < half) × (high < half) }
-    ensures { result ≡ low + half * high }
-{
-    low + HALF * high
+// What was read: its graph is valid, so no function that is lent it has to require that.
+#[derive(Drop)]
+pub struct Input {
+    pub(crate) ceiling: i64,
+    pub(crate) graph: Graph,
+    ghost valid: { Valid graph },
 }
 
-// The number whose two's complement is w.
-fn signed(w: usize) -> i64
-    ensures { result ≡ signed64 w }
-{
-    if w < 9223372036854775808 {
-        return w as i64;
+impl Input {
+    ghost use Rattle.std.specs.Prelude.{◌≡◌, ℤ, List, ℕ};
+    ghost use Rattle.graph.specs.declared.Graph.{Graph};
+    ghost use Rattle.reports.specs.Input.{printed};
+    ghost use Rattle.reports.specs.Reading.{printed_of};
+
+    // Ruled out: a refusal of the ceiling beside a fault of the chart.
+    pub(crate) fn read(bytes: &[u8]) -> Result<Input, Refused>
+        ensures { (text : ℤ → Graph → List ℕ) → printed_of text result ≡ printed text bytes.now }
+    {
+        let Some((ceiling, chart)) = bytes.split_first_chunk::<CEILING_SIZE>() else {
+            return Err(Refused::from(Refusal::TooShort));
+        };
+        let graph = charts::read(chart)?;
+        Ok(Input {
+            ceiling: i64::from_le_bytes(*ceiling),
+            graph,
+        })
     }
-    -1 - ((18446744073709551615 - w) as i64)
-}
-
-pub(crate) fn ceiling_of(input: &[u8]) -> i64
-    requires { ceiling_size ≤ length input.now }
-    ensures { result ≡ ceiling_of input.now }
-{
-    let low = u32_of(input[0], input[1], input[2], input[3]);
-    let high = u32_of(input[4], input[5], input[6], input[7]);
-    signed(joined(low, high))
 }

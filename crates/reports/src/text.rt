@@ -1,68 +1,65 @@
-// Text put into a buffer: each function puts its text at a place and gives the place after it.
-ghost use Rattle.std.specs.Prelude.{◌≡◌, [], ◌∷◌, ◌+◌, ◌<◌, ◌≤◌, length, nat_abs};
-ghost use Rattle.reports.specs.Decimal.{decimal, signed_decimal};
-ghost use Rattle.reports.specs.Puts.{Put};
+// The text that a program prints. std's `write!` is not used: its contract says what was written where it answers Ok, and never that it does.
+ghost use Rattle.std.specs.Prelude.{◌≡◌, [], ◌++◌, ◌+◌, ◌≤◌, length};
 ghost use Rattle.reports.specs.Text.{buffer_size};
 
-use crate::BUFFER_SIZE;
+use itoa::{Buffer, Integer};
+use std::marker::Model;
 
-// The bytes of a word.
-pub(crate) fn put_word(out: &mut [u8; BUFFER_SIZE], at: usize, word: &[u8]) -> usize
-    requires { at + length word.now ≤ buffer_size }
-    ensures { Put word.now out.old at out.new result }
-{
-    let mut p = at;
-    for i in 0..word.len() {
-        out[p] = word[i];
-        p += 1;
+// The longest text.
+pub const BUFFER_SIZE: usize = 4096;
+
+// The bytes put so far, in fixed memory.
+#[derive(Drop)]
+pub struct Text {
+    bytes: [u8; BUFFER_SIZE],
+    len: usize,
+}
+
+impl Model for Text {
+    ghost use Rattle.std.specs.Prelude.{ℕ, List, ◌≤◌, take};
+    ghost use Rattle.reports.specs.Text.{buffer_size};
+
+    ghost Value = { List ℕ };
+
+    ghost view = { λ t. take t.len t.bytes };
+
+    ghost invariant = { λ t. t.len ≤ buffer_size };
+}
+
+impl Text {
+    pub(crate) fn new() -> Text
+        ensures { result ≡ [] }
+    {
+        Text {
+            bytes: [0; BUFFER_SIZE],
+            len: 0,
+        }
     }
-    p
-}
 
-pub(crate) fn put_byte(out: &mut [u8; BUFFER_SIZE], at: usize, x: u8) -> usize
-    requires { at < buffer_size }
-    ensures { Put (x ∷ []) out.old at out.new result }
-{
-    out[at] = x;
-    at + 1
-}
-
-fn digit(d: u64) -> u8
-    requires { d < 10 }
-    ensures { result ≡ 48 + d }
-{
-    48 + d as u8
-}
-
-// A number, with no zero in front.
-pub(crate) fn put_decimal(out: &mut [u8; BUFFER_SIZE], at: usize, n: u64) -> usize
-    requires { at + length (decimal n) ≤ buffer_size }
-    ensures { Put (decimal n) out.old at out.new result }
-{
-    if n < 10 {
-        return put_byte(out, at, digit(n));
+    // Ruled out: a byte that was never put.
+    pub fn as_bytes(&self) -> &[u8]
+        ensures value { result.now ≡ self.now }
+        ensures within { length self.now ≤ buffer_size }
+    {
+        &self.bytes[..self.len]
     }
-    let p = put_decimal(out, at, n / 10);
-    put_byte(out, p, digit(n % 10))
-}
 
-fn magnitude(z: i64) -> u64
-    ensures { result ≡ nat_abs z }
-{
-    if z < 0 {
-        return 1 + (-1 - z) as u64;
+    pub(crate) fn put(&mut self, word: &[u8])
+        requires { length self.old + length word.now ≤ buffer_size }
+        ensures text { self.new ≡ self.old ++ word.now }
+        ensures len { length self.new ≡ length self.old + length word.now }
+    {
+        let end = self.len + word.len();
+        self.bytes[self.len..end].copy_from_slice(word);
+        self.len = end;
     }
-    z as u64
-}
 
-// A number with its sign: '-' or nothing.
-pub(crate) fn put_signed(out: &mut [u8; BUFFER_SIZE], at: usize, z: i64) -> usize
-    requires { at + length (signed_decimal z) ≤ buffer_size }
-    ensures { Put (signed_decimal z) out.old at out.new result }
-{
-    if z < 0 {
-        let p = put_byte(out, at, b'-');
-        return put_decimal(out, p, magnitude(z));
+    // The digits of a number, with '-' before a negative one and no zero in front.
+    pub(crate) fn put_number<I: Integer>(&mut self, n: I)
+        requires { length self.old + I.MAX_STR_LEN ≤ buffer_size }
+        ensures text { self.new ≡ self.old ++ I.text n }
+        ensures len { length self.new ≤ length self.old + I.MAX_STR_LEN }
+    {
+        self.put(Buffer::new().format(n).as_bytes());
     }
-    put_decimal(out, at, magnitude(z))
 }

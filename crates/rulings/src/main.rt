@@ -1,25 +1,22 @@
-// Program 'rulings': reads a ceiling and a chart from standard input, and prints the rulings with zero multipliers. What it prints is computed by
-// reports::rulings_text; here stand only the calls that read and write.
+// Program 'rulings': reads a ceiling and a chart from standard input, and prints the rulings with zero multipliers. What it prints is
+// computed by crate reports; here stand only the calls that read and write.
 #![tactic(auto)]
 
-ghost use Rattle.std.specs.Prelude.{◌≡◌, length};
-ghost use Rattle.reports.specs.Longest.{enough};
+ghost use Rattle.std.specs.Prelude.{◌≡◌, IfOk, IfSome};
+ghost use Rattle.reports.specs.Rulings.{rulings_text};
 
-use reports::{BUFFER_SIZE, INPUT_SIZE};
+use reports::{INPUT_SIZE, Rulings, Text};
 use std::io;
+use std::io::Read;
 
-// One byte more than the longest input: of a longer one the same is printed as of these first bytes (`enough` and `first-bytes` in
-// specs/Longest.antt of crate reports).
-fn room() -> [u8; INPUT_SIZE]
-    ensures { enough ≡ length result }
+// All that is printed of what a reader has.
+fn text<R: Read>(from: &mut R) -> io::Result<Text>
+    ensures { IfOk result (λ t. IfSome (R.remaining from.old) (λ all. t ≡ rulings_text all)) }
 {
-    [0; INPUT_SIZE]
+    reports::report::<Rulings, R>(from, &mut [0; INPUT_SIZE])
 }
 
 fn main(rt: HostRuntime) -> io::Result<()> {
-    let mut input = room();
-    let n = intake::read_full(&mut rt.stdin(), &mut input)?;
-    let mut out = [0; BUFFER_SIZE];
-    let k = reports::rulings_text(&input[..n], &mut out);
-    rt.write_all(&out[..k])
+    let text = text(&mut rt.stdin())?;
+    rt.write_all(text.as_bytes())
 }

@@ -1,10 +1,9 @@
 -- The record that an accepted opening leaves, from what its code makes: the trimmed graph, the padded multipliers, and one node in the
 -- stack's words. Assumes nothing.
-use Rattle.std.specs.Prelude.{◌≡◌, ℕ, zero, suc, ◌+◌, ◌*◌, ◌/◌, ◌%◌, ◌^◌, ◌≤◌, ◌<◌, length, get_or, set, ℤ, pos}
+use Rattle.std.specs.Prelude.{◌≡◌, ℕ, zero, suc, ◌+◌, ◌/◌, ◌%◌, ◌^◌, ◌≤◌, ◌<◌, length, get_or, set, ℤ, pos}
 use Rattle.std.proofs.Math.Path.{refl}
-use Rattle.std.proofs.Common.{sym, ap, ◌∙◌, subst, mod-eq_of_lt, arith, get_or-set_same, pow_mono, pow_pos}
+use Rattle.std.proofs.Common.{sym, ap, ◌∙◌, subst, arith, get_or-set_same}
 use mathlib.Core.List.{List, [], ◌∷◌}
-use Rattle.std.proofs.Math.Nat.{pow-succ'}
 use Rattle.std.proofs.Math.ListN.{replicate}
 use Rattle.lists.specs.Rows.{row, row-size, row_at}
 use Rattle.lists.specs.Fill.{fit, fill_is}
@@ -93,12 +92,6 @@ unfolding mark_of
 byte_excluded zero a b = absurd (a refl)
 byte_excluded (suc zero) a b = absurd (b refl)
 byte_excluded (suc (suc x)) a b = refl
-
--- one bit of a word, as code makes it
-pub one_bit : (j : ℕ) → j < 64 → 1 * 2 ^ j % 18446744073709551616 ≡ 2 ^ j
-one_bit j h =
-    ap (λ (x : ℕ). x % 18446744073709551616) (omega arith)
-    ∙ mod-eq_of_lt (omega (arith, pow-succ' 2 j, pow_pos j, pow_mono {i = suc j} {j = 64} h))
 
 -- the marks of a graph are those of its bytes
 graph-marks : (g : Graph) → marks_in g.m g.mark ≡ marks_of (network g)

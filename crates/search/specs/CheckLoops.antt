@@ -1,28 +1,22 @@
--- The record's check, as its loops go: what one place more tells, and what a word that is zero says of its number. Assumes nothing.
-use Rattle.std.specs.Prelude.{◌≡◌, refl, Bool, true, false, ℕ, ◌≤◌, ◌<◌, leb, eqb, ℤ, pos}
-use Rattle.std.proofs.Common.{sym, ap, ◌∙◌, subst, true≢false, to_z, of_z, leb-true, le-leb, eqb-true, eq-eqb}
-use Rattle.std.specs.Int.Signed.{mag}
-use Rattle.std.specs.Int.{w32, w64}
+-- The record's check, test by test: what a test says of what it tests. Assumes nothing.
+use Rattle.std.specs.Prelude.{◌≡◌, refl, Bool, true, false, ℕ, ◌≤◌, leb, eqb}
+use Rattle.std.proofs.Common.{sym, ◌∙◌, subst, true≢false, leb-true, le-leb, eqb-true, eq-eqb}
 use Rattle.lists.specs.Bools.{Says}
-use Rattle.integers.specs.Words.{back32, back64}
 use Rattle.search.specs.Record.{is_open}
 use Rattle.search.specs.Canonical.{Flags, Tidy, Stands, Canonical}
 use Rattle.search.specs.Check.{check, check_yes, check_no}
 use Rattle.search.specs.declared.Search.{Search}
-
--- ---- words that are zero
-
-pub zero32 : (z : ℤ) → mag z < 2147483648 → of_z w32 z ≡ 0 → z ≡ pos 0
-zero32 z h e = sym (back32 z h) ∙ ap (to_z w32) e
-
-pub zero64 : (z : ℤ) → mag z < 9223372036854775808 → of_z w64 z ≡ 0 → z ≡ pos 0
-zero64 z h e = sym (back64 z h) ∙ ap (to_z w64) e
 
 -- ---- what a test says
 
 pub says_both : (b : Bool) {P Q : Type 0} → (P → Q) → (Q → P) → Says b P → Says b Q
 says_both true f g h = f h
 says_both false f g h = λ q. h (g q)
+
+-- a test that fails, of what P asks too
+pub says_fails : (b : Bool) {P Q : Type 0} → Says b Q → b ≡ false → (P → Q) → Says b P
+says_fails true s e f = absurd (true≢false e)
+says_fails false s e f = λ p. s (f p)
 
 says_check : (s : Search) (b : Bool) → Says b (Canonical s) → b ≡ check s
 says_check s true h = sym (check_yes s h)

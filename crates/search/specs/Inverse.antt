@@ -11,6 +11,7 @@ use mir.Val as words
 use Rattle.lists.specs.Bools.{bit}
 use Rattle.lists.specs.Fill.{fit, fit_at, fit-fill, fit_cut, replicate-at, replicate_is}
 use Rattle.graph.specs.Limits.{max_vertices, max_edges}
+use Rattle.graph.specs.declared.Graph.{Graph}
 use Rattle.graph.specs.Edgeless.{edgeless}
 use Rattle.machine.specs.Machine.{Marks, Node, Progress, State, no_search, searching}
 use Rattle.tree_theory.specs.Inputs.{multipliers_fit}
@@ -166,6 +167,25 @@ decode-encode (searching s) h = ap searching (progress_back s h)
 
 -- ---- from a record
 
+-- a graph's arrays have the lengths of their types
+pub record GraphSized (g : Graph) : Type 0 where
+  pub a : length g.a ≡ max_edges
+  pub b : length g.b ≡ max_edges
+  pub cost : length g.cost ≡ max_edges
+  pub mark : length g.mark ≡ max_edges
+
+-- and so have a record's
+pub record Sized (r : Search) : Type 0 where
+  pub graph : GraphSized r.graph
+  pub multipliers : length r.multipliers ≡ max_vertices
+  pub carried : length r.carried ≡ carried_size
+  pub stack : length r.stack ≡ stack_size
+  pub best : length r.best ≡ max_edges
+
+-- a stack's words have 64 bits
+abbrev pub Words : List ℕ → Type 0
+Words l = (i : ℕ) → words.Fits w64 (get_or l i 0)
+
 -- the lengths of a record's arrays, and that the stack's words have 64 bits, which its type gives
 pub record Typed (r : Search) : Type 0 where
   pub a : length r.graph.a ≡ max_edges
@@ -185,6 +205,24 @@ zeros_past z n from l e h i b = go (dec_le (suc i) n)
     go : Dec (i < n) → get_or l i z ≡ z
     go (yes c) = h i c b
     go (no c) = get_or-eq_default l z (omega (arith, e))
+
+pub typed_of : (r : Search) → Sized r → Words r.stack → Typed r
+typed_of r z w = record {
+  a = z.graph.a;
+  b = z.graph.b;
+  cost = z.graph.cost;
+  mark = z.graph.mark;
+  multipliers = z.multipliers;
+  carried = z.carried;
+  stack = z.stack;
+  words = w;
+  best = z.best;
+}
+
+-- where no search is open, the words are zero
+pub typed_idle : (r : Search) → Sized r → r.depth ≡ 0 → StackTidy r.depth r.stack → Typed r
+typed_idle r z e t =
+    typed_of r z (λ i. record { fits = omega (arith, zeros_past 0 stack_size (node_words * r.depth) r.stack z.stack t i (omega (arith, e))) })
 
 module _ (r : Search) (t : Typed r) (f : Flags r) (u : Tidy r) where
   idle_back : is_open r ≡ false → Idle r → fresh ≡ r

@@ -1,7 +1,7 @@
 -- Nodes go on the stack and come off it: what storing the places of node p makes of a stack's cells, of its words and of what its nodes
 -- carry. Assumes nothing.
-use Rattle.std.specs.Prelude.{◌≡◌, refl, ◌≢◌, ◌⊎◌, List, ◌∷◌, ℕ, ◌+◌, ◌*◌, ◌≤◌, ◌<◌, length, get_or, set, replicate, ℤ, pos}
-use Rattle.std.proofs.Common.{sym, ap, ◌∙◌, subst, inl, inr, arith, length-set, get_or-set_same, get_or-set_other}
+use Rattle.std.specs.Prelude.{◌≡◌, refl, ◌≢◌, ◌⊎◌, List, ◌∷◌, ℕ, ◌+◌, ◌*◌, ◌≤◌, ◌<◌, length, get_or, replicate, ℤ, pos}
+use Rattle.std.proofs.Common.{sym, ap, ◌∙◌, subst, arith}
 use Rattle.std.proofs.Math.Decide.{ℕ_discrete}
 use Rattle.lists.specs.Fill.{fill-same, fit, fit_at, replicate-at}
 use Rattle.graph.specs.Limits.{max_vertices}
@@ -19,32 +19,6 @@ pub record Put {A : Type 0} (z : A) (at k : ℕ) (x l l' : List A) : Type 0 wher
   pub size : length l' ≡ length l
   pub new : (j : ℕ) → j < k → get_or l' (at + j) z ≡ get_or x j z
   pub old : (i : ℕ) → (i < at) ⊎ (at + k ≤ i) → get_or l' i z ≡ get_or l i z
-
-module _ {A : Type 0} (z : A) (at : ℕ) (x l : List A) where
-  pub put_none : Put z at 0 x l l
-  put_none = record { size = refl; new = λ j h. absurd (omega arith); old = λ i h. refl }
-
-  pub put-more : (k : ℕ) (l' : List A) (y : A) → y ≡ get_or x k z → at + k < length l' → Put z at k x l l' → Put z at (k + 1) x l (set l' (at + k) y)
-  put-more k l' y e b h = record {
-    size = length-set l' (at + k) y ∙ h.size;
-    new = λ j i. new j i (ℕ_discrete j k);
-    old = λ i d. get_or-set_other l' (at + k) i y z (off i d) ∙ h.old i (less i d);
-  }
-    where
-      new : (j : ℕ) → j < k + 1 → Dec (j ≡ k) → get_or (set l' (at + k) y) (at + j) z ≡ get_or x j z
-      new j i (yes q) = rw q (get_or-set_same l' (at + k) y z b ∙ e)
-      new j i (no q) = get_or-set_other l' (at + k) (at + j) y z (λ d. q (omega arith)) ∙ h.new j (omega arith)
-
-      off : (i : ℕ) → (i < at) ⊎ (at + (k + 1) ≤ i) → i ≢ at + k
-      off i (inl d) q = omega arith
-      off i (inr d) q = omega arith
-
-      less : (i : ℕ) → (i < at) ⊎ (at + (k + 1) ≤ i) → (i < at) ⊎ (at + k ≤ i)
-      less i (inl d) = inl d
-      less i (inr d) = inr (omega arith)
-
-  pub put_to : (k m : ℕ) (l' : List A) → k ≡ m → Put z at k x l l' → Put z at m x l l'
-  put_to k m l' e h = subst (λ (i : ℕ). Put z at i x l l') e h
 
 -- the words of node p, and what it carries
 abbrev pub PutRows : ℕ → List ℕ → List ℕ → List ℕ → Type 0

@@ -14,9 +14,8 @@ use Rattle.machine.specs.Refusals.{refused-leaves}
 use Rattle.search.specs.Record.{fresh, decode, encode}
 use Rattle.search.specs.Check.{check, check_yes, check_is}
 use Rattle.search.specs.Inverse.{Typed, encode_canonical, encode-decode, decode-kept}
-use Rattle.search.specs.Replies.{means, reply, lent}
+use Rattle.search.specs.Replies.{reply, lent}
 use Rattle.search.specs.ReplyCases.{lent_24, lent_same}
-use Rattle.search.specs.Theorem.{means-said}
 use Rattle.search.specs.declared.Search.{Search}
 
 -- 'What the record can be unfit for': "24 the record fails its own check, which docs/ states and which a fresh record and every record left
@@ -49,12 +48,12 @@ module _ (s : Search) (t : Typed s) where
   unfolding reply
   search_is c e = rw e
 
-  answer_is : (c : Call) → check s ≡ true → means (reply s c).answer ≡ (step (decode s) c).answer
+  answer_is : (c : Call) → check s ≡ true → (reply s c).answer ≡ (step (decode s) c).answer
   unfolding reply
-  answer_is c e = rw e (means-said (step (decode s) c).answer)
+  answer_is c e = rw e
 
   -- DEMAND 1: "a refusal leaves each lent list and the hunt record unchanged", whatever its number, 24 included
-  pub refused-same : (c : Call) (number place : ℕ) → means (reply s c).answer ≡ refused number place
+  pub refused-same : (c : Call) (number place : ℕ) → (reply s c).answer ≡ refused number place
       → ((reply s c).search ≡ s) × (lent s c ≡ lent_by c)
   refused-same c number place h = by_cases (check s)
       (λ e. let r = refused-leaves (decode s) c number place (sym (answer_is c e) ∙ h) in (
@@ -86,8 +85,8 @@ module _ (s : Search) (t : Typed s) where
       (encode_canonical (step (decode s) c).state (step_kept (decode s) c (decode-kept s t (check_is s e))))
 
   -- and every record left by an accepted call passes: the call has itself tested the record that it got
-  pub accepted_passes : (c : Call) → is_accepted (means (reply s c).answer) ≡ true → check (reply s c).search ≡ true
+  pub accepted_passes : (c : Call) → is_accepted ((reply s c).answer) ≡ true → check (reply s c).search ≡ true
   accepted_passes c h = by_cases (check s) (reply-passes c) (λ e. absurd (false≢true (sym (refuses_24 e) ∙ h)))
     where
-      refuses_24 : check s ≡ false → is_accepted (means (reply s c).answer) ≡ false
+      refuses_24 : check s ≡ false → is_accepted ((reply s c).answer) ≡ false
       refuses_24 e = unfold reply in rw e

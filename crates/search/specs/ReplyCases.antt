@@ -7,7 +7,7 @@ use Rattle.std.proofs.Math.Bool.{false}
 use Rattle.std.proofs.Math.Dec.{eqb}
 use Rattle.std.proofs.lemmas.List.{length-map}
 use borrow.Author.Tests.{eq-eqb, ne_eqb}
-use Rattle.lists.specs.Bools.{bit}
+use Rattle.lists.specs.Bools.{bit, by_cases}
 use Rattle.lists.specs.Fill.{fit, fit-size, fit_at}
 use Rattle.graph.specs.Limits.{max_edges}
 use Rattle.graph.specs.Valid.{Valid}
@@ -25,11 +25,8 @@ use Rattle.search.specs.Check.{check, check_is}
 use Rattle.search.specs.Incumbents.{byte_back, bits-size, bits_at}
 use Rattle.search.specs.Runs.Costs.{cost-bits}
 use Rattle.search.specs.Inverse.{Typed, encode-decode, decode-kept}
-use Rattle.search.specs.Replies.{said, refuses, reply, lent}
+use Rattle.search.specs.Replies.{Outcome, refuses, closed_fault, reply, lent}
 use Rattle.search.specs.declared.Search.{Search}
-use Rattle.search.specs.declared.Answer.{Answer}
-use Rattle.search.specs.declared.Answer.TheVariants.{Accepted, Searching, NoTour, Best}
-use Rattle.search.specs.declared.Outcome.{Outcome}
 
 -- the bytes of a kept tour are those that the record has for it
 tour_bytes_lem : (m : ℕ) (w : List ℕ) → ((i : ℕ) → i < m → get_or w i 0 ≤ 1) → fit m 0 w ≡ tour_bytes (bits m w)
@@ -44,9 +41,23 @@ tour_bytes_lem m w small =
     at (y ∷ r) zero = refl
     at (y ∷ r) (suc i) = at r i
 
+-- "run, tell, show, close"
+abbrev pub NeedsOpen : Call → Type 0
+NeedsOpen (opens a) = ⊥
+NeedsOpen (run budget) = Unit {0}
+NeedsOpen tell = Unit {0}
+NeedsOpen (show l) = Unit {0}
+NeedsOpen close = Unit {0}
+
+-- a record that passes its check, with a search open
+pub record IsOpen (s : Search) : Type 0 where
+  pub typed : Typed s
+  pub passes : check s ≡ true
+  pub opened : is_open s ≡ true
+
 module _ (s : Search) where
   -- the record as it was, with an answer
-  abbrev pub same : Answer → Outcome
+  abbrev pub same : machine.Answer → Outcome
   same a = record { search = s; answer = a }
 
   pub reply_24 : (c : Call) → check s ≡ false → reply s c ≡ refuses s 24
@@ -63,11 +74,11 @@ module _ (s : Search) where
 
     -- a call that leaves the state
     pub reply-same : (c : Call) (st : State) (a : machine.Answer) → decode s ≡ st → (step st c).state ≡ st → (step st c).answer ≡ a
-        → reply s c ≡ same (said a)
+        → reply s c ≡ same a
     unfolding reply
-    reply-same c st a d p q = rw (e, d, p, q) (ap (λ (r : Search). with_answer r (said a)) (ap encode (sym d) ∙ encode-decode s t canonical))
+    reply-same c st a d p q = rw (e, d, p, q) (ap (λ (r : Search). with_answer r a) (ap encode (sym d) ∙ encode-decode s t canonical))
       where
-        with_answer : Search → Answer → Outcome
+        with_answer : Search → machine.Answer → Outcome
         with_answer r b = record { search = r; answer = b }
 
     pub lent_same : (c : Call) (st : State) (l : List ℕ) → decode s ≡ st → (step st c).lent ≡ l → lent s c ≡ l
@@ -96,12 +107,27 @@ module _ (s : Search) where
         lent_same (show l) no_search l shut (unfold step in refl),
       )
 
+      -- but opening
+      pub reply_20 : (c : Call) → NeedsOpen c → reply s c ≡ refuses s 20
+      reply_20 (opens a) n = absurd n
+      reply_20 (run budget) n = run_20 budget
+      reply_20 tell n = tell_20
+      reply_20 (show l) n = (show_20 l).0
+      reply_20 close n = close_20
+
+      pub lent_20 : (c : Call) → NeedsOpen c → lent s c ≡ lent_by c
+      lent_20 (opens a) n = absurd n
+      lent_20 (run budget) n = lent_same (run budget) no_search [] shut (unfold step in refl)
+      lent_20 tell n = lent_same tell no_search [] shut (unfold step in refl)
+      lent_20 (show l) n = (show_20 l).1
+      lent_20 close n = lent_same close no_search [] shut (unfold step in refl)
+
       pub open_fault : (a : Opening) (k : ℕ) → fault a ≡ k → (k ≡ 0 → ⊥) → reply s (opens a) ≡ refuses s k
       open_fault a zero f h = absurd (h refl)
       open_fault a (suc k) f h =
           reply-same (opens a) no_search (refused (suc k) 0) shut (unfold step opened_by in rw f) (unfold step opened_by in rw f)
 
-      pub open_done : (a : Opening) → fault a ≡ 0 → reply s (opens a) ≡ record { search = record_of (begin (held a)); answer = Accepted }
+      pub open_done : (a : Opening) → fault a ≡ 0 → reply s (opens a) ≡ record { search = record_of (begin (held a)); answer = accepted }
       unfolding reply encode
       open_done a f = rw (e, shut, begins)
         where
@@ -124,7 +150,7 @@ module _ (s : Search) where
       pub open_21 : (a : Opening) → reply s (opens a) ≡ refuses s 21
       open_21 a = reply-same (opens a) (searching (progress_of s)) (refused 21 0) opened (unfold step in refl) (unfold step in refl)
 
-      pub close_done : reply s close ≡ record { search = fresh; answer = Accepted }
+      pub close_done : reply s close ≡ record { search = fresh; answer = accepted }
       unfolding reply encode
       close_done = rw (e, opened, closes)
         where
@@ -161,7 +187,7 @@ module _ (s : Search) where
 
       -- tell
 
-      told : (v : Verdict) → verdict (progress_of s) ≡ v → reply s tell ≡ same (said (tells v s.count))
+      told : (v : Verdict) → verdict (progress_of s) ≡ v → reply s tell ≡ same (tells v s.count)
       told v h = reply-same tell (searching (progress_of s)) (tells v s.count) opened (unfold step in refl) answer
         where
           stepped : (step (searching (progress_of s)) tell).answer ≡ tells (verdict (progress_of s)) (progress_of s).count
@@ -170,14 +196,14 @@ module _ (s : Search) where
           answer : (step (searching (progress_of s)) tell).answer ≡ tells v s.count
           answer = stepped ∙ ap (λ (w : Verdict). tells w (progress_of s).count) h ∙ ap (tells v) count_is
 
-      pub tell_going : (s.depth ≡ 0 → ⊥) → reply s tell ≡ same (Searching s.count)
+      pub tell_going : (s.depth ≡ 0 → ⊥) → reply s tell ≡ same (tells going_on s.count)
       tell_going h = told going_on (unfold verdict in rw (waiting h))
 
-      pub tell_none : s.depth ≡ 0 → has_tour s ≡ false → reply s tell ≡ same (NoTour s.count)
+      pub tell_none : s.depth ≡ 0 → has_tour s ≡ false → reply s tell ≡ same (tells none s.count)
       tell_none h k = told none (unfold verdict in rw (empty h, none_is k))
 
       pub tell_best : s.depth ≡ 0 → has_tour s ≡ true
-          → reply s tell ≡ same (Best (cost (network s.graph) (onetree.bytes s.best)) s.count)
+          → reply s tell ≡ same (tells (best (cost (network s.graph) (onetree.bytes s.best))) s.count)
       tell_best h k = told (best (cost (network s.graph) (onetree.bytes s.best))) (finds ∙ ap best paid)
         where
           finds : verdict (progress_of s) ≡ best (cost_of (network (progress_of s).opening.graph) (bits s.graph.m s.best))
@@ -190,7 +216,7 @@ module _ (s : Search) where
       -- show
 
       shows : (l x : List ℕ) (a : machine.Answer) → shown_by (progress_of s) l (finished (progress_of s)) (progress_of s).incumbent
-          ≡ record { state = searching (progress_of s); answer = a; lent = x } → (reply s (show l) ≡ same (said a)) × (lent s (show l) ≡ x)
+          ≡ record { state = searching (progress_of s); answer = a; lent = x } → (reply s (show l) ≡ same a) × (lent s (show l) ≡ x)
       shows l x a h = (
         reply-same (show l) (searching (progress_of s)) a opened (ap (λ (r : machine.Reply). r.state) stepped)
             (ap (λ (r : machine.Reply). r.answer) stepped),
@@ -224,7 +250,7 @@ module _ (s : Search) where
       few = kept.opening.valid.few
 
       pub show_done : (l : List ℕ) → s.depth ≡ 0 → has_tour s ≡ true → length l ≡ s.graph.m
-          → (reply s (show l) ≡ same Accepted) × (lent s (show l) ≡ fit s.graph.m 0 s.best)
+          → (reply s (show l) ≡ same accepted) × (lent s (show l) ≡ fit s.graph.m 0 s.best)
       show_done l h k n = let r = shows l (tour_bytes (bits s.graph.m s.best)) accepted accepts_it in (r.0, r.1 ∙ sym written)
         where
           on : eqb (length l) (progress_of s).opening.graph.m ≡ true
@@ -241,3 +267,14 @@ module _ (s : Search) where
       pub graph-valid : Valid s.graph
       unfolding progress_of opening_in
       graph-valid = kept.opening.valid
+
+  -- ---- what is tested before all input
+
+  module _ (t : check s ≡ true → Typed s) where
+    -- where it is passed
+    pub closed-passed : 0 ≡ closed_fault s → IsOpen s
+    closed-passed e = by_cases (check s)
+        (λ h. by_cases (is_open s)
+        (λ o. record { typed = t h; passes = h; opened = o })
+        (λ o. absurd (let z : 0 ≡ 20 = e ∙ rw (h, o) refl in omega arith)))
+        (λ h. absurd (let z : 0 ≡ 24 = e ∙ rw h refl in omega arith))

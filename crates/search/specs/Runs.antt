@@ -1,7 +1,6 @@
--- The code of a run: what a found tour costs (Costs), which tour is kept (Keeping), a frame, and what is lent beside it, after each outcome of a node
--- (Frames), the loop (Running), the call (RunCall).
+-- The code of a run: what a found tour costs (Costs), which tour is kept (Keeping), the record after each outcome of the top node (TopNode), and the
+-- loop and the call (Running).
 pub mod Costs
 pub mod Keeping
-pub mod Frames
+pub mod TopNode
 pub mod Running
-pub mod RunCall

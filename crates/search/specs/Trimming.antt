@@ -1,92 +1,71 @@
--- A loop that clears every place of a graph past its edges leaves the trimmed graph. Assumes nothing.
-use Rattle.std.specs.Prelude.{◌≡◌, refl, List, ℕ, suc, ◌+◌, ◌≤◌, ◌<◌, length, get_or, set, pos}
-use Rattle.std.proofs.Common.{sym, ◌∙◌, arith, length-set, get_or-set_same, get_or-set_other, ext_get_or}
-use Rattle.std.proofs.Math.Decide.{dec_le, ℕ_discrete}
+-- A graph with zeros in the place of what stands past its edges is the trimmed graph. Assumes nothing.
+use Rattle.std.specs.Prelude.{◌≡◌, List, ℕ, suc, ◌-◌, ◌≤◌, ◌<◌, ◌++◌, length, get_or, take, drop, replicate, ℤ, pos}
+use Rattle.std.proofs.Common.{sym, ap, ◌∙◌, arith, ext_get_or, get_or-take}
+use Rattle.std.proofs.Math.Decide.{dec_le}
+use Rattle.std.proofs.lemmas.List.{length-append, length-take, length-drop, length-replicate, get_or-append_right}
+use Rattle.std.proofs.Math.ListN.{get_or-append}
+use Rattle.machine.specs.Machine.{trimmed}
+use Rattle.lists.specs.Fill.{replicate-at}
 use Rattle.lists.specs.Rows.{row, row-size, row_at}
 use Rattle.graph.specs.declared.Graph.{Graph}
 use Rattle.graph.specs.Limits.{max_edges}
 use Rattle.graph.specs.Network.{place}
 use Rattle.graph.specs.Places.{place_at, place_past}
-use Rattle.machine.specs.Machine.{trimmed}
 
--- ---- one array: places m to k − 1 of l are cleared, those below m are l₀'s
+-- one array: from place m on, x in the place of what l has there
+module _ {A : Type 0} (z : A) (m : ℕ) (l x : List A) (few : m ≤ max_edges) (long : length l ≡ max_edges)
+    (is : x ≡ replicate (length (take (length l - m) (drop m l))) z) where
+  abbrev rest : List A
+  rest = drop (length l - m) (drop m l)
 
-pub record Clearing {A : Type 0} (z : A) (m k : ℕ) (l₀ l : List A) : Type 0 where
-  pub size : length l ≡ max_edges
-  pub kept : (j : ℕ) → j < m → get_or l j z ≡ get_or l₀ j z
-  pub gone : (j : ℕ) → m ≤ j → j < k → get_or l j z ≡ z
+  front : length (take m l) ≡ m
+  front = omega (arith, length-take m l)
 
-module _ {A : Type 0} (z : A) (m : ℕ) (l₀ : List A) where
-  clearing_none : length l₀ ≡ max_edges → Clearing z m m l₀ l₀
-  clearing_none e = record { size = e; kept = λ j h. refl; gone = λ j h i. absurd (omega arith) }
+  zeros : length x ≡ max_edges - m
+  zeros =
+      ap length is
+      ∙ length-replicate (length (take (length l - m) (drop m l))) z
+      ∙ omega (arith, length-take (length l - m) (drop m l), length-drop m l)
 
-  clearing_more : (k : ℕ) (l : List A) → m ≤ k → k < max_edges → Clearing z m k l₀ l → Clearing z m (k + 1) l₀ (set l k z)
-  clearing_more k l b h c = record {
-    size = length-set l k z ∙ c.size;
-    kept = λ j i. get_or-set_other l k j z z (omega arith) ∙ c.kept j i;
-    gone = λ j i u. gone j i u (ℕ_discrete j k);
-  }
+  size : length (take m l ++ (x ++ rest)) ≡ max_edges
+  size =
+      omega (
+        arith,
+        front,
+        zeros,
+        length-append (take m l) (x ++ rest),
+        length-append x rest,
+        length-drop (length l - m) (drop m l),
+        length-drop m l,
+      )
+
+  pub cleared : take m l ++ (x ++ rest) ≡ row max_edges (place z m l)
+  cleared =
+      ext_get_or z (take m l ++ (x ++ rest)) (row max_edges (place z m l)) (size ∙ sym (row-size max_edges (place z m l)))
+      (λ j h. at j (omega (arith, size)) (dec_le (suc j) m))
     where
-      gone : (j : ℕ) → m ≤ j → j < k + 1 → Dec (j ≡ k) → get_or (set l k z) j z ≡ z
-      gone j i u (yes e) = rw e (get_or-set_same l k z z (omega (arith, c.size)))
-      gone j i u (no e) = get_or-set_other l k j z z e ∙ c.gone j i (omega arith)
+      at : (j : ℕ) → j < max_edges → Dec (j < m) → get_or (take m l ++ (x ++ rest)) j z ≡ get_or (row max_edges (place z m l)) j z
+      at j h (yes i) =
+          get_or-append (take m l) (x ++ rest) z j (omega (arith, front))
+          ∙ get_or-take m l j z i
+          ∙ sym (row_at max_edges (place z m l) j z h ∙ place_at z m l j i)
+      at j h (no i) =
+          get_or-append_right (take m l) (x ++ rest) m j z front (omega arith)
+          ∙ get_or-append x rest z (j - m) (omega (arith, zeros))
+          ∙ ap (λ (y : List A). get_or y (j - m) z) is
+          ∙ replicate-at (length (take (length l - m) (drop m l))) z (j - m)
+          ∙ sym (row_at max_edges (place z m l) j z h ∙ place_past z m l j (omega arith))
 
-  clearing_is : (l : List A) → Clearing z m max_edges l₀ l → l ≡ row max_edges (place z m l₀)
-  clearing_is l c =
-      ext_get_or z l (row max_edges (place z m l₀)) (c.size ∙ sym (row-size max_edges (place z m l₀)))
-      (λ j h. at j (omega (arith, c.size)) (dec_le (suc j) m))
-    where
-      at : (j : ℕ) → j < max_edges → Dec (j < m) → get_or l j z ≡ get_or (row max_edges (place z m l₀)) j z
-      at j h (yes i) = c.kept j i ∙ sym (row_at max_edges (place z m l₀) j z h ∙ place_at z m l₀ j i)
-      at j h (no i) = c.gone j (omega arith) h ∙ sym (row_at max_edges (place z m l₀) j z h ∙ place_past z m l₀ j (omega arith))
-
--- ---- a graph
-
-pub record Trimming (g : Graph) (k : ℕ) (t : Graph) : Type 0 where
-  pub n : t.n ≡ g.n
-  pub m : t.m ≡ g.m
-  pub a : Clearing 0 g.m k g.a t.a
-  pub b : Clearing 0 g.m k g.b t.b
-  pub cost : Clearing (pos 0) g.m k g.cost t.cost
-  pub mark : Clearing 0 g.m k g.mark t.mark
-
-module _ (g : Graph) where
-  pub trimming_none : length g.a ≡ max_edges → length g.b ≡ max_edges → length g.cost ≡ max_edges → length g.mark ≡ max_edges
-      → Trimming g g.m g
-  trimming_none a b c d = record {
-    n = refl;
-    m = refl;
-    a = clearing_none 0 g.m g.a a;
-    b = clearing_none 0 g.m g.b b;
-    cost = clearing_none (pos 0) g.m g.cost c;
-    mark = clearing_none 0 g.m g.mark d;
-  }
-
-  pub trimming_more : (k : ℕ) (t : Graph) → g.m ≤ k → k < max_edges → Trimming g k t
-      → Trimming g (k + 1) (record {
-        n = t.n;
-        m = t.m;
-        a = set t.a k 0;
-        b = set t.b k 0;
-        cost = set t.cost k (pos 0);
-        mark = set t.mark k 0;
-      })
-  trimming_more k t b h c = record {
-    n = c.n;
-    m = c.m;
-    a = clearing_more 0 g.m g.a k t.a b h c.a;
-    b = clearing_more 0 g.m g.b k t.b b h c.b;
-    cost = clearing_more (pos 0) g.m g.cost k t.cost b h c.cost;
-    mark = clearing_more 0 g.m g.mark k t.mark b h c.mark;
-  }
-
-  pub trimming_is : (t : Graph) → Trimming g max_edges t → t ≡ trimmed g
-  unfolding trimmed
-  trimming_is t c = λ i. record {
-    n = c.n i;
-    m = c.m i;
-    a = clearing_is 0 g.m g.a t.a c.a i;
-    b = clearing_is 0 g.m g.b t.b c.b i;
-    cost = clearing_is (pos 0) g.m g.cost t.cost c.cost i;
-    mark = clearing_is 0 g.m g.mark t.mark c.mark i;
-  }
+-- and a graph
+pub trimmed_is : (g : Graph) (m : ℕ) (a b mark : List ℕ) (cost : List ℤ) → m ≡ g.m → a ≡ row max_edges (place 0 m g.a)
+    → b ≡ row max_edges (place 0 m g.b) → cost ≡ row max_edges (place (pos 0) m g.cost) → mark ≡ row max_edges (place 0 m g.mark)
+    → let t : Graph = record { n = g.n; m = g.m; a = a; b = b; cost = cost; mark = mark } in t ≡ trimmed g
+unfolding trimmed
+trimmed_is g m a b mark cost e p q r s = λ i. record {
+  n = g.n;
+  m = g.m;
+  a = (p ∙ ap (λ (k : ℕ). row max_edges (place 0 k g.a)) e) i;
+  b = (q ∙ ap (λ (k : ℕ). row max_edges (place 0 k g.b)) e) i;
+  cost = (r ∙ ap (λ (k : ℕ). row max_edges (place (pos 0) k g.cost)) e) i;
+  mark = (s ∙ ap (λ (k : ℕ). row max_edges (place 0 k g.mark)) e) i;
+}

@@ -3,6 +3,7 @@ ghost use Rattle.std.specs.Prelude.{◌≡◌, ℕ, ◌+◌, ◌^◌, ◌≤◌,
 ghost use Rattle.lists.specs.Fill.{fit};
 ghost use Rattle.graph.specs.Limits.{max_vertices, max_edges};
 ghost use Rattle.graph.specs.Network.{Mark, mark_of};
+ghost use Rattle.graph.specs.Refusals.{fault_of};
 ghost use Rattle.machine.specs.Machine.{trimmed};
 ghost use Rattle.machine.specs.Machine as Machine;
 ghost use Rattle.machine.specs.Calls as Calls;
@@ -14,49 +15,43 @@ ghost use Rattle.search.specs.Begun.{Reaches};
 
 use crate::record::{ROW_WORDS, WORD_BITS};
 use crate::{CARRIED_SIZE, STACK_SIZE, Search, stack};
-use graph::{FREE, Graph, MAX_EDGES, MAX_VERTICES, REQUIRED, wide};
+use graph::{FREE, Graph, MAX_EDGES, MAX_VERTICES, REQUIRED, Refusal};
 use machine::Settings;
 use node::{MAX_STEP, MAX_SWEEPS, NODE_WORDS};
 
-// The first of 15, 11, 12, 13, 14, 32 that applies, or 0.
-pub(crate) fn fault(g: Graph, multipliers: &[i32], settings: Settings) -> u32
-    ensures { result ≡ Calls.fault (opening_of g multipliers.now settings) }
+// The first of 15, 11, 12, 13, 14, 32 that applies.
+pub(crate) fn fault(g: &Graph, multipliers: &[i32], settings: Settings) -> Result<(), Refusal>
+    ensures { fault_of result ≡ Calls.fault (opening_of g.now multipliers.now settings) }
 {
-    if !graph::check(g) {
-        return 15;
+    if !g.check() {
+        return Err(Refusal::Graph);
     }
-    if multipliers.len() != wide(g.n) {
-        return 11;
+    if multipliers.len() != usize::from(g.n) {
+        return Err(Refusal::Length);
     }
     if !onetree::multipliers_fit(multipliers) {
-        return 12;
+        return Err(Refusal::Multiplier);
     }
     if !onetree::ceiling_fits(settings.ceiling) {
-        return 13;
+        return Err(Refusal::Ceiling);
     }
-    if settings.sweeps > MAX_SWEEPS {
-        return 14;
-    }
-    if settings.step > MAX_STEP {
-        return 14;
+    if settings.sweeps > MAX_SWEEPS || settings.step > MAX_STEP {
+        return Err(Refusal::Settings);
     }
     onetree::denominator_fault(settings.denominator)
 }
 
 // The graph with zero at every place past its edges.
-fn trim(g: Graph) -> Graph
-    requires { g.m ≤ max_edges }
-    ensures { result ≡ trimmed g }
+fn trim(g: &Graph) -> Graph
+    requires { g.now.m ≤ max_edges }
+    ensures { result ≡ trimmed g.now }
 {
-    let mut t = g;
-    let mut k = wide(g.m);
-    while k < MAX_EDGES {
-        t.a[k] = 0;
-        t.b[k] = 0;
-        t.cost[k] = 0;
-        t.mark[k] = 0;
-        k = k + 1;
-    }
+    let m = usize::from(g.m);
+    let mut t = *g;
+    t.a[m..].fill(0);
+    t.b[m..].fill(0);
+    t.cost[m..].fill(0);
+    t.mark[m..].fill(0);
     t
 }
 
@@ -65,21 +60,17 @@ fn padded(d: &[i32]) -> [i32; MAX_VERTICES]
     requires { length d.now ≤ max_vertices }
     ensures { result ≡ fit max_vertices (pos 0) d.now }
 {
-    let mut r = [0i32; MAX_VERTICES];
-    let mut k = 0;
-    while k < d.len() {
-        r[k] = d[k];
-        k = k + 1;
-    }
+    let mut r = [0; MAX_VERTICES];
+    r[..d.len()].copy_from_slice(d);
     r
 }
 
 // Bit j of word i, which is clear, is set.
 fn set_bit(rows: &mut [u64; NODE_WORDS], i: usize, j: usize)
-    requires { (i < node_words) × (j < 64) × (length rows.old ≡ node_words) × (get_or rows.old i 0 + 2 ^ j < 2 ^ 64) }
+    requires { (i < node_words) × (j < 64) × (get_or rows.old i 0 + 2 ^ j < 2 ^ 64) }
     ensures { rows.new ≡ set rows.old i (get_or rows.old i 0 + 2 ^ j) }
 {
-    rows[i] = rows[i] + (1u64 << j);
+    rows[i] += 1 << j;
 }
 
 // The edge at place k, free so far, gets the mark x.
@@ -88,53 +79,46 @@ fn mark_edge(rows: &mut [u64; NODE_WORDS], k: usize, x: u8)
     ensures { (m : ℕ) (f : ℕ → Mark) → Reaches m f k rows.old → f k ≡ mark_of x
         → rows.new ≡ rows_of (partly m f (k + 1)) }
 {
-    if x == FREE {
-        return;
-    }
     let i = k / WORD_BITS;
     let j = k % WORD_BITS;
-    if x == REQUIRED {
-        set_bit(rows, i, j);
-        return;
+    match x {
+        FREE => {}
+        REQUIRED => set_bit(rows, i, j),
+        _ => set_bit(rows, ROW_WORDS + i, j),
     }
-    set_bit(rows, ROW_WORDS + i, j);
 }
 
-// The words of the marks of m edges.
-fn rows_of(m: usize, marks: [u8; MAX_EDGES]) -> [u64; NODE_WORDS]
-    requires { m ≤ max_edges }
-    ensures { result ≡ rows_of (marks_in m marks) }
+// The words of a graph's marks.
+fn rows_of(g: &Graph) -> [u64; NODE_WORDS]
+    requires { g.now.m ≤ max_edges }
+    ensures { result ≡ rows_of (marks_in g.now.m g.now.mark) }
 {
-    let mut rows = [0u64; NODE_WORDS];
-    let mut k = 0;
-    while k < m {
-        mark_edge(&mut rows, k, marks[k]);
-        k = k + 1;
+    let mut rows = [0; NODE_WORDS];
+    for k in 0..usize::from(g.m) {
+        mark_edge(&mut rows, k, g.mark[k]);
     }
     rows
 }
 
-pub(crate) fn begin(g: Graph, multipliers: &[i32], settings: Settings) -> Search
-    requires { Calls.fault (opening_of g multipliers.now settings) ≡ 0 }
-    ensures { result ≡ record_of (Machine.begin (Machine.held (opening_of g multipliers.now settings))) }
+pub(crate) fn begin(g: &Graph, multipliers: &[i32], settings: Settings) -> Search
+    requires { Calls.fault (opening_of g.now multipliers.now settings) ≡ 0 }
+    ensures { result ≡ record_of (Machine.begin (Machine.held (opening_of g.now multipliers.now settings))) }
 {
-    let t = trim(g);
-    let d = padded(multipliers);
-    let marks = t.mark;
-    let rows = rows_of(wide(t.m), marks);
-    let mut nodes = [0u64; STACK_SIZE];
-    stack::put(&mut nodes, 0, &rows);
-    let mut carried = [0i32; CARRIED_SIZE];
-    stack::put_carried(&mut carried, 0, &d);
+    let graph = trim(g);
+    let multipliers = padded(multipliers);
+    let mut nodes = [0; STACK_SIZE];
+    stack::put(&mut nodes, 0, &rows_of(&graph));
+    let mut carried = [0; CARRIED_SIZE];
+    stack::put(&mut carried, 0, &multipliers);
     Search {
-        settings: settings,
+        settings,
         upper: settings.ceiling,
         count: 0,
         stack: nodes,
         depth: 1,
-        graph: t,
-        multipliers: d,
-        carried: carried,
+        graph,
+        multipliers,
+        carried,
         best: [0; MAX_EDGES],
         open: 1,
         has_best: 0,

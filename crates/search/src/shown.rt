@@ -5,13 +5,9 @@ ghost use Rattle.graph.specs.Limits.{max_edges};
 
 use graph::MAX_EDGES;
 
-pub(crate) fn show_tour(best: [u8; MAX_EDGES], out: &mut [u8])
+pub(crate) fn show_tour(best: &[u8; MAX_EDGES], out: &mut [u8])
     requires { length out.old ≤ max_edges }
-    ensures { out.new ≡ fit (length out.old) 0 best }
+    ensures { out.new ≡ fit (length out.old) 0 best.now }
 {
-    let mut k = 0;
-    while k < out.len() {
-        out[k] = best[k];
-        k = k + 1;
-    }
+    out.copy_from_slice(&best[..out.len()]);
 }

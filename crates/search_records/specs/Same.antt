@@ -2,15 +2,14 @@
 use Rattle.std.specs.Prelude.{◌≡◌, refl, List, [], ◌∷◌}
 use Rattle.std.proofs.Math.Path.{ap}
 use Rattle.machine.specs.Machine.{State, no_search}
-use Rattle.machine.specs.Calls.{Call, step, state_after, History, no_opening, history_after}
+use Rattle.machine.specs.Calls.{Call, Answer, step, state_after, History, no_opening, history_after}
 use Rattle.machine.specs.Calls as calls
 use Rattle.machine.specs.Kept.{KeptState}
 use Rattle.machine.proofs.Preserved.{step_kept}
 use Rattle.search.specs.Record.{encode}
 use Rattle.search.specs.Inverse.{decode-encode}
+use Rattle.search.specs.Replies.{Outcome}
 use Rattle.search.specs.Theorem.{encode-passes, reply_is, lent_is}
-use Rattle.search.specs.declared.Answer.{Answer}
-use Rattle.search.specs.declared.Outcome.{Outcome}
 use Rattle.lent_records.specs.Machine.{after, leaves, noted}
 use Rattle.lent_records.specs.Following.{Follows}
 use Rattle.search_records.specs.Searching.{search_machine, note}

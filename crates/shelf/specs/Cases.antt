@@ -1,106 +1,130 @@
 -- The replies of save and back, case by case, as their code goes: what tell says of a record, whether every place passes, the refusals in their
 -- order. Assumes nothing.
-use Rattle.std.specs.Prelude.{◌≡◌, Bool, true, false, not, cond, ◌&&◌, leb, length, get_or, set}
+use Rattle.std.specs.Prelude.{◌≡◌, Bool, true, false, not, cond, ◌&&◌, length, get_or, set, Ok, Err}
 use Rattle.std.proofs.Math.Path.{refl}
-use Rattle.std.proofs.Common.{sym, ap, ◌∙◌, arith, le-leb}
+use Rattle.std.proofs.Common.{sym, ap, ◌∙◌, arith}
 use mathlib.Core.List.{List, [], ◌∷◌, map}
 use Prim.Native.Nat.{ℕ, zero, suc, ◌-◌, ◌≤◌, ◌<◌}
 use Rattle.std.proofs.lemmas.List.{length-map}
-use Rattle.std.proofs.lemmas.Bool.{lt-leb}
-use Rattle.lists.specs.Bools.{and_both}
+use Rattle.lists.specs.Bools.{by_cases, and_both}
+use Rattle.std.specs.Result.{is_ok}
+use Rattle.std.specs.List.{list_all}
 use Rattle.lists.specs.All.{every_of}
+use Rattle.graph.specs.declared.refusals.Refusal.{Refusal}
+use Rattle.graph.specs.declared.refusals.Refusal.TheVariants.{Record}
+use Rattle.graph.specs.Refusals.{number, number-injective}
 use Rattle.lent_records.specs.Places.{is_name, name_range, under, under-map, put}
 use Rattle.machine.specs.Machine.{State, no_search, searching}
-use Rattle.machine.specs.Calls.{tell, Verdict, going_on, none, best, tells, verdict, step}
+use Rattle.machine.specs.Calls.{Call, tell, Verdict, refused, accepted, tells, verdict, step}
 use Rattle.search.specs.Record.{fresh, decode, encode}
 use Rattle.search.specs.Check.{check}
 use Rattle.search.specs.Inverse.{decode-encode}
-use Rattle.search.specs.Replies.{said, reply}
-use Rattle.search.specs.ReplyCases.{reply_24}
+use Rattle.search.specs.Replies.{means, Outcome, reply}
 use Rattle.search.specs.declared.Search.{Search}
-use Rattle.search.specs.declared.Answer.TheVariants.{Refused, Accepted}
-use Rattle.search.specs.declared.Outcome.{Outcome}
+use Rattle.search.specs.declared.Said.{Said}
+use Rattle.search.specs.declared.Said.TheVariants.{Accepted, GoingOn, Finished, Searching, NoTour, Best}
 use Rattle.search_records.specs.Searching.{search_machine, searches, is_open}
 use Rattle.shelf_theory.specs.Shelves.{each, save_fault, back_fault, answer_by}
 use Rattle.shelf_theory.specs.ShelfRecords.{sound_both, save_fault_on, back_fault_on, next_on, answer_on}
 use Rattle.shelf.specs.declared.Shelf.{Shelf}
-use Rattle.shelf.specs.declared.Saved.{Saved}
-use Rattle.shelf.specs.Replies.{both, plain_calls, save_reply, back_reply, number_of, stands, save_number, back_number}
-
--- ---- a name
-
-pub name_low : (k : ℕ) → k < 1 → is_name k ≡ false
-name_low k h = ap (λ (b : Bool). b && leb k 8) (lt-leb 1 k h)
-
-pub name_is : (k : ℕ) → 1 ≤ k → leb k 8 ≡ is_name k
-name_is k h = sym (ap (λ (b : Bool). b && leb k 8) (le-leb 1 k h))
+use Rattle.shelf.specs.Replies.{both, plain_calls, Saved, save_reply, back_reply, open_in, save_number, back_number}
 
 -- ---- a record
 
-told-number : (v : Verdict) (n : ℕ) → number_of (said (tells v n)) ≡ 0
-told-number going_on n = refl
-told-number none n = refl
-told-number (best c) n = refl
+-- an answer that is no refusal tells of a search
+told_open : (v : Verdict) (n k p : ℕ) → refused k p ≡ tells v n → ⊥
+told_open v n k p e = cc
 
-state-number : (st : State) → number_of (said (step st tell).answer) ≡ cond (is_open st) 0 20
+state-told : (st : State) (x : Said) → means (Ok x) ≡ (step st tell).answer → is_open st ≡ true
 unfolding step
-state-number no_search = refl
-state-number (searching s) = told-number (verdict s) s.count
+state-told no_search x e = absurd (not_refused x e)
+  where
+    not_refused : (x : Said) → means (Ok x) ≡ refused 20 0 → ⊥
+    not_refused Accepted e = cc
+    not_refused (GoingOn n) e = cc
+    not_refused (Finished n) e = cc
+    not_refused (Searching n) e = cc
+    not_refused (NoTour n) e = cc
+    not_refused (Best c n) e = cc
+state-told (searching s) x e = refl
+
+state-refused : (st : State) (r : Refusal) → means (Err r) ≡ (step st tell).answer → is_open st ≡ false
+unfolding step
+state-refused no_search r e = refl
+state-refused (searching s) r e = absurd (told_open (verdict s) s.count (number r) 0 e)
+
+-- tell's refusals of a record that passes its check have another number
+not_24 : (st : State) (r : Refusal) → means (Err r) ≡ (step st tell).answer → number r ≡ 20
+unfolding step
+not_24 no_search r e = cc
+not_24 (searching s) r e = absurd (told_open (verdict s) s.count (number r) 0 e)
 
 module _ (s : Search) where
-  passing : check s ≡ true → stands s ≡ cond (is_open (decode s)) 0 20
-  unfolding stands
-  passing e = rw e
-
-  failing : check s ≡ false → stands s ≡ 24
-  unfolding stands
-  failing e = rw e
-
-  answering : check s ≡ true → number_of (reply s tell).answer ≡ cond (is_open (decode s)) 0 20
+  passing : (c : Call) → check s ≡ true → (reply s c).answer ≡ (step (decode s) c).answer
   unfolding reply
-  answering e = rw e (state-number (decode s))
+  passing c e = rw e
 
-  pub tell_stands : number_of (reply s tell).answer ≡ stands s
-  tell_stands = go (check s) refl
+  failing : (c : Call) → check s ≡ false → (reply s c).answer ≡ refused 24 0
+  unfolding reply
+  failing c e = rw e
+
+  -- what the code sees in each case of what tell answers
+  pub told : (x : Said) → means (Ok x) ≡ (reply s tell).answer → Ok true ≡ open_in s
+  unfolding open_in
+  told x e =
+      by_cases (check s)
+      (λ p. rw (p, state-told (decode s) x (e ∙ passing tell p)))
+      (λ p. absurd (not_refused x (e ∙ failing tell p)))
     where
-      go : (b : Bool) → check s ≡ b → number_of (reply s tell).answer ≡ stands s
-      go true e = answering e ∙ sym (passing e)
-      go false e = ap (λ (o : Outcome). number_of o.answer) (reply_24 s tell e) ∙ sym (failing e)
+      not_refused : (x : Said) → means (Ok x) ≡ refused 24 0 → ⊥
+      not_refused Accepted e = cc
+      not_refused (GoingOn n) e = cc
+      not_refused (Finished n) e = cc
+      not_refused (Searching n) e = cc
+      not_refused (NoTour n) e = cc
+      not_refused (Best c n) e = cc
 
-  open_number : (b : Bool) → ◌≡◌ {A = ℕ} (cond b 0 20) 24 → ⊥
-  open_number true h = omega arith
-  open_number false h = omega arith
+  pub broken : means (Err Record) ≡ (reply s tell).answer → Err Record ≡ open_in s
+  unfolding open_in
+  broken e =
+      by_cases (check s)
+      (λ p. absurd (let z : ◌≡◌ {A = ℕ} 24 20 = not_24 (decode s) Record (e ∙ passing tell p) in omega arith))
+      (λ p. rw p)
 
-  pub failing_24 : stands s ≡ 24 → check s ≡ false
-  failing_24 h = go (check s) refl
+  pub shut : (r : Refusal) → means (Err r) ≡ (reply s tell).answer → ¬ (r ≡ Record) → Ok false ≡ open_in s
+  unfolding open_in
+  shut r e n =
+      by_cases (check s)
+      (λ p. rw (p, state-refused (decode s) r (e ∙ passing tell p)))
+      (λ p. let same : means (Err r) ≡ refused 24 0 = e ∙ failing tell p in
+      absurd (n (number-injective r Record cc)))
+
+  -- and what it has of the record
+  pub passes : (b : Bool) → open_in s ≡ Ok b → (check s ≡ true) × (is_open (decode s) ≡ b)
+  unfolding open_in
+  passes b e = by_cases (check s) (λ p. let q = (rw p at e) in (p, cc)) (λ p. let q = (rw p at e) in absurd (no b q))
     where
-      go : (b : Bool) → check s ≡ b → check s ≡ false
-      go true e = absurd (open_number (is_open (decode s)) (sym (passing e) ∙ h))
-      go false e = e
+      no : (b : Bool) → Err Record ≡ Ok b → ⊥
+      no b q = cc
 
-  pub passing_24 : (stands s ≡ 24 → ⊥) → check s ≡ true
-  passing_24 h = go (check s) refl
+  pub fails : (r : Refusal) → open_in s ≡ Err r → (check s ≡ false) × (r ≡ Record)
+  unfolding open_in
+  fails r e = by_cases (check s) (λ p. let q = (rw p at e) in absurd (no (is_open (decode s)) q)) (λ p. let q = (rw p at e) in (p, cc))
     where
-      go : (b : Bool) → check s ≡ b → check s ≡ true
-      go true e = e
-      go false e = absurd (h (failing e))
+      no : (b : Bool) → Ok b ≡ Err r → ⊥
+      no b q = cc
 
-  module _ (e : check s ≡ true) where
-    pub closed_20 : stands s ≡ 20 → is_open (decode s) ≡ false
-    closed_20 h = go (is_open (decode s)) refl
-      where
-        go : (b : Bool) → is_open (decode s) ≡ b → is_open (decode s) ≡ false
-        go true i = absurd (let z : cond true 0 20 ≡ 20 = ap (λ (b : Bool). cond b 0 20) (sym i) ∙ sym (passing e) ∙ h in omega arith)
-        go false i = i
-
-    pub open_20 : (stands s ≡ 20 → ⊥) → is_open (decode s) ≡ true
-    open_20 h = go (is_open (decode s)) refl
-      where
-        go : (b : Bool) → is_open (decode s) ≡ b → is_open (decode s) ≡ true
-        go true i = i
-        go false i = absurd (h (passing e ∙ ap (λ (b : Bool). cond b 0 20) i))
+  pub sound_is : is_ok (open_in s) ≡ check s
+  unfolding open_in
+  sound_is = by_cases (check s) (λ p. rw p) (λ p. rw p)
 
 -- ---- every place
+
+-- std's word for it
+pub every_is : {A : Type 0} (f : A → Bool) (xs : List A) → every_of f xs ≡ list_all f xs
+unfolding every_of
+every_is f [] = refl
+every_is f (x ∷ xs) = ap (λ (b : Bool). f x && b) (every_is f xs)
 
 -- an array of records has the length of its type
 pub long_of : (X Y : Type 0) (f : X → Y) (l : List X) (n : ℕ) → length (map f l) ≡ n → length l ≡ n
@@ -117,22 +141,11 @@ and_false true c e = e
 and_false false c e = refl
 
 module _ {A : Type 0} (f : A → Bool) (z : A) where
-  pub each-passes : (l : List A) → ((k : ℕ) → k < length l → f (get_or l k z) ≡ true) → every_of f l ≡ true
-  unfolding every_of
-  each-passes [] h = refl
-  each-passes (x ∷ l) h = rw (h 0 (omega arith)) (each-passes l (λ k b. h (suc k) (omega arith)))
-
   pub at-passes : (l : List A) (k : ℕ) → k < length l → every_of f l ≡ true → f (get_or l k z) ≡ true
   unfolding every_of
   at-passes [] k b h = absurd (omega arith)
   at-passes (x ∷ l) zero b h = (and_both (f x) (every_of f l) h).0
   at-passes (x ∷ l) (suc k) b h = at-passes l k (omega arith) (and_both (f x) (every_of f l) h).1
-
-  pub one_fails : (l : List A) (k : ℕ) → k < length l → f (get_or l k z) ≡ false → every_of f l ≡ false
-  unfolding every_of
-  one_fails [] k b h = absurd (omega arith)
-  one_fails (x ∷ l) zero b h = rw h
-  one_fails (x ∷ l) (suc k) b h = and_false (f x) (every_of f l) (one_fails l k (omega arith) h)
 
 -- ---- the refusals in their order
 
@@ -165,6 +178,13 @@ module _ (s : Search) (h : Shelf) (k : ℕ) where
 
   pub back_24_shelf : every_of check h.places ≡ false → back_number s h k ≡ 24
   back_24_shelf e = unsound_back (sound-h e)
+
+  -- a record that fails its check
+  pub save_unfit : (r : Refusal) → open_in s ≡ Err r → number r ≡ save_number s h k
+  save_unfit r e = let f = fails s r e in ap number f.1 ∙ sym (save_24 f.0)
+
+  pub back_unfit : (r : Refusal) → open_in s ≡ Err r → number r ≡ back_number s h k
+  back_unfit r e = let f = fails s r e in ap number f.1 ∙ sym (back_24 f.0)
 
   module _ (e : check s ≡ true) (g : every_of check h.places ≡ true) where
     both-sound : sound_both plain_calls (both s h) ≡ true
@@ -257,41 +277,41 @@ module _ (h : Shelf) (k : ℕ) (long : length h.places ≡ 8) (r : (1 ≤ k) × 
   place-passes e = ap check (sym (place_at fresh)) ∙ at-passes check fresh h.places (k - 1) (omega (arith, long, r)) e
 
 module _ (s : Search) (h : Shelf) (k : ℕ) where
-  kept_save : (n : ℕ) → save_number s h k ≡ suc n → record { shelf = h; answer = Refused (suc n) 0 } ≡ save_reply s h k
+  kept_save : (n : ℕ) → save_number s h k ≡ suc n → record { shelf = h; answer = refused (suc n) 0 } ≡ save_reply s h k
   unfolding save_reply save_number next_on answer_on answer_by
   kept_save n e = rw e
 
-  pub save_refused : (n : ℕ) → save_number s h k ≡ n → (n ≡ 0 → ⊥) → record { shelf = h; answer = Refused n 0 } ≡ save_reply s h k
+  pub save_refused : (n : ℕ) → save_number s h k ≡ n → (n ≡ 0 → ⊥) → record { shelf = h; answer = refused n 0 } ≡ save_reply s h k
   save_refused zero e f = absurd (f refl)
   save_refused (suc n) e f = kept_save n e
 
-  saved-at : save_number s h k ≡ 0 → record { shelf = record { places = put h.places k s }; answer = Accepted } ≡ save_reply s h k
+  saved-at : save_number s h k ≡ 0 → record { shelf = record { places = put h.places k s }; answer = accepted } ≡ save_reply s h k
   unfolding save_reply save_number next_on answer_on answer_by
   saved-at e = rw e
 
   pub save_accepted : save_number s h k ≡ 0
-      → record { shelf = record { places = set h.places (k - 1) s }; answer = Accepted } ≡ save_reply s h k
+      → record { shelf = record { places = set h.places (k - 1) s }; answer = accepted } ≡ save_reply s h k
   save_accepted e =
       ap (λ (l : List Search). with_places l) (put_is h.places k s (save_range s h k e).0) ∙ saved-at e
     where
       with_places : List Search → Saved
-      with_places l = record { shelf = record { places = l }; answer = Accepted }
+      with_places l = record { shelf = record { places = l }; answer = accepted }
 
-  kept_back : (n : ℕ) → back_number s h k ≡ suc n → record { search = s; answer = Refused (suc n) 0 } ≡ back_reply s h k
+  kept_back : (n : ℕ) → back_number s h k ≡ suc n → record { search = s; answer = refused (suc n) 0 } ≡ back_reply s h k
   unfolding back_reply back_number next_on answer_on answer_by
   kept_back n e = rw e
 
-  pub back_refused : (n : ℕ) → back_number s h k ≡ n → (n ≡ 0 → ⊥) → record { search = s; answer = Refused n 0 } ≡ back_reply s h k
+  pub back_refused : (n : ℕ) → back_number s h k ≡ n → (n ≡ 0 → ⊥) → record { search = s; answer = refused n 0 } ≡ back_reply s h k
   back_refused zero e f = absurd (f refl)
   back_refused (suc n) e f = kept_back n e
 
-  brought : back_number s h k ≡ 0 → record { search = under fresh h.places k; answer = Accepted } ≡ back_reply s h k
+  brought : back_number s h k ≡ 0 → record { search = under fresh h.places k; answer = accepted } ≡ back_reply s h k
   unfolding back_reply back_number next_on answer_on answer_by
   brought e = rw e
 
   pub back_accepted : (t : Search) → back_number s h k ≡ 0 → t ≡ under fresh h.places k
-      → record { search = t; answer = Accepted } ≡ back_reply s h k
+      → record { search = t; answer = accepted } ≡ back_reply s h k
   back_accepted t e f = ap (λ (u : Search). with_search u) f ∙ brought e
     where
       with_search : Search → Outcome
-      with_search u = record { search = u; answer = Accepted }
+      with_search u = record { search = u; answer = accepted }

@@ -1,15 +1,14 @@
 -- DEMAND 3, over whole lists of opening, run, tell, show, close, save and back calls from fresh records, refused calls included: the statement,
--- once, for every way in which an answer can be said (`f`). Nothing is proved here. Two ways are: this crate's `demand_3` has the answers as they
--- are, crate ffi's `demand_3_exported` the numbers. What it speaks of is defined in tours' Tours (a tour), machine's Machine, Calls and Demand3 (the
+-- once, for every way in which an answer of the machine can be said (`f`). Nothing is proved here. Two ways are: this crate's `demand_3` has what
+-- the answers mean (`means` of crate search, `meaning` of Replies), crate ffi's `demand_3_exported` the numbers. What it speaks of is defined in tours' Tours (a tour), machine's Machine, Calls and Demand3 (the
 -- machine, its calls, what a finished search says), shelf_theory's Shelves (saved states) and ShelfRecords (the calls on two records).
 use Rattle.std.specs.Prelude.{◌≡◌, List, ℕ, suc, ◌-◌, ◌^◌, ◌≤◌}
 use Rattle.graph.specs.Network.{network}
 use Rattle.tours.specs.OneNetwork.{OneNetwork}
 use Rattle.machine.specs.Machine.{Opening, State}
+use Rattle.machine.specs.Calls as machine
 use Rattle.machine.specs.Calls.{Call, Verdict, History, no_opening, since, free_at_start}
 use Rattle.machine.specs.Demand3.{NumberedAlike, Finished, Says, ShowAlike}
-use Rattle.search.specs.Replies.{said}
-use Rattle.search.specs.declared.Answer.{Answer}
 use Rattle.lent_records.specs.Machine.{Machine, leaves}
 use Rattle.lent_records.specs.Records.{Interface, record_of, AsTheMachine}
 use Rattle.search_records.specs.Searching.{search_machine, searches, note}
@@ -44,24 +43,24 @@ pub record LeavesFinished (cs : List AnyCall) (o : Opening) : Type 0 where
 
 -- ---- the seven calls, each answer said by f
 
-abbrev pub calls_said : {A : Type 0} → (Answer → A) → Interface search_shelved
+abbrev pub calls_said : {A : Type 0} → (machine.Answer → A) → Interface search_shelved
 calls_said f = shelf_calls searches (search_calls f)
 
 -- "What it tells or shows is what tell, or show with a list of m bytes, gives next": after a list that leaves a finished search, opened with o
-abbrev pub SaysAfter : {A : Type 0} → (Answer → A) → List AnyCall → Opening → Verdict → Type 0
+abbrev pub SaysAfter : {A : Type 0} → (machine.Answer → A) → List AnyCall → Opening → Verdict → Type 0
 SaysAfter f cs o v =
     let r = record_of (calls_said f) cs in
-    Says (λ a. f (said a)) (λ c. (calls_said f).answer r (plain c)) (λ c. (calls_said f).list r (plain c)) o v
+    Says f (λ c. (calls_said f).answer r (plain c)) (λ c. (calls_said f).list r (plain c)) o v
 
 -- of two lists: show with one list of bytes is answered alike, and leaves it with the same bytes
-abbrev pub ShowAlikeAfter : {A : Type 0} → (Answer → A) → List AnyCall → List AnyCall → Type 0
+abbrev pub ShowAlikeAfter : {A : Type 0} → (machine.Answer → A) → List AnyCall → List AnyCall → Type 0
 ShowAlikeAfter f cs ds =
     let r = record_of (calls_said f) cs in
     let q = record_of (calls_said f) ds in
     ShowAlike (λ c. (calls_said f).answer r (plain c)) (λ c. (calls_said f).list r (plain c)) (λ c. (calls_said f).answer q (plain c))
     (λ c. (calls_said f).list q (plain c))
 
-pub record Demand3 {A : Type 0} (f : Answer → A) : Type 0 where
+pub record Demand3 {A : Type 0} (f : machine.Answer → A) : Type 0 where
   -- "For every list of opening, run, tell, show and close calls on one record, refused ones included, from a fresh record .. each call answers
   -- as document 01's machine does", and "Demand 3 covers these lists too": both records to the byte, and 24 never
   pub equal : (cs : List AnyCall) → AsTheMachine (calls_said f) cs

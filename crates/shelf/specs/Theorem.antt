@@ -1,6 +1,8 @@
 -- DEMAND 3 HOLDS OF THE SEVEN CALLS: the five follow the machine, so the seven do (`shelf_list`); a list's path of plain calls has the state and
 -- the history that the list leaves, so the machine's claims are the list's. Assumes nothing.
-use Rattle.std.specs.Prelude.{◌≡◌, List, ℕ, suc, ◌-◌, ◌^◌, ◌≤◌}
+use Rattle.std.specs.Prelude.{◌≡◌, refl, List, ℕ, suc, ◌-◌, ◌^◌, ◌≤◌, Result, Ok, Err}
+use Rattle.graph.specs.declared.refusals.Refusal.{Refusal}
+use Rattle.graph.specs.Refusals.{number, number-injective}
 use Rattle.std.proofs.Math.Path.{sym}
 use Rattle.std.proofs.Common.{ap, ◌∙◌, subst, arith}
 use Rattle.machine.specs.Machine.{Opening, State}
@@ -10,9 +12,6 @@ use Rattle.machine.specs.Demand3.{Finished, Otherwise}
 use Rattle.machine.specs.Demand3 as machine
 use Rattle.machine.proofs.Claim.{machine_agrees, machine_ends}
 use Rattle.machine.specs.Claim as claim
-use Rattle.search.specs.Replies.{said}
-use Rattle.search.specs.declared.Answer.{Answer}
-use Rattle.search.specs.declared.Answer.TheVariants.{Refused, Accepted}
 use Rattle.lent_records.specs.Records.{record_of, AsTheMachine}
 use Rattle.search_records.specs.Searching.{search_machine, searches, note}
 use Rattle.search_records.specs.Calls.{search_calls}
@@ -23,6 +22,7 @@ use Rattle.shelf_theory.proofs.Paths.{current_is, history_is}
 use Rattle.shelf_theory.specs.Paths as paths
 use Rattle.shelf_theory.specs.ShelfFollows.{shelf_list}
 use Rattle.shelf_theory.proofs.ShelfFollows.{plain-answer, plain_list, restores_record}
+use Rattle.shelf.specs.Replies.{meaning}
 use Rattle.shelf.specs.Demand3.{AnyCall, search_left, history, LeavesFinished, calls_said, SaysAfter, ShowAlikeAfter, Demand3}
 
 -- ---- the path of a list
@@ -45,16 +45,16 @@ module _ (cs : List AnyCall) where
     done = subst Finished (sym same-state) l.done;
   }
 
-module _ {A : Type 0} (f : Answer → A) where
+module _ {A : Type 0} (f : plainly.Answer → A) where
   equal : (cs : List AnyCall) → AsTheMachine (calls_said f) cs
   equal cs = shelf_list searches (search_calls f) (calls-follow f) cs
 
   module _ (cs : List AnyCall) where
     -- what the next call answers and leaves in the lent list is what the machine does after the path
-    answer-next : (c : Call) → (calls_said f).answer (record_of (calls_said f) cs) (plain c) ≡ f (said (step (plainly.leaves (path_of cs)) c).answer)
+    answer-next : (c : Call) → (calls_said f).answer (record_of (calls_said f) cs) (plain c) ≡ f (step (plainly.leaves (path_of cs)) c).answer
     answer-next c =
         plain-answer searches (search_calls f) (calls-follow f) cs c
-        ∙ ap (λ (s : State). f (said (step s c).answer)) (sym (same-leaves (path_of cs)))
+        ∙ ap (λ (s : State). f (step s c).answer) (sym (same-leaves (path_of cs)))
 
     list_next : (c : Call) → (calls_said f).list (record_of (calls_said f) cs) (plain c) ≡ (step (plainly.leaves (path_of cs)) c).lent
     list_next c =
@@ -64,14 +64,14 @@ module _ {A : Type 0} (f : Answer → A) where
     says : (o : Opening) (v : Verdict) → claim.Says (path_of cs) o v → SaysAfter f cs o v
     says o v x = record {
       count = x.count;
-      told = answer-next tell ∙ ap (λ (a : plainly.Answer). f (said a)) x.told;
+      told = answer-next tell ∙ ap f x.told;
       exactly = x.exactly;
       otherwise = go v x.otherwise;
     }
       where
         go : (w : Verdict)
             → Otherwise (λ a. a) (λ c. (step (plainly.leaves (path_of cs)) c).answer) (λ c. (step (plainly.leaves (path_of cs)) c).lent) o w
-            → Otherwise (λ a. f (said a)) (λ c. (calls_said f).answer (record_of (calls_said f) cs) (plain c))
+            → Otherwise f (λ c. (calls_said f).answer (record_of (calls_said f) cs) (plain c))
             (λ c. (calls_said f).list (record_of (calls_said f) cs) (plain c)) o w
         go going_on y = y
         go none y = y
@@ -81,7 +81,7 @@ module _ {A : Type 0} (f : Answer → A) where
           exact = y.exact;
           least = y.least;
           first = y.first;
-          accepts = λ l e. answer-next (show l) ∙ ap (λ (a : plainly.Answer). f (said a)) (y.accepts l e);
+          accepts = λ l e. answer-next (show l) ∙ ap f (y.accepts l e);
           writes = λ l e. list_next (show l) ∙ y.writes l e;
         }
 
@@ -93,12 +93,12 @@ module _ {A : Type 0} (f : Answer → A) where
 
   show_alike : (cs ds : List AnyCall) → claim.ShowAlike (path_of cs) (path_of ds) → ShowAlikeAfter f cs ds
   show_alike cs ds h l = (
-    answer-next cs (show l) ∙ ap (λ (a : plainly.Answer). f (said a)) (h l).0 ∙ sym (answer-next ds (show l)),
+    answer-next cs (show l) ∙ ap f (h l).0 ∙ sym (answer-next ds (show l)),
     list_next cs (show l) ∙ (h l).1 ∙ sym (list_next ds (show l)),
   )
 
   -- where no refusal is said as 'accepted' is
-  pub demand_3_said : ((n : ℕ) → ¬ (f (Refused (suc n) 0) ≡ f Accepted)) → Demand3 f
+  pub demand_3_said : ((n : ℕ) → ¬ (f (plainly.refused (suc n) 0) ≡ f plainly.accepted)) → Demand3 f
   demand_3_said apart = record {
     equal = equal;
     agree = λ cs ds o p l k one same.
@@ -109,5 +109,13 @@ module _ {A : Type 0} (f : Answer → A) where
   }
 
 -- DEMAND 3 of this crate's calls and crate search's
-pub demand_3 : Demand3 {A = Answer} (λ a. a)
-demand_3 = demand_3_said {A = Answer} (λ a. a) (λ n e. let z : ◌≡◌ {A = ℕ} 0 1 = cc in omega arith)
+pub demand_3 : Demand3 {A = plainly.Answer} (λ a. a)
+demand_3 = demand_3_said {A = plainly.Answer} (λ a. a) (λ n e. let z : ◌≡◌ {A = ℕ} 0 1 = cc in omega arith)
+
+-- ---- the answers of save and back are the machine's under other names: no two mean the same
+
+pub meaning-injective : (a b : Result (Unit {0}) Refusal) → meaning a ≡ meaning b → a ≡ b
+meaning-injective (Ok x) (Ok y) e = refl
+meaning-injective (Ok x) (Err q) e = cc
+meaning-injective (Err r) (Ok y) e = cc
+meaning-injective (Err r) (Err q) e = let n : number r ≡ number q = cc in ap (λ z. Err z) (number-injective r q n)

@@ -1,5 +1,5 @@
 -- One step of each loop, as its code makes it: of the walk along a list of edges, and of the sailing. Assumes nothing.
-use Rattle.std.specs.Prelude.{◌≡◌, refl, Bool, true, false, cond, not, ◌&&◌, ◌||◌, List, ℕ, suc, ◌+◌, ◌-◌, ◌*◌, ◌≤◌, ◌<◌, eqb, length, get_or, set, take, drop, replicate, ℤ, pos, ◌+ℤ◌}
+use Rattle.std.specs.Prelude.{◌≡◌, refl, Bool, true, false, cond, ◌&&◌, List, ℕ, suc, ◌+◌, ◌-◌, ◌*◌, ◌≤◌, ◌<◌, eqb, length, get_or, set, take, drop, ℤ, pos, ◌+ℤ◌, Option, Some, None}
 use Rattle.std.proofs.Math.Path.{sym, ap}
 use Rattle.std.proofs.Common.{◌∙◌, subst, add-one, get_or-set_same}
 use native.Mathlib.Omega.{arith}
@@ -7,7 +7,6 @@ use Rattle.std.proofs.Math.Seq.{get_or-set_other, take-length}
 use borrow.Author.Count.{below_more}
 use borrow.Author.Tests.{le-leb, lt-leb, eq-eqb, ne_eqb}
 use Rattle.lists.specs.Bools.{by_cases, and_both}
-use Rattle.lists.specs.Fill.{replicate-at}
 use Rattle.lists.specs.Sets.{NumberSet}
 use Rattle.integers.specs.Range.{InRange}
 use Rattle.graph.specs.Limits.{max_cost}
@@ -23,77 +22,66 @@ use Rattle.sailing.specs.Totals.{times-size, time_at, times_are, total-place, ad
 
 -- ---- the walk
 
--- where edge k leads from u; 0 where it is no edge, or does not touch u
-unfoldable pub leads_to : Network → ℕ → ℕ → ℕ
+-- where edge k leads from u: nowhere if it is no edge, or does not touch u
+unfoldable pub leads_to : Network → ℕ → ℕ → Option ℕ
 unfolding listed touches other_end
-leads_to g k u = cond (listed g k && touches g k u) (other_end g k u) 0
+leads_to g k u = cond (listed g k && touches g k u) (Some (other_end g k u)) None
 
 module _ (g : Network) (k u : ℕ) where
-  pub leads_not : (listed g k && touches g k u) ≡ false → leads_to g k u ≡ 0
+  pub leads_not : (listed g k && touches g k u) ≡ false → leads_to g k u ≡ None
   unfolding leads_to
   leads_not h = rw h
 
-  pub leads_there : (listed g k && touches g k u) ≡ true → leads_to g k u ≡ other_end g k u
+  pub leads_there : (listed g k && touches g k u) ≡ true → leads_to g k u ≡ Some (other_end g k u)
   unfolding leads_to
   leads_there h = rw h
 
-  end_inside : Valid g → listed g k ≡ true → (1 ≤ other_end g k u) × (other_end g k u ≤ g.n)
-  unfolding other_end
-  end_inside v h =
-      let i = listed_in g k h in
-      let low = v.low k i in
-      let apart = v.apart k i in
-      let high = v.high k i in
-      by_cases (eqb (g.a k) u)
-      (λ t. rw t (omega (arith, low, apart), high))
-      (λ t. rw t (low, omega (arith, apart, high)))
-
-  -- it is a vertex or 0
-  pub leads_most : Valid g → leads_to g k u ≤ g.n
-  leads_most v =
-      by_cases (listed g k && touches g k u)
-      (λ t. rw (leads_there t) (end_inside v (and_both (listed g k) (touches g k u) t).0).1)
-      (λ t. rw (leads_not t) (omega arith))
-
-  -- where it is 0, the walk does not go on
-  pub stuck : Valid g → (met : NumberSet) → leads_to g k u ≡ 0 → goes_on g met u k ≡ false
+  -- where it leads nowhere, the walk does not go on
+  pub stuck : (met : NumberSet) → leads_to g k u ≡ None → goes_on g met u k ≡ false
   unfolding goes_on
-  stuck v met e =
+  stuck met e =
       by_cases (listed g k)
       (λ l. by_cases (touches g k u)
-      (λ t. let there = leads_there (rw (l, t)) in
-      absurd (omega (arith, (end_inside v l).0, there, e)))
+      (λ t. let there = leads_there (rw (l, t)) in cc)
       (λ t. rw (l, t)))
       (λ l. rw l)
 
-  -- nor where the vertex was come to before
-  pub come_to_again : (met : NumberSet) → ¬ (leads_to g k u ≡ 0) → met (leads_to g k u) ≡ true → goes_on g met u k ≡ false
-  unfolding goes_on
-  come_to_again met h b =
-      by_cases (listed g k)
-      (λ l. by_cases (touches g k u)
-      (λ t. let there = leads_there (rw (l, t)) in rw (l, t, ← there, b))
-      (λ t. rw (l, t)))
-      (λ l. rw l)
+  module _ (v : ℕ) (e : leads_to g k u ≡ Some v) where
+    goes : (listed g k ≡ true) × (touches g k u ≡ true) × (other_end g k u ≡ v)
+    goes =
+        by_cases (listed g k && touches g k u)
+        (λ t. let p = and_both (listed g k) (touches g k u) t in
+        let there = leads_there t in (p.0, p.1, cc))
+        (λ t. let nowhere = leads_not t in cc)
 
-  -- elsewhere it does, to that vertex
-  pub leads_on : (met : NumberSet) → ¬ (leads_to g k u ≡ 0) → met (leads_to g k u) ≡ false
-      → (goes_on g met u k ≡ true) × (other_end g k u ≡ leads_to g k u)
-  unfolding goes_on
-  leads_on met h b =
-      by_cases (listed g k && touches g k u)
-      (λ t. let p = and_both (listed g k) (touches g k u) t in
-      let there = leads_there t in
-      (rw (p.0, p.1, ← there, b), sym there))
-      (λ t. absurd (h (leads_not t)))
+    -- it is a vertex
+    pub leads_most : Valid g → v ≤ g.n
+    unfolding other_end
+    leads_most valid =
+        let i = listed_in g k goes.0 in
+        let apart = valid.apart k i in
+        let high = valid.high k i in
+        by_cases (eqb (g.a k) u)
+        (λ t. let there : g.b k ≡ v = (rw t at goes.2) in omega (arith, there, high))
+        (λ t. let there : g.a k ≡ v = (rw t at goes.2) in omega (arith, there, apart, high))
+
+    -- where the vertex was come to before, the walk does not go on either
+    pub come_to_again : (met : NumberSet) → met v ≡ true → goes_on g met u k ≡ false
+    unfolding goes_on
+    come_to_again met b = rw (goes.0, goes.1, goes.2, b)
+
+    -- elsewhere it does, to that vertex
+    pub leads_on : (met : NumberSet) → met v ≡ false → (goes_on g met u k ≡ true) × (other_end g k u ≡ v)
+    unfolding goes_on
+    leads_on met b = (rw (goes.0, goes.1, goes.2, b), goes.2)
 
 -- the same, by the arrays of a graph value
 module _ (g : Graph) (k u : ℕ) where
-  pub leads_low : k < 1 → leads_to (network g) k u ≡ 0
+  pub leads_low : k < 1 → leads_to (network g) k u ≡ None
   unfolding listed
   leads_low h = leads_not (network g) k u (rw (lt-leb 1 k h))
 
-  pub leads_high : g.m < k → leads_to (network g) k u ≡ 0
+  pub leads_high : g.m < k → leads_to (network g) k u ≡ None
   unfolding listed network
   leads_high h = leads_not (network g) k u (rw (le-leb 1 k (omega arith), lt-leb k g.m h))
 
@@ -108,19 +96,19 @@ module _ (g : Graph) (k u : ℕ) where
     unfolding listed network
     is_listed = rw (le-leb 1 k least, le-leb k g.m most)
 
-    pub leads_from_a : get_or g.a (k - 1) 0 ≡ u → leads_to (network g) k u ≡ get_or g.b (k - 1) 0
+    pub leads_from_a : get_or g.a (k - 1) 0 ≡ u → leads_to (network g) k u ≡ Some (get_or g.b (k - 1) 0)
     unfolding touches other_end
     leads_from_a e =
         leads_there (network g) k u (rw (is_listed, eq-eqb ((network g).a k) u (a_at_lem ∙ e)))
-        ∙ rw (eq-eqb ((network g).a k) u (a_at_lem ∙ e)) b_at
+        ∙ rw (eq-eqb ((network g).a k) u (a_at_lem ∙ e)) (ap (λ (v : ℕ). Some v) b_at)
 
-    pub leads_from_b : ¬ (get_or g.a (k - 1) 0 ≡ u) → get_or g.b (k - 1) 0 ≡ u → leads_to (network g) k u ≡ get_or g.a (k - 1) 0
+    pub leads_from_b : ¬ (get_or g.a (k - 1) 0 ≡ u) → get_or g.b (k - 1) 0 ≡ u → leads_to (network g) k u ≡ Some (get_or g.a (k - 1) 0)
     unfolding touches other_end
     leads_from_b n e =
         leads_there (network g) k u (rw (is_listed, ne_eqb ((network g).a k) u (λ h. n (sym a_at_lem ∙ h)), eq-eqb ((network g).b k) u (b_at ∙ e)))
-        ∙ rw (ne_eqb ((network g).a k) u (λ h. n (sym a_at_lem ∙ h))) a_at_lem
+        ∙ rw (ne_eqb ((network g).a k) u (λ h. n (sym a_at_lem ∙ h))) (ap (λ (v : ℕ). Some v) a_at_lem)
 
-    pub leads_nowhere : ¬ (get_or g.a (k - 1) 0 ≡ u) → ¬ (get_or g.b (k - 1) 0 ≡ u) → leads_to (network g) k u ≡ 0
+    pub leads_nowhere : ¬ (get_or g.a (k - 1) 0 ≡ u) → ¬ (get_or g.b (k - 1) 0 ≡ u) → leads_to (network g) k u ≡ None
     unfolding touches
     leads_nowhere n o =
         leads_not (network g) k u
@@ -133,9 +121,6 @@ flagged flags v = get_or flags v false
 -- what the walk says from place i on is what it says of the whole list
 abbrev pub WalkedTo : Network → List ℕ → List Bool → ℕ → ℕ → Type 0
 WalkedTo g ks flags u i = walk g (flagged flags) u (drop i ks) ≡ walk g (λ v. false) 1 ks
-
-pub walk_none : (g : Network) (ks : List ℕ) (n : ℕ) → WalkedTo g ks (replicate n false) 1 0
-walk_none g ks n = walk_same g ks (flagged (replicate n false)) (λ v. false) 1 (λ v. replicate-at n false v)
 
 module _ (g : Network) (ks : List ℕ) (size : length ks ≡ g.n) where
   -- the test, by the walk

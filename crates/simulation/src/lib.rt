@@ -6,6 +6,7 @@ ghost use Rattle.std.specs.Prelude.{◌≡◌, ◌≤◌, ◌<◌, ◌+◌, leng
 ghost use Rattle.integers.specs.Range.{InRange};
 ghost use Rattle.graph.specs.Limits.{max_cost};
 ghost use Rattle.graph.specs.Network.{network};
+ghost use Rattle.graph.specs.Refusals.{fault_of};
 ghost use Rattle.graph.specs.Valid.{Valid};
 ghost use Rattle.sailing.specs.Draws.{max_spread, modulus, next, delay, after};
 ghost use Rattle.sailing.specs.Times.{total};
@@ -14,7 +15,7 @@ ghost use Rattle.sailing.specs.Simulation.{simulation_fault, times_of, simulatio
 ghost use Rattle.simulation.specs.Answers.{simulation_meaning};
 ghost use Rattle.simulation.specs.Steps.{leads_to};
 
-use graph::{Graph, MAX_VERTICES, wide};
+use graph::{Graph, MAX_VERTICES, Refusal};
 
 // As specs/Draws.antt of crate sailing has them.
 pub const MAX_STUDENT: u64 = 65_535;
@@ -33,20 +34,11 @@ const LOW: u64 = 65_536;
 // A flag for each vertex, and one for none.
 const FLAGS: usize = MAX_VERTICES + 1;
 
-// What a simulation answers: specs/Answers.antt says what each case means in document 02.
-#[derive(Clone, Copy)]
-pub enum SimulationAnswer {
-    // the total and the last state
-    Sailed(i64, u64),
-    // the number and the place
-    Refused(u32, u64),
-}
-
-// The end of a sailing.
-#[derive(Clone, Copy)]
-struct Sailing {
-    total: i64,
-    state: u64,
+// The end of a sailing: the total and the last state.
+#[derive(Clone, Copy, Debug, PartialEq, Eq)]
+pub struct Sailed {
+    pub total: i64,
+    pub state: u64,
 }
 
 // The state that one leg makes of s.
@@ -63,122 +55,99 @@ fn time(cost: i32, spread: u64, s: u64) -> i64
     ensures { (result ≡ cost +ℤ delay spread s) × InRange (max_cost + max_spread) result }
 {
     let drawn = s / LOW % (2 * spread + 1);
-    cost as i64 + (drawn as i64 - spread as i64)
+    i64::from(cost) + (drawn as i64 - spread as i64)
 }
 
-// Where edge k leads from vertex u; 0 where there is no such edge, or u is no end of it.
-fn leads(g: Graph, k: usize, u: u8) -> u8
-    requires { Valid g }
-    ensures { result ≡ leads_to (network g) k u }
+// Where edge k leads from vertex u: nowhere if there is no such edge, or u is no end of it.
+fn leads(g: &Graph, k: usize, u: u8) -> Option<u8>
+    requires { Valid g.now }
+    ensures { result ≡ leads_to (network g.now) k u }
 {
-    if k < 1 {
-        return 0;
+    if k < 1 || k > usize::from(g.m) {
+        return None;
     }
-    if k > wide(g.m) {
-        return 0;
+    if g.a[k - 1] == u {
+        return Some(g.b[k - 1]);
     }
-    let a = g.a;
-    let b = g.b;
-    if a[k - 1] == u {
-        return b[k - 1];
+    if g.b[k - 1] == u {
+        return Some(g.a[k - 1]);
     }
-    if b[k - 1] == u {
-        return a[k - 1];
-    }
-    0
+    None
 }
 
 // Are the edges a tour of all vertices in sailing order from vertex 1? Each leads to a vertex not come to before, the last to vertex 1.
-fn in_order(g: Graph, edges: &[usize]) -> bool
-    requires { Valid g × (length edges.now ≡ g.n) }
-    ensures { result ≡ in_sailing_order (network g) edges.now }
+fn in_order(g: &Graph, edges: &[usize]) -> bool
+    requires { Valid g.now × (length edges.now ≡ g.now.n) }
+    ensures { result ≡ in_sailing_order (network g.now) edges.now }
 {
     let mut met = [false; FLAGS];
-    let mut at: u8 = 1;
-    let mut i = 0;
-    while i < edges.len() {
-        let v = leads(g, edges[i], at);
-        if v == 0 {
+    let mut at = 1;
+    for &k in edges {
+        let Some(v) = leads(g, k, at) else {
             return false;
-        }
-        let place = wide(v);
+        };
+        let place = usize::from(v);
         if met[place] {
             return false;
         }
         met[place] = true;
         at = v;
-        i = i + 1;
     }
     at == 1
 }
 
-// The first fault of a simulation, in document 02's order; 0 where there is none.
-fn fault(g: Graph, edges: &[usize], student: u64, spread: u64, len: usize) -> u32
-    ensures { result ≡ simulation_fault g edges.now student spread len }
+// The first fault of a simulation, in document 02's order.
+fn fault(g: &Graph, edges: &[usize], student: u64, spread: u64, len: usize) -> Result<(), Refusal>
+    ensures { fault_of result ≡ simulation_fault g.now edges.now student spread len }
 {
-    if !graph::check(g) {
-        return 15;
+    if !g.check() {
+        return Err(Refusal::Graph);
     }
-    if edges.len() != wide(g.n) {
-        return 11;
-    }
-    if len != wide(g.n) {
-        return 11;
+    let n = usize::from(g.n);
+    if edges.len() != n || len != n {
+        return Err(Refusal::Length);
     }
     if !in_order(g, edges) {
-        return 36;
+        return Err(Refusal::Tour);
     }
-    if spread > MAX_SPREAD {
-        return 37;
+    if spread > MAX_SPREAD || student > MAX_STUDENT {
+        return Err(Refusal::StudentOrSpread);
     }
-    if student > MAX_STUDENT {
-        return 37;
-    }
-    0
+    Ok(())
 }
 
 // The sailing itself: each edge's time, their total and the last state.
-fn sail(g: Graph, edges: &[usize], student: u64, spread: u64, times: &mut [i64]) -> Sailing
-    requires { simulation_fault g edges.now student spread (length times.old) ≡ 0 }
-    ensures { (result.total ≡ total (times_of g edges.now student spread))
+fn sail(g: &Graph, edges: &[usize], student: u64, spread: u64, times: &mut [i64]) -> Sailed
+    requires { simulation_fault g.now edges.now student spread (length times.old) ≡ 0 }
+    ensures { (result.total ≡ total (times_of g.now edges.now student spread))
         × (result.state ≡ after (length edges.now) student)
-        × (times.new ≡ times_of g edges.now student spread) }
+        × (times.new ≡ times_of g.now edges.now student spread) }
 {
-    let costs = g.cost;
-    let mut sum: i64 = 0;
-    let mut s = student;
-    let mut i = 0;
-    while i < edges.len() {
-        let k = edges[i];
-        let drawn = next(s);
-        let t = time(costs[k - 1], spread, drawn);
+    let mut total = 0;
+    let mut state = student;
+    for (i, &k) in edges.iter().enumerate() {
+        let drawn = next(state);
+        let t = time(g.cost[k - 1], spread, drawn);
         times[i] = t;
-        sum = sum + t;
-        s = drawn;
-        i = i + 1;
+        total += t;
+        state = drawn;
     }
-    Sailing {
-        total: sum,
-        state: s,
-    }
+    Sailed { total, state }
 }
 
 // A given tour sailed edge by edge: each edge's time in `times`, the total and the last state.
 // Ruled out: a tour's edges accepted in another order than the sailing order; a delay drawn before the step; a time written by a refusal.
 pub fn simulate(
-    g: Graph,
+    g: &Graph,
     edges: &[usize],
     student: u64,
     spread: u64,
     times: &mut [i64],
-) -> SimulationAnswer
-    ensures { (simulation_meaning result ≡ simulation_reply g edges.now student spread (length times.old))
-        × (times.new ≡ simulation_leaves g edges.now student spread times.old) }
+) -> Result<Sailed, Refusal>
+    ensures { (simulation_meaning result
+        ≡ simulation_reply g.now edges.now student spread (length times.old))
+        × (times.new ≡ simulation_leaves g.now edges.now student spread times.old) }
 {
-    let number = fault(g, edges, student, spread, times.len());
-    if number != 0 {
-        return SimulationAnswer::Refused(number, 0);
-    }
-    let done = sail(g, edges, student, spread, times);
-    SimulationAnswer::Sailed(done.total, done.state)
+    fault(g, edges, student, spread, times.len())?;
+    Ok(sail(g, edges, student, spread, times))
 }

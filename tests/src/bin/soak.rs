@@ -7,7 +7,7 @@ use planner_tests::random::Random;
 use planner_tests::soak::counts::Counts;
 use planner_tests::soak::programs::{ended, hunt_input, limited, Ended};
 use planner_tests::soak::{kind_of, random_of, run, Kind, Watch, KINDS};
-use planner_tests::stack::{self, stated, STATED_OF_EIGHT, STATED_OF_PROGRAMS};
+use planner_tests::stack::{self, STATED, STATED_OF_PROGRAMS};
 use std::fs;
 use std::hint::black_box;
 use std::os::unix::process::ExitStatusExt;
@@ -118,7 +118,7 @@ fn folder() -> PathBuf {
 
 /// Makes the runs in a thread that has no more stack than a call may use, and prints what was counted.
 fn worker(plan: Plan) -> Result<(), String> {
-    let thread = thread::Builder::new().stack_size(STATED_OF_EIGHT + OWN);
+    let thread = thread::Builder::new().stack_size(STATED + OWN);
     let counts = thread
         .spawn(move || runs(&plan))
         .map_err(|error| error.to_string())?
@@ -238,7 +238,7 @@ fn measure() -> Result<(), String> {
     }
     println!("stack, in bytes, over {STACK_RUNS} runs of seed {SEED}:");
     for (name, bytes) in &deepest {
-        println!("{name}: {bytes}; stated {}", stated(name));
+        println!("{name}: {bytes}; stated {STATED}");
     }
     for program in ["rulings", "hunt"] {
         let kib = least_stack(program)
@@ -247,11 +247,11 @@ fn measure() -> Result<(), String> {
     }
     let over: Vec<_> = deepest
         .iter()
-        .filter(|(name, used)| **used > stated(name))
+        .filter(|(_, used)| **used > STATED)
         .collect();
     match deepest.iter().max_by_key(|(_, bytes)| **bytes) {
         Some((name, bytes)) if over.is_empty() && deepest.len() == CALLS => {
-            println!("deepest call {name}, {bytes}; stated {}", stated(name));
+            println!("deepest call {name}, {bytes}; stated {STATED}");
             Ok(())
         }
         _ => Err(format!(

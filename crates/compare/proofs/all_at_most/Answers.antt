@@ -1,19 +1,11 @@
--- The loop keeps: the first i numbers are at most the limit.
-use mathlib.Core.Path.{sym}
-use native.Mathlib.Omega.{arith}
-use borrow.Author.Count.{below_more}
-use Rattle.compare.specs.AtMost.{at_every, above-one}
+-- What `all` answers is std's word for the definition.
+use Rattle.std.proofs.Common.{sym, ◌∙◌, leb, rules, tests}
+use Rattle.std.proofs.lemmas.Iterator.{YieldsList-from_slice}
+use Rattle.std.proofs.lemmas.Iterator.Search.{all_from_yields_List}
+use Rattle.compare.specs.AtMost.{every_is}
 use Rattle.compare.proofs.all_at_most.Goals as goal
 
-pub loop-i-init : goal.loop-i-init
-loop-i-init c = (omega arith, λ k h. absurd (omega arith))
-
-pub returns-then-list-i : goal.returns-then-list-i
-returns-then-list-i c = sym (above-one c.args.limit c.args.list.now c.loop-i.i c.if-list-i.true)
-
-pub loop-i-preserved : goal.loop-i-preserved
-loop-i-preserved c = (omega (arith, c.loop-i-test.true), below_more _ _ c.loop-i.invariant.1 (omega (arith, c.if-list-i.false)))
-
 pub returns : goal.returns
-returns c = let l = c.loop-i in
-    sym (at_every c.args.limit c.args.list.now (λ k h. l.invariant.1 k (omega (arith, h, l.invariant.0, c.loop-i-test.false))))
+returns c =
+    all_from_yields_List (λ x. leb x c.args.limit) _ _ _ c.all.ensures.ran (YieldsList-from_slice c.args.list.now cc) (λ x b q k. search (rules, tests))
+    ∙ sym (every_is (λ x. leb x c.args.limit) c.args.list.now)

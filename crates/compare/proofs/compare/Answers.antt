@@ -1,26 +1,24 @@
 -- Each pair's count, behind the fault.
-use mathlib.Core.Path.{◌≡◌, sym, ◌∙◌}
-use lib.ListN.{length}
-use Rattle.integers.specs.Words.{back64}
-use Rattle.compare.specs.Comparison.{compare_fault}
+use Rattle.std.proofs.Common.{◌≡◌, Err, sym, ap, ◌∙◌, rules, arith}
+use Rattle.graph.specs.Refusals.{number, positive}
+use Rattle.compare.specs.Comparison.{meaning}
 use Rattle.compare.specs.Faults.{no_fault, reply-refused, refused-leaves, reply_accepted, counted-leaves}
-use Rattle.std.proofs.Common.{rules}
 use Rattle.compare.proofs.compare.Goals as goal
 
-pub returns-then-number-ne0 : goal.returns-then-number-ne0
-returns-then-number-ne0 c =
-    let fault_is : c.fault-number.result ≡ compare_fault c.args.g c.args.multipliers.now c.args.terms.ceiling c.args.terms.denominator c.args.sweeps.now c.args.steps.now (length c.args.report.now) = rw (back64 c.args.terms.ceiling (search rules)) at c.fault-number.ensures in
-    let number = fault_is in
-    (sym (reply-refused _ _ _ _ _ _ _ (sym number) c.if-number-ne0.true), sym (refused-leaves _ _ _ _ _ _ _ (sym number) c.if-number-ne0.true))
+pub returns-in_err-fault : goal.returns-in_err-fault
+returns-in_err-fault c =
+    let refusal = c.in_err-fault.field-0.0 in
+    let is : c.from_residual.result ≡ Err refusal = search rules in
+    let some : ¬ (number refusal ≡ 0) = λ z. omega (arith, positive refusal) in (
+      ap meaning is ∙ sym (reply-refused _ _ _ _ _ _ _ (sym c.in_err-fault.ensures) some),
+      sym (refused-leaves _ _ _ _ _ _ _ (sym c.in_err-fault.ensures) some),
+    )
 
 pub count_all-requires : goal.count_all-requires
 count_all-requires c =
-    let fault_is : c.fault-number.result ≡ compare_fault c.args.g c.args.multipliers.now c.args.terms.ceiling c.args.terms.denominator c.args.sweeps.now c.args.steps.now (length c.args.report.now) = rw (back64 c.args.terms.ceiling (search rules)) at c.fault-number.ensures in
-    let none : compare_fault c.args.g c.args.multipliers.now c.args.terms.ceiling c.args.terms.denominator c.args.sweeps.now c.args.steps.now (length c.args.report.now) ≡ 0 = sym fault_is ∙ c.if-number-ne0.false in
-    let f = no_fault _ _ _ _ _ _ _ none in (f.steps_size, f.report_size)
+    let f = no_fault _ _ _ _ _ _ _ (sym c.in_ok-fault.ensures) in (f.steps_size, f.report_size)
 
 pub returns : goal.returns
 returns c =
-    let fault_is : c.fault-number.result ≡ compare_fault c.args.g c.args.multipliers.now c.args.terms.ceiling c.args.terms.denominator c.args.sweeps.now c.args.steps.now (length c.args.report.now) = rw (back64 c.args.terms.ceiling (search rules)) at c.fault-number.ensures in
-    let none : compare_fault c.args.g c.args.multipliers.now c.args.terms.ceiling c.args.terms.denominator c.args.sweeps.now c.args.steps.now (length c.args.report.now) ≡ 0 = sym fault_is ∙ c.if-number-ne0.false in
+    let none = sym c.in_ok-fault.ensures in
     (sym (reply_accepted _ _ _ _ _ _ none), c.count_all.ensures ∙ sym (counted-leaves _ _ _ _ _ _ none))

@@ -1,40 +1,23 @@
--- The loop keeps: the first i entries are the counts of the first i pairs.
-use mathlib.Core.Path.{◌≡◌, refl, sym, ◌∙◌}
-use native.Mathlib.Omega.{arith}
-use borrow.Author.Count.{below_more}
-use lib.ListN.{length, length-set}
-use lib.Seq.{get_or-set_same, get_or-set_other}
+-- The loop's pairs are those of the two lists, one for each of their places.
+use Rattle.std.proofs.Common.{ℕ, suc, ◌≡◌, ◌+◌, List, [], ◌∷◌, refl, sym, ap, ◌∙◌, length, arith}
+use Rattle.std.specs.List.{enumerate_from, zip}
+use Rattle.std.proofs.lemmas.Iterator.{YieldsList-from_slice, YieldsList-from_zip}
+use Rattle.std.proofs.lemmas.Iterator.Consumers.{YieldsList-from_enumerate, YieldsList-end}
 use Rattle.lists.specs.Fill.{fill_is}
-use Rattle.integers.specs.Words.{back64}
-use Rattle.compare.specs.Comparison.{finishes, pair_opening, counts}
-use Rattle.std.proofs.Common.{rules}
+use Rattle.compare.specs.Comparison.{counts}
 use Rattle.compare.proofs.count_all.Goals as goal
 
-pub loop-i-init : goal.loop-i-init
-loop-i-init c = (refl, omega arith, λ j h. absurd (omega arith))
-
-pub bounds-steps-i : goal.bounds-steps-i
-bounds-steps-i c = omega (arith, c.loop-i-test.true, c.requires.0)
-
-pub bounds-report-i : goal.bounds-report-i
-bounds-report-i c = omega (arith, c.loop-i-test.true, c.loop-i.invariant.0, c.requires.1)
-
-pub loop-i-preserved : goal.loop-i-preserved
-loop-i-preserved c =
-    let count_is : c.count.result ≡ finishes (pair_opening c.args.g c.args.multipliers.now c.args.terms.ceiling c.args.terms.denominator c.args.sweeps.now c.args.steps.now c.loop-i.i) c.args.terms.budget = rw (back64 c.args.terms.ceiling (search rules)) at c.count.ensures in
-    let l = c.loop-i in
-    let x = c.count.result in (
-      length-set l.report l.i x ∙ l.invariant.0,
-      omega (arith, c.loop-i-test.true),
-      below_more _ _ (λ j h. get_or-set_other l.report l.i j x 0 (λ e. omega arith) ∙ l.invariant.2 j h)
-          (get_or-set_same l.report l.i x 0 (omega (arith, c.loop-i-test.true, l.invariant.0, c.requires.1)) ∙ count_is),
-    )
-
-pub shape_of-report : goal.shape_of-report
-shape_of-report c = c.loop-i.invariant.0
+pairs-size : (n : ℕ) (xs ys : List ℕ) → length ys ≡ length xs → length (enumerate_from n (zip xs ys)) ≡ length xs
+pairs-size n [] ys h = refl
+pairs-size n (x ∷ xs) [] h = absurd (omega arith)
+pairs-size n (x ∷ xs) (y ∷ ys) h = ap suc (pairs-size (n + 1) xs ys (omega arith))
 
 pub returns : goal.returns
 unfolding counts
-returns c = let l = c.loop-i in
-    sym (fill_is (length c.args.sweeps.now) _ l.report 0 (l.invariant.0 ∙ c.requires.1)
-    (λ i h. sym (l.invariant.2 i (omega (arith, h, l.invariant.1, c.loop-i-test.false)))))
+returns c =
+    let l = c.loop-i in
+    let xs = c.args.sweeps.now in
+    let pairs = YieldsList-from_enumerate (YieldsList-from_zip (YieldsList-from_slice xs cc) (YieldsList-from_slice c.args.steps.now cc)) cc in
+    let done : length l.yielded ≡ length xs =
+    (YieldsList-end pairs l.yielded _ l.yielded_by _ c.next.new.self c.in-None.is c.next.ensures.steps).1 ∙ pairs-size 0 xs c.args.steps.now c.requires.0 in
+    sym (fill_is (length xs) _ l.report 0 (l.invariant.0 ∙ c.requires.1) (λ i h. sym (l.invariant.1 i (omega (arith, h, done)))))

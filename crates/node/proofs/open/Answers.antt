@@ -1,195 +1,118 @@
 -- What the passes come to on the edges that are left is spread out by their ending.
-use Prim.Native.Nat.{ℕ, ◌≤◌, ◌<◌}
-use mathlib.Core.Path.{◌≡◌, refl, sym, ap, ◌∙◌, subst}
-use mathlib.Core.List.{List}
-use native.Mathlib.Omega.{arith}
-use lib.IntN.{ℤ}
-use lib.ListN.{get_or, replicate}
+use Rattle.std.proofs.Common.{◌≡◌, ℕ, ◌≤◌, List, ℤ, ap, ◌∙◌, subst, arith, Result, Ok, Err}
+use Rattle.std.proofs.lemmas.Result.{err_from_is_err_and}
 use Rattle.lists.specs.Filling.{Filling}
 use Rattle.graph.specs.declared.Graph.{Graph}
+use Rattle.graph.specs.declared.refusals.Refusal.{Refusal}
+use Rattle.graph.specs.Refusals.{positive}
 use Rattle.graph.specs.Network.{free, excluded}
-use Rattle.graph.specs.Valid.{graph_of}
-use Rattle.machine.specs.Machine.{Opening}
-use Rattle.mark_rows.specs.MarkRows.{rows_of, marks_in_rows}
+use Rattle.machine.specs.declared.Settings.{Settings}
+use Rattle.machine.specs.Machine.{Marks}
+use Rattle.mark_rows.specs.MarkRows.{row_words, rows_of, marks_in_rows}
 use Rattle.compaction.specs.Spread.{spread_marks, spread-size}
-use Rattle.node.specs.declared.Subproblem.{Subproblem}
 use Rattle.node.specs.declared.Fate.TheVariants as fate
 use Rattle.node.specs.declared.passes.Ending.{Ending}
 use Rattle.node.specs.declared.passes.Ending.TheVariants as ending
-use Rattle.node.specs.Marks.{Padded, bytes_of}
-use Rattle.node.specs.Opened.{opened, left, taken, left_in}
+use Rattle.node.specs.Marks.{bytes_of}
+use Rattle.node.specs.Opened.{opened, marked, taken}
 use Rattle.node.specs.Refusing.{EndsAs}
-use Rattle.node.specs.Expanding.{Places, Placed, expanded_at, expanded_mark, expanded_tour}
-use Rattle.node.specs.CompactGraph.{left_is, left-padded, left-places, left_expanded}
-use Rattle.node.specs.Words.{kept_in, marks_gathered, packed_rows}
+use Rattle.node.specs.Expanding.{expanded_at, expanded_mark, expanded_tour}
+use Rattle.node.specs.CompactGraph.{left-padded, left_few, left-places, left_expanded}
+use Rattle.node.specs.Words.{kept_in, new_byte, Packed, packed_rows}
 use Rattle.node.specs.Opens.{opens_15, left-refused, left_shut, left_found, left_unclosed, canonical}
 use Rattle.node.proofs.open.Goals as goal
 
--- what the passes come to on the edges that are left
-ended : (p : Subproblem) (g h : Graph) (v : Ending) (w : List ℕ) (was last : List ℤ) → g ≡ h
-    → EndsAs (taken p g) v w was last → EndsAs (taken p h) v w was last
-ended p g h v w was last e r = subst (λ (x : Graph). EndsAs (taken p x) v w was last) e r
+-- what the passes come to on a graph
+ended : (g h : Graph) (d : List ℤ) (settings : Settings) (v : Result Ending Refusal) (w : List ℕ) (was last : List ℤ) → g ≡ h
+    → EndsAs (taken g d settings) v w was last → EndsAs (taken h d settings) v w was last
+ended g h d settings v w was last e r = subst (λ (x : Graph). EndsAs (taken x d settings) v w was last) e r
 
-pub returns-then-p-gt-MAX_VERTICES : goal.returns-then-p-gt-MAX_VERTICES
-returns-then-p-gt-MAX_VERTICES c =
-    let bytes : List ℕ = bytes_of (marks_in_rows c.args.p.m c.args.rows.now) in
-    let given : Graph = graph_of c.args.p.n c.args.p.m c.args.a.now c.args.b.now c.args.cost.now bytes in
-    let opening : Opening = taken c.args.p given in
-    opens_15 opening _ _ _ _ (λ b v. omega (arith, v.high, c.if-p-gt-MAX_VERTICES.true))
+-- the words of the new marks of all edges
+packed_is : (m : ℕ) (rows : List ℕ) → m ≤ 190 → (y : Marks) (w l : List ℕ) → w ≡ bytes_of y → Packed m (new_byte m rows w) row_words l
+    → l ≡ rows_of (spread_marks (kept_in m rows) m y)
+packed_is m rows few y w l e packed =
+    packed_rows m _ _ _ (spread-size (kept_in m rows) m excluded free y)
+    (λ i h. ap (λ (x : List ℕ). expanded_at (bytes_of (marks_in_rows m rows)) x 2 i) e ∙ expanded_mark (bytes_of (marks_in_rows m rows)) m few y i h)
+    packed
 
-pub returns-then-m-gt-MAX_EDGES : goal.returns-then-m-gt-MAX_EDGES
-returns-then-m-gt-MAX_EDGES c =
-    let bytes : List ℕ = bytes_of (marks_in_rows c.args.p.m c.args.rows.now) in
-    let given : Graph = graph_of c.args.p.n c.args.p.m c.args.a.now c.args.b.now c.args.cost.now bytes in
-    let opening : Opening = taken c.args.p given in
-    opens_15 opening _ _ _ _ (λ b v. omega (arith, c.if-m-gt-MAX_EDGES.true))
+pub returns-then-from-gt-MAX_VERTICES : goal.returns-then-from-gt-MAX_VERTICES
+returns-then-from-gt-MAX_VERTICES c = let a = c.args in
+    opens_15 (taken (marked a.g.now a.node.now.rows) a.multipliers.now a.settings) _
+    (λ b v. omega (arith, c.then-from-gt-MAX_VERTICES.either, c.from.ensures, c.from-m.ensures, v.high, b))
 
-pub list_left-f-requires : goal.list_left-f-requires
-list_left-f-requires c = (omega (arith, c.if-m-gt-MAX_EDGES.false), refl, refl)
+pub open_left-requires-clause-edges : goal.open_left-requires-clause-edges
+open_left-requires-clause-edges c =
+    rw c.without_excluded-left.ensures.graph (left_few (marked c.args.g.now c.args.node.now.rows) (omega (arith, c.from-m.ensures)))
 
-pub gather-requires : goal.gather-requires
-gather-requires c =
-    let few : c.args.p.m ≤ 190 = omega (arith, c.if-m-gt-MAX_EDGES.false) in
-    let places-in : (c.list_left-f.result ≤ 190) × ((j : ℕ) → j < c.list_left-f.result → get_or c.list_left-f.new.place j 0 < 190) = let e = c.list_left-f.ensures in (e.1, λ j h. omega (arith, e.2.low j (omega arith), few)) in
-    let l = places-in in
-    (l.0, l.1, refl, refl, refl)
+pub open_left-requires-clause-padded : goal.open_left-requires-clause-padded
+open_left-requires-clause-padded c =
+    rw c.without_excluded-left.ensures.graph (left-padded (marked c.args.g.now c.args.node.now.rows))
 
-pub open_left-ending-requires : goal.open_left-ending-requires
-open_left-ending-requires c =
-    let bytes : List ℕ = bytes_of (marks_in_rows c.args.p.m c.args.rows.now) in
-    let given : Graph = graph_of c.args.p.n c.args.p.m c.args.a.now c.args.b.now c.args.cost.now bytes in
-    let few : c.args.p.m ≤ 190 = omega (arith, c.if-m-gt-MAX_EDGES.false) in
-    let made : Graph = let g = c.gather in
-    graph_of c.args.p.n c.list_left-f.result g.new.starts g.new.stops
-    g.new.costs c.list_left-f.new.marks in
-    let made_is : made ≡ left given = let e = c.list_left-f.ensures in
-    let g = c.gather.ensures in
-    left_is given _ _ _ _ _ _ e.0 e.2 g.0 g.1 g.2
-    (marks_gathered c.args.p.m c.args.rows.now few _ _ _ e.0 e.2 e.3) in (
-      omega (arith, c.if-p-gt-MAX_VERTICES.false),
-      c.list_left-f.ensures.1,
-      subst (λ (h : Graph). Padded h.m h.mark) (sym made_is) (left-padded given),
-    )
-
-pub returns-in-Refused : goal.returns-in-Refused
-returns-in-Refused c =
-    let bytes : List ℕ = bytes_of (marks_in_rows c.args.p.m c.args.rows.now) in
-    let given : Graph = graph_of c.args.p.n c.args.p.m c.args.a.now c.args.b.now c.args.cost.now bytes in
-    let opening : Opening = taken c.args.p given in
-    let few : c.args.p.m ≤ 190 = omega (arith, c.if-m-gt-MAX_EDGES.false) in
-    let made : Graph = let g = c.gather in
-    graph_of c.args.p.n c.list_left-f.result g.new.starts g.new.stops
-    g.new.costs c.list_left-f.new.marks in
-    let made_is : made ≡ left given = let e = c.list_left-f.ensures in
-    let g = c.gather.ensures in
-    left_is given _ _ _ _ _ _ e.0 e.2 g.0 g.1 g.2
-    (marks_gathered c.args.p.m c.args.rows.now few _ _ _ e.0 e.2 e.3) in
-    let v = ended c.args.p made (left given) (ending.Refused c.in-Refused.number) c.open_left-ending.new.row c.args.last.now c.open_left-ending.new.last made_is c.in-Refused.ensures in
-    (λ i. opened (fate.Refused c.in-Refused.number) c.args.rows.now c.args.top.now c.args.tour.now (v.2 i))
-    ∙ left-refused opening _ _ _ _ few _ v.0 v.1
+pub returns-in_err-open_left : goal.returns-in_err-open_left
+returns-in_err-open_left c = let a = c.args in
+    let few : a.g.now.m ≤ 190 = omega (arith, c.from-m.ensures) in
+    let r = c.in_err-open_left.field-0.0 in
+    let v =
+    ended _ _ a.multipliers.now a.settings (Err r) c.open_left.new.g.mark _ _ c.without_excluded-left.ensures.graph
+    c.in_err-open_left.ensures.ending
+    in
+    let p = err_from_is_err_and c.from_residual.result c.from_residual.ensures.1 in
+    rw (p.1, p.2)
+    ((λ i. opened (Err r) (record { rows = a.node.now.rows; top = a.node.now.top; tour = a.node.now.tour; last = v.1 i }))
+    ∙ left-refused (taken (marked a.g.now a.node.now.rows) a.multipliers.now a.settings) _ few _ v.0
+    (λ z. absurd (omega (arith, positive r, z))))
 
 pub returns-in-Shut : goal.returns-in-Shut
-returns-in-Shut c =
-    let bytes : List ℕ = bytes_of (marks_in_rows c.args.p.m c.args.rows.now) in
-    let given : Graph = graph_of c.args.p.n c.args.p.m c.args.a.now c.args.b.now c.args.cost.now bytes in
-    let opening : Opening = taken c.args.p given in
-    let few : c.args.p.m ≤ 190 = omega (arith, c.if-m-gt-MAX_EDGES.false) in
-    let made : Graph = let g = c.gather in
-    graph_of c.args.p.n c.list_left-f.result g.new.starts g.new.stops
-    g.new.costs c.list_left-f.new.marks in
-    let made_is : made ≡ left given = let e = c.list_left-f.ensures in
-    let g = c.gather.ensures in
-    left_is given _ _ _ _ _ _ e.0 e.2 g.0 g.1 g.2
-    (marks_gathered c.args.p.m c.args.rows.now few _ _ _ e.0 e.2 e.3) in
-    let v = ended c.args.p made (left given) (ending.Shut) c.open_left-ending.new.row c.args.last.now c.open_left-ending.new.last made_is c.in-Shut.ensures in
-    c.close.ensures ∙ left_shut opening _ _ _ _ few v.0 v.1
+returns-in-Shut c = let a = c.args in
+    let few : a.g.now.m ≤ 190 = omega (arith, c.from-m.ensures) in
+    let v =
+    ended _ _ a.multipliers.now a.settings (Ok ending.Shut) c.open_left.new.g.mark a.node.now.last c.open_left.new.last
+    c.without_excluded-left.ensures.graph (rw c.in-Shut.is at c.in_ok-open_left.ensures.ending)
+    in
+    c.close.ensures ∙ left_shut (taken (marked a.g.now a.node.now.rows) a.multipliers.now a.settings) _ few v.0 v.1
 
 pub expand-requires : goal.expand-requires
-expand-requires c =
-    let bytes : List ℕ = bytes_of (marks_in_rows c.args.p.m c.args.rows.now) in
-    let few : c.args.p.m ≤ 190 = omega (arith, c.if-m-gt-MAX_EDGES.false) in
-    let places : Places c.list_left-f.result c.list_left-f.new.place = let e = c.list_left-f.ensures in
-    subst (λ (f : ℕ). Places f c.list_left-f.new.place) (sym e.0) (left-places bytes _ few _ e.2) in
-    places
+expand-requires c = let a = c.args in
+    let few : a.g.now.m ≤ 190 = omega (arith, c.from-m.ensures) in
+    rw (c.open_left.ensures.marks_alone, c.without_excluded-left.ensures.graph)
+    (left-places (bytes_of (marks_in_rows a.g.now.m a.node.now.rows)) _ few _ c.without_excluded-left.ensures.listed)
 
 pub returns-in-Found : goal.returns-in-Found
-returns-in-Found c =
-    let bytes : List ℕ = bytes_of (marks_in_rows c.args.p.m c.args.rows.now) in
-    let given : Graph = graph_of c.args.p.n c.args.p.m c.args.a.now c.args.b.now c.args.cost.now bytes in
-    let opening : Opening = taken c.args.p given in
-    let few : c.args.p.m ≤ 190 = omega (arith, c.if-m-gt-MAX_EDGES.false) in
-    let made : Graph = let g = c.gather in
-    graph_of c.args.p.n c.list_left-f.result g.new.starts g.new.stops
-    g.new.costs c.list_left-f.new.marks in
-    let made_is : made ≡ left given = let e = c.list_left-f.ensures in
-    let g = c.gather.ensures in
-    left_is given _ _ _ _ _ _ e.0 e.2 g.0 g.1 g.2
-    (marks_gathered c.args.p.m c.args.rows.now few _ _ _ e.0 e.2 e.3) in
-    let came : List ℕ = c.open_left-ending.new.row in
-    let Tells : List ℕ → List ℕ → Type 0 = λ w r. Filling 0 190 c.args.p.m (expanded_at bytes w 0) r in
-    let e = c.list_left-f.ensures in
-    let v = ended c.args.p made (left given) (ending.Found) c.open_left-ending.new.row c.args.last.now c.open_left-ending.new.last made_is c.in-Found.ensures in
-    left_found opening _ _ _ _ few v.0 _ _ v.1
-    (expanded_tour bytes c.args.p.m few v.1.tour _ (subst (λ (w : List ℕ). Tells w c.expand.new.r) v.1.bytes
-    (left_expanded bytes c.args.p.m few _ e.2 came _
-    (subst (λ (f : ℕ). Placed f c.list_left-f.new.place came (replicate 190 0) c.expand.new.r) e.0
-    c.expand.ensures))))
+returns-in-Found c = let a = c.args in
+    let few : a.g.now.m ≤ 190 = omega (arith, c.from-m.ensures) in
+    let bytes : List ℕ = bytes_of (marks_in_rows a.g.now.m a.node.now.rows) in
+    let Tells : List ℕ → List ℕ → Type 0 = λ w r. Filling 0 190 a.g.now.m (expanded_at bytes w 0) r in
+    let v =
+    ended _ _ a.multipliers.now a.settings (Ok ending.Found) c.open_left.new.g.mark a.node.now.last c.open_left.new.last
+    c.without_excluded-left.ensures.graph (rw c.in-Found.is at c.in_ok-open_left.ensures.ending)
+    in
+    let placed = rw (c.open_left.ensures.marks_alone, c.without_excluded-left.ensures.graph) at c.expand.ensures in
+    let tour =
+    expanded_tour bytes a.g.now.m few v.1.tour _ (subst (λ (w : List ℕ). Tells w c.expand.new.tour) v.1.bytes
+    (left_expanded bytes a.g.now.m few _ c.without_excluded-left.ensures.listed _ _ placed))
+    in
+    (λ i. let blank = c.blank.ensures i in
+    opened (Ok fate.Finds) (record { rows = blank.rows; top = blank.top; tour = c.expand.new.tour; last = blank.last }))
+    ∙ left_found (taken (marked a.g.now a.node.now.rows) a.multipliers.now a.settings) _ few v.0 _ _ v.1 tour
 
-pub pack-requires : goal.pack-requires
-pack-requires c =
-    let few : c.args.p.m ≤ 190 = omega (arith, c.if-m-gt-MAX_EDGES.false) in
-    few
+pub split-requires-clause-of_marks : goal.split-requires-clause-of_marks
+split-requires-clause-of_marks c = let a = c.args in
+    let few : a.g.now.m ≤ 190 = omega (arith, c.from-m.ensures) in
+    let v =
+    ended _ _ a.multipliers.now a.settings (Ok ending.Unclosed) c.open_left.new.g.mark a.node.now.last c.open_left.new.last
+    c.without_excluded-left.ensures.graph (rw c.in-Unclosed.is at c.in_ok-open_left.ensures.ending)
+    in
+    let packed = packed_is a.g.now.m a.node.now.rows few v.1.marks _ _ v.1.bytes (rw c.from-m.ensures at c.pack.ensures) in
+    rw c.from-m.ensures
+    (canonical a.g.now.m _ _ few (spread-size (kept_in a.g.now.m a.node.now.rows) a.g.now.m excluded free v.1.marks) packed)
 
-pub split-requires : goal.split-requires
-split-requires c =
-    let bytes : List ℕ = bytes_of (marks_in_rows c.args.p.m c.args.rows.now) in
-    let given : Graph = graph_of c.args.p.n c.args.p.m c.args.a.now c.args.b.now c.args.cost.now bytes in
-    let opening : Opening = taken c.args.p given in
-    let few : c.args.p.m ≤ 190 = omega (arith, c.if-m-gt-MAX_EDGES.false) in
-    let made : Graph = let g = c.gather in
-    graph_of c.args.p.n c.list_left-f.result g.new.starts g.new.stops
-    g.new.costs c.list_left-f.new.marks in
-    let made_is : made ≡ left given = let e = c.list_left-f.ensures in
-    let g = c.gather.ensures in
-    left_is given _ _ _ _ _ _ e.0 e.2 g.0 g.1 g.2
-    (marks_gathered c.args.p.m c.args.rows.now few _ _ _ e.0 e.2 e.3) in
-    let came : List ℕ = c.open_left-ending.new.row in
-    let told : List ℤ = c.open_left-ending.new.last in
-    let pending : EndsAs (left_in opening) ending.Unclosed came c.args.last.now told = ended c.args.p made (left given) (ending.Unclosed) c.open_left-ending.new.row c.args.last.now c.open_left-ending.new.last made_is c.in-Unclosed.ensures in
-    let packed : c.pack.new.rows ≡ rows_of (spread_marks (kept_in c.args.p.m c.args.rows.now) c.args.p.m pending.1.marks) = let p = pending.1 in
-    packed_rows c.args.p.m _ _ _ (spread-size (kept_in c.args.p.m c.args.rows.now) c.args.p.m excluded free p.marks)
-    (λ i h.
-    ap (λ (w : List ℕ). expanded_at bytes w 2 i) p.bytes
-    ∙ expanded_mark bytes c.args.p.m few p.marks i h)
-    c.pack.ensures in
-    let p = pending.1 in (
-      few,
-      canonical c.args.p.m _ _ few
-          (spread-size (kept_in c.args.p.m c.args.rows.now) c.args.p.m excluded free p.marks) packed,
-    )
-
-pub returns : goal.returns
-returns c =
-    let bytes : List ℕ = bytes_of (marks_in_rows c.args.p.m c.args.rows.now) in
-    let given : Graph = graph_of c.args.p.n c.args.p.m c.args.a.now c.args.b.now c.args.cost.now bytes in
-    let opening : Opening = taken c.args.p given in
-    let few : c.args.p.m ≤ 190 = omega (arith, c.if-m-gt-MAX_EDGES.false) in
-    let made : Graph = let g = c.gather in
-    graph_of c.args.p.n c.list_left-f.result g.new.starts g.new.stops
-    g.new.costs c.list_left-f.new.marks in
-    let made_is : made ≡ left given = let e = c.list_left-f.ensures in
-    let g = c.gather.ensures in
-    left_is given _ _ _ _ _ _ e.0 e.2 g.0 g.1 g.2
-    (marks_gathered c.args.p.m c.args.rows.now few _ _ _ e.0 e.2 e.3) in
-    let came : List ℕ = c.open_left-ending.new.row in
-    let told : List ℤ = c.open_left-ending.new.last in
-    let pending : EndsAs (left_in opening) ending.Unclosed came c.args.last.now told = ended c.args.p made (left given) (ending.Unclosed) c.open_left-ending.new.row c.args.last.now c.open_left-ending.new.last made_is c.in-Unclosed.ensures in
-    let packed : c.pack.new.rows ≡ rows_of (spread_marks (kept_in c.args.p.m c.args.rows.now) c.args.p.m pending.1.marks) = let p = pending.1 in
-    packed_rows c.args.p.m _ _ _ (spread-size (kept_in c.args.p.m c.args.rows.now) c.args.p.m excluded free p.marks)
-    (λ i h.
-    ap (λ (w : List ℕ). expanded_at bytes w 2 i) p.bytes
-    ∙ expanded_mark bytes c.args.p.m few p.marks i h)
-    c.pack.ensures in
-    let v = pending in
-    c.split.ensures v.1.multipliers v.1.told
-    ∙ left_unclosed opening _ _ _ _ few v.0 _ _ v.1 _ packed
+pub returns-in-Unclosed : goal.returns-in-Unclosed
+returns-in-Unclosed c = let a = c.args in
+    let few : a.g.now.m ≤ 190 = omega (arith, c.from-m.ensures) in
+    let v =
+    ended _ _ a.multipliers.now a.settings (Ok ending.Unclosed) c.open_left.new.g.mark a.node.now.last c.open_left.new.last
+    c.without_excluded-left.ensures.graph (rw c.in-Unclosed.is at c.in_ok-open_left.ensures.ending)
+    in
+    let packed = packed_is a.g.now.m a.node.now.rows few v.1.marks _ _ v.1.bytes (rw c.from-m.ensures at c.pack.ensures) in
+    (rw c.from-m.ensures at c.split.ensures) v.1.multipliers v.1.told
+    ∙ left_unclosed (taken (marked a.g.now a.node.now.rows) a.multipliers.now a.settings) _ few v.0 _ _ v.1 _ packed

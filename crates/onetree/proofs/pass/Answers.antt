@@ -1,61 +1,36 @@
--- Each way out is one case of the pass: pass-refused, pass_none, pass_some.
-use mathlib.Core.Path.{◌≡◌, refl, ◌∙◌, ap}
-use borrow.Author.Tests.{not-true, not-false}
-use mir.Facts.{to_z-of_z}
-use Rattle.integers.specs.Words.{back64}
-use Rattle.integers.specs.Multiples.{◌times◌}
+-- What the code knows is what the pass says, case by case.
+use Rattle.std.proofs.Common.{ℕ, ℤ, List, Option, None, Some, Result, Ok, Err, sym, arith}
+use Rattle.std.proofs.Math.Facts.{to_z-of_z}
 use Rattle.graph.specs.declared.Graph.{Graph}
-use Rattle.graph.specs.Valid.{graph_of}
-use Rattle.onetree.specs.Answers.{rule_meaning, rule_fault}
-use Rattle.onetree.specs.Ceiling.{PassLists, pass_lists, AgainstCeiling, RuledOrRefused, ruled-refused, ruled_accepted}
-use Rattle.onetree.specs.RuleCall.{pass-refused, pass_none, pass_some}
+use Rattle.graph.specs.declared.refusals.Refusal.{Refusal}
+use Rattle.graph.specs.Refusals.{number, positive}
+use Rattle.greedy.specs.declared.Found.{Found}
+use Rattle.onetree.specs.declared.PassLists.{PassLists}
+use Rattle.onetree.specs.Answers.{pass_meaning, HintAfter}
+use Rattle.onetree.specs.Ceiling.{RuledOrRefused}
+use Rattle.onetree.specs.RuleCall.{PassIs, pass-refused, pass_none, pass_some}
 use Rattle.onetree.proofs.pass.Goals as goal
 
-pub returns-then-f-ne0 : goal.returns-then-f-ne0
-unfolding rule_meaning
-returns-then-f-ne0 c =
-    let of : Graph = let a = c.args in graph_of a.n a.m a.a.now a.b.now a.cost.now a.mark.now in
-    let lent : PassLists = let a = c.args in pass_lists a.tree.now a.rulings.now a.order.now in
-    let left : PassLists = let l = c.judge-f.new in pass_lists l.tree l.res l.order in
-    let judged : RuledOrRefused c.args.denominator of c.args.multipliers.now c.args.ceiling c.args.m lent c.judge-f.result left = rw (to_z-of_z c.ranges.ceiling) at c.judge-f.ensures in
-    let x =
-    ruled-refused _ c.args.denominator of c.args.multipliers.now (c.args.denominator times c.args.ceiling) lent c.judge-f.result left judged c.if-f-ne0.true in
-    let r = pass-refused of c.args.multipliers.now c.args.ceiling c.args.denominator _ _ c.judge-f.result.fault x.0 c.if-f-ne0.true in (
-      r.reply,
-      ap (λ (l : PassLists). l.tree) x.1 ∙ r.chosen,
-      ap (λ (l : PassLists). l.rulings) x.1 ∙ r.ruled,
-      (ap (λ (l : PassLists). l.order) x.1, refl),
-    )
+-- by the answer, from what its code knows
+pass_is : (g : Graph) (d : List ℤ) (ceiling : ℤ) (den : ℕ) (before : PassLists) (r : Result (Option Found) Refusal) (after : PassLists)
+    → RuledOrRefused den g d ceiling g.m before r after
+    → PassIs g d ceiling den before.least.tree before.rulings (pass_meaning r) after.least.tree after.rulings
+pass_is g d ceiling den before (Err e) after h = rw (h.leaves.0, h.leaves.2)
+    (pass-refused g d ceiling den before.least.tree before.rulings (number e) h.fault (λ z. omega (arith, positive e)))
+pass_is g d ceiling den before (Ok None) after h = rw (h.leaves.tree, h.leaves.rulings)
+    (pass_none g d ceiling den before.least.tree before.rulings (sym h.fault) h.leaves.over)
+pass_is g d ceiling den before (Ok (Some r)) after h =
+    pass_some g d ceiling den before.least.tree before.rulings (sym h.fault) r.bound after.least.tree after.rulings h.leaves.0
 
-pub returns-then-not-f : goal.returns-then-not-f
-unfolding rule_meaning
-returns-then-not-f c =
-    let of : Graph = let a = c.args in graph_of a.n a.m a.a.now a.b.now a.cost.now a.mark.now in
-    let lent : PassLists = let a = c.args in pass_lists a.tree.now a.rulings.now a.order.now in
-    let left : PassLists = let l = c.judge-f.new in pass_lists l.tree l.res l.order in
-    let judged : RuledOrRefused c.args.denominator of c.args.multipliers.now c.args.ceiling c.args.m lent c.judge-f.result left = rw (to_z-of_z c.ranges.ceiling) at c.judge-f.ensures in
-    let accepted : (rule_fault of c.args.multipliers.now c.args.ceiling c.args.denominator c.args.m ≡ 0)
-    × AgainstCeiling c.args.denominator of c.args.multipliers.now (c.args.denominator times c.args.ceiling) c.judge-f.result left = ruled_accepted _ c.args.denominator of c.args.multipliers.now (c.args.denominator times c.args.ceiling) lent c.judge-f.result left judged c.if-f-ne0.false in
-    let ok = accepted in
-    let none = ok.1.none (not-true _ c.if-not-f.true) in
-    let r = pass_none of c.args.multipliers.now c.args.ceiling c.args.denominator _ _ ok.0 none.0 in (
-      r.reply,
-      ap (λ (l : PassLists). l.tree) none.2 ∙ r.chosen,
-      ap (λ (l : PassLists). l.rulings) none.2 ∙ r.ruled,
-      (ap (λ (l : PassLists). l.order) none.2, refl),
-    )
+pass_hints : (g : Graph) (d : List ℤ) (ceiling : ℤ) (den lent : ℕ) (before : PassLists) (r : Result (Option Found) Refusal) (after : PassLists)
+    → RuledOrRefused den g d ceiling lent before r after → HintAfter r g.mark g.m before.least.order after.least.order
+pass_hints g d ceiling den lent before (Err e) after h = h.leaves.1
+pass_hints g d ceiling den lent before (Ok None) after h = h.leaves.order
+pass_hints g d ceiling den lent before (Ok (Some r)) after h = h.leaves.1
 
 pub returns : goal.returns
-unfolding rule_meaning
 returns c =
-    let of : Graph = let a = c.args in graph_of a.n a.m a.a.now a.b.now a.cost.now a.mark.now in
-    let lent : PassLists = let a = c.args in pass_lists a.tree.now a.rulings.now a.order.now in
-    let left : PassLists = let l = c.judge-f.new in pass_lists l.tree l.res l.order in
-    let judged : RuledOrRefused c.args.denominator of c.args.multipliers.now c.args.ceiling c.args.m lent c.judge-f.result left = rw (to_z-of_z c.ranges.ceiling) at c.judge-f.ensures in
-    let accepted : (rule_fault of c.args.multipliers.now c.args.ceiling c.args.denominator c.args.m ≡ 0)
-    × AgainstCeiling c.args.denominator of c.args.multipliers.now (c.args.denominator times c.args.ceiling) c.judge-f.result left = ruled_accepted _ c.args.denominator of c.args.multipliers.now (c.args.denominator times c.args.ceiling) lent c.judge-f.result left judged c.if-f-ne0.false in
-    let ok = accepted in
-    let some = ok.1.some (not-false _ c.if-not-f.false) in
-    let r = pass_some of c.args.multipliers.now c.args.ceiling c.args.denominator _ _ ok.0 c.judge-f.result.bound left.tree
-    left.rulings some.0 in
-    rw (back64 c.judge-f.result.bound ok.1.fits) (r.reply, r.chosen, r.ruled, some.1)
+    let a = c.args in
+    let h = rw (to_z-of_z c.ranges.ceiling, c.from.ensures) at c.judge.ensures in
+    let p = pass_is a.g.now a.multipliers.now a.ceiling a.denominator a.lists.now c.judge.result c.judge.new.lists h in
+    record { reply = p.reply; tree = p.chosen; rulings = p.ruled; hint = pass_hints _ _ _ _ _ _ _ _ h }

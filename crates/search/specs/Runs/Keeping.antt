@@ -2,7 +2,6 @@
 use Rattle.std.specs.Prelude.{◌≡◌, refl, Bool, true, false, cond, List, ℕ, ◌+◌, ◌≤◌, eqb, length, get_or, ℤ}
 use Rattle.std.proofs.Common.{ap, ◌∙◌, add-one}
 use Rattle.std.specs.Int.Signed.{lt_z}
-use Rattle.lists.specs.Bools.{bit}
 use Rattle.graph.specs.declared.Graph.{Graph}
 use Rattle.graph.specs.Limits.{max_edges}
 use Rattle.graph.specs.Network.{network}
@@ -22,9 +21,9 @@ use Rattle.search.specs.Runs.Costs.{bits_edges, cost-bits}
 unfoldable pub replaces_by : ℕ → ℤ → ℤ → List ℕ → List ℕ → Bool
 replaces_by m x y f b = cond (lt_z x y) true (cond (lt_z y x) false (lacks_first m (bytes f) (bytes b)))
 
--- the bytes that are kept of a found tour's f and the best one's b; h is 1 where there is one
-unfoldable pub kept_of : Graph → ℕ → List ℕ → List ℕ → List ℕ
-kept_of g h f b = cond (eqb h 1) (cond (replaces (network g) (bits g.m f) (bits g.m b)) f b) f
+-- the bytes that are kept of a found tour's f and the best one's b; h says whether there is one
+unfoldable pub kept_of : Graph → Bool → List ℕ → List ℕ → List ℕ
+kept_of g h f b = cond h (cond (replaces (network g) (bits g.m f) (bits g.m b)) f b) f
 
 -- ---- the comparison edge by edge
 
@@ -59,7 +58,7 @@ bits_back m t few z = same (bits m (best_bytes (a_tour t))) t (best_back m (a_to
     same x y e = cc
 
 pub kept_is : (g : Graph) (i : Incumbent (List Bool)) (t : List Bool) → g.m ≤ max_edges → Sized g.m i → length t ≡ g.m
-    → kept_of g (bit (has_incumbent i)) (best_bytes (a_tour t)) (best_bytes i) ≡ best_bytes (outcomes.best_of (better (network g)) i t)
+    → kept_of g (has_incumbent i) (best_bytes (a_tour t)) (best_bytes i) ≡ best_bytes (outcomes.best_of (better (network g)) i t)
 unfolding kept_of has_incumbent better
 kept_is g no_tour t few z long = refl
 kept_is g (a_tour b) t few z long =

@@ -1,9 +1,7 @@
 -- The product and the sum fit, since a state is small.
-use native.Mathlib.Omega.{arith}
 use mathlib.Core.Path.{refl}
 use Rattle.sailing.specs.Draws.{next}
 use Rattle.sailing.specs.Apart.{next_small}
-use Rattle.std.proofs.Common.{rules}
 use Rattle.simulation.proofs.next.Goals as goal
 
 pub returns : goal.returns

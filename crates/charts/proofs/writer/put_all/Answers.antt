@@ -1,42 +1,31 @@
--- After k records the list starts with the header and these, as specs/WriterLoop.antt has it.
-use mathlib.Core.Path.{◌≡◌, sym, ◌∙◌}
-use Rattle.charts.specs.Chart.{size_of, header_bytes, file_bytes}
-use Rattle.charts.specs.WriterLoop.{write_start, write_step, write_end}
-use native.Mathlib.Omega.{arith}
+-- A record more is appended to what stands before it; after m of them nothing is left.
+use Rattle.std.specs.Prelude.{◌≡◌, ◌+◌, ◌-◌, ◌*◌, length, drop}
+use Rattle.std.proofs.Common.{◌∙◌, ap, sym, arith, take_all}
+use Rattle.std.proofs.lemmas.Slice.{take-put_mid}
+use Rattle.charts.specs.Chart.{size_of, header_bytes, record_bytes, file_bytes}
+use Rattle.charts.specs.WriterLoop.{write_start, write_step}
 use Rattle.charts.proofs.writer.put_all.Goals as goal
 
-pub put_header-requires : goal.put_header-requires
-put_header-requires c = (omega (arith, c.wide-n.ensures), omega (arith, c.requires))
-
 pub loop-k-init : goal.loop-k-init
-loop-k-init c = let g = c.args.g in
-    let put = c.put_header in (
-      omega arith,
-      c.requires.1,
-      put.auto.out ∙ c.requires.2,
-      (rw (put.ensures, c.wide-n.ensures.0, c.wide-m.ensures.0)
-          (write_start g.n g.m g c.args.out.now (omega (arith, c.requires)))),
-    )
-
-pub put_record-requires : goal.put_record-requires
-put_record-requires c = (omega arith, omega arith)
+loop-k-init c =
+    let g = c.args.g.now in
+    rw (c.copy_from_slice.ensures.after ∙ c.header.ensures) (write_start g.n g.m g (drop 8 c.args.out.now))
 
 pub loop-k-preserved : goal.loop-k-preserved
-loop-k-preserved c = let turn = c.loop-k in
-    let g = c.args.g in
-    let put = c.put_record in (
-      omega arith,
-      turn.invariant.1,
-      put.auto.out ∙ turn.invariant.2,
-      (rw put.ensures (write_step (header_bytes g.n g.m) g turn.out turn.k (omega arith) turn.invariant.3)),
-    )
-
-pub shape_of-out : goal.shape_of-out
-shape_of-out c = c.loop-k.invariant.2 ∙ sym c.requires.2
+unfolding record_bytes
+loop-k-preserved c =
+    let g = c.args.g.now in
+    let l = c.loop-k in
+    let start = 8 + 12 * c.from.result in
+    let new = c.copy_from_slice-in-loop-k in
+    let put = new.ensures.after ∙ c.record.ensures in
+    let at : 8 + 12 * l.k ≡ start = omega arith in
+    take-put_mid start (start + 12 - start) l.out new.new.self (size_of (l.k + 1)) (omega (arith, ap length put)) (omega arith)
+    ∙ rw (put, rw at at l.invariant) (write_step (header_bytes g.n g.m) g l.k)
 
 pub returns : goal.returns
 unfolding file_bytes
-returns c = let g = c.args.g in
-    let turn = c.loop-k in
-    let e : turn.k ≡ g.m = omega arith in
-    write_end turn.out _ (size_of g.m) turn.invariant.2 (rw e at turn.invariant.3)
+returns c =
+    let l = c.loop-k in
+    let e : l.k ≡ c.args.g.now.m = omega arith in
+    sym (take_all (size_of c.args.g.now.m) l.out (omega arith)) ∙ rw e at l.invariant

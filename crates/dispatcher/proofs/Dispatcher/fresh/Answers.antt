@@ -6,4 +6,4 @@ use Rattle.dispatcher.proofs.Dispatcher.fresh.Goals as goal
 
 pub returns : goal.returns
 unfolding encode_all fresh encode
-returns c = rw c.fresh-s.ensures
+returns c = rw c.fresh.ensures

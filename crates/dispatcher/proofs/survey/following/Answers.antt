@@ -1,6 +1,5 @@
 -- By the two cases of its definition.
-use borrow.Author.Tests.{lt-ltb, le-ltb}
-use native.Mathlib.Omega.{arith}
+use Rattle.std.proofs.Common.{arith, lt-ltb, le-ltb}
 use Rattle.dispatch_theory.specs.Dispatcher.{following}
 use Rattle.dispatcher.proofs.survey.following.Goals as goal
 
@@ -8,6 +7,6 @@ pub returns-then-last-lt-PLACES : goal.returns-then-last-lt-PLACES
 unfolding following
 returns-then-last-lt-PLACES c = rw (lt-ltb c.args.last 8 c.if-last-lt-PLACES.true) (omega arith)
 
-pub returns : goal.returns
+pub returns-else-last-lt-PLACES : goal.returns-else-last-lt-PLACES
 unfolding following
-returns c = rw (le-ltb c.args.last 8 (omega (arith, c.if-last-lt-PLACES.false)))
+returns-else-last-lt-PLACES c = rw (le-ltb c.args.last 8 (omega (arith, c.if-last-lt-PLACES.false)))

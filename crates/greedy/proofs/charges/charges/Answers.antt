@@ -1,16 +1,10 @@
 -- Either way every charge is made with q; where q is 1 the call says so by the number.
-use mathlib.Core.Path.{◌≡◌, sym, subst}
-use mathlib.Core.List.{List}
-use Prim.Native.Nat.{ℕ}
-use lib.IntN.{ℤ}
+use Rattle.std.proofs.Common.{ℕ, sym, subst}
 use Rattle.greedy.specs.Charging.{ChargesOf}
 use Rattle.greedy.proofs.charges.charges.Goals as goal
 
-with-one : (q : ℕ) → q ≡ 1 → (a b : List ℕ) (cost d : List ℤ) (c : List ℕ) (m : ℕ) → ChargesOf 1 a b cost d c m → ChargesOf q a b cost d c m
-with-one q e a b cost d c m h = subst (λ (x : ℕ). ChargesOf x a b cost d c m) (sym e) h
-
 pub returns-then-q-eq1 : goal.returns-then-q-eq1
-returns-then-q-eq1 c = let s = c.args in
+returns-then-q-eq1 c =
+    let g = c.args.g.now in
     let each = c.charge_each.ensures in
-    let filled = c.charge_each.new.c in
-    (with-one s.q c.if-q-eq1.true s.a.now s.b.now s.cost.now s.d.now filled s.m each.0, each.1, each.2)
+    (subst (λ (q : ℕ). ChargesOf q g c.args.multipliers.now c.charge_each.new.charges g.m) (sym c.if-q-eq1.true) each.0, each.1, each.2)

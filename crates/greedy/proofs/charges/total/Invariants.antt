@@ -1,12 +1,6 @@
--- The loop keeps: the sum is that of the first i multipliers, each moved up; raised-more is one turn.
-use Prim.Native.Nat.{◌≤◌, ◌-◌}
-use lib.ListN.{length}
-use Rattle.tree_theory.specs.Multipliers.{Ranged}
+-- The loop keeps: the sum is that of the multipliers before, each moved up.
 use Rattle.greedy.specs.Charging.{Raised}
 use Rattle.greedy.proofs.charges.total.Given as goal
 
-abbrev pub invariant-loop-i : goal.invariant-loop-i
-invariant-loop-i l = (l.i ≤ length l.d) × (length l.d ≤ 20) × Ranged l.d × Raised l.d l.i l.sum
-
-abbrev pub decreases-loop-i : goal.decreases-loop-i
-decreases-loop-i l = length l.d - l.i
+abbrev pub invariant-loop-x : goal.invariant-loop-x
+invariant-loop-x l = Raised l.multipliers l.x-index l.sum

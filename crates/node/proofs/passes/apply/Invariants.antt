@@ -1,12 +1,8 @@
 -- The loop keeps: the first k marks are those of the rulings, and past m there is none.
-use Prim.Native.Nat.{◌≤◌, ◌-◌}
-use lib.ListN.{get_or}
+use Rattle.std.proofs.Common.{get_or}
 use Rattle.lists.specs.Filling.{Renewing}
 use Rattle.node.specs.Marking.{mark_byte}
 use Rattle.node.proofs.passes.apply.Given as goal
 
 abbrev pub invariant-loop-k : goal.invariant-loop-k
-invariant-loop-k l = (l.k ≤ l.m) × (l.m ≤ 190) × Renewing 0 190 l.m l.k (λ j. mark_byte (get_or l.rulings j 0)) l.marks
-
-abbrev pub decreases-loop-k : goal.decreases-loop-k
-decreases-loop-k l = l.m - l.k
+invariant-loop-k l = Renewing 0 190 l.m l.k (λ j. mark_byte (get_or l.rulings j 0)) l.marks

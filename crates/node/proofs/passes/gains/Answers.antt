@@ -1,43 +1,30 @@
--- The loop keeps: vertices 2 to v have gained.
-use Prim.Native.Nat.{◌<◌}
-use native.Mathlib.Omega.{arith}
-use lib.ListN.{get_or}
-use lib.IntN.{pos}
+-- Vertex by vertex: those from v on have not gained yet.
+use Rattle.std.proofs.Common.{◌<◌, pos, get_or, arith}
 use lib.Signed.{mag}
 use Rattle.integers.specs.Words.{back32}
 use Rattle.node.specs.Gains.{gains_none, gains_more, gains_to}
 use Rattle.node.proofs.passes.gains.Goals as goal
 
 pub loop-v-init : goal.loop-v-init
-loop-v-init c = (omega arith, c.requires.0, c.requires.1, gains_none _ _ _ (omega arith))
+loop-v-init c = gains_none _ _ _ c.told-d
 
-pub gain-requires : goal.gain-requires
-gain-requires c = c.requires.2
-
-pub gained-requires : goal.gained-requires
-gained-requires c = let l = c.loop-v in
-    let fits : mag (get_or c.args.d l.v (pos 0)) < 2147483648 = omega arith in
-    rw (back32 (get_or c.args.d l.v (pos 0)) fits, back32 c.gain.result c.gain.type_inv)
-    (c.requires.3 l.v (omega arith), c.gain.ensures.1)
+pub gained-requires-clause-multiplier : goal.gained-requires-clause-multiplier
+gained-requires-clause-multiplier c = let l = c.loop-v in
+    let fits : mag (get_or l.d l.v (pos 0)) < 2147483648 = omega arith in
+    rw (back32 (get_or l.d l.v (pos 0)) fits, l.invariant.rest l.v (omega arith)) (c.requires.ranged l.v (omega arith))
 
 pub loop-v-preserved : goal.loop-v-preserved
 loop-v-preserved c = let l = c.loop-v in
-    let fits : mag (get_or c.args.d l.v (pos 0)) < 2147483648 = omega arith in
+    let fits : mag (get_or l.d l.v (pos 0)) < 2147483648 = omega arith in
     let e =
     rw (
-      back32 (get_or c.args.d l.v (pos 0)) fits,
+      back32 (get_or l.d l.v (pos 0)) fits,
       back32 c.gain.result c.gain.type_inv,
-      c.gain.ensures.0,
+      c.gain.ensures.value,
+      l.invariant.rest l.v (omega arith),
     ) at c.gained.ensures
     in
-    rw (back32 c.gained.result c.gained.type_inv) (
-      omega arith,
-      omega arith,
-      l.invariant.2,
-      gains_more l.v c.args.step c.args.degrees.now c.args.d l.r c.gained.result l.invariant.0 (omega arith)
-          e l.invariant.3,
-    )
+    rw (back32 c.gained.result c.gained.type_inv) (gains_more l.v c.args.step _ _ l.d c.gained.result (omega arith) (omega arith) e l.invariant)
 
 pub returns : goal.returns
-returns c = let l = c.loop-v in
-    gains_to l.v _ _ _ _ _ (omega arith) l.invariant.3
+returns c = gains_to c.loop-v.v _ _ _ _ _ (omega arith) c.loop-v.invariant

@@ -1,110 +1,85 @@
--- The loop keeps: the passes that are left come to what all of them come to, or none is made yet.
-use Prim.Native.Nat.{ℕ, ◌<◌, ◌-◌}
-use mathlib.Core.Path.{◌≡◌, refl}
-use mathlib.Core.Logic.{inl, inr}
-use native.Mathlib.Omega.{arith}
-use mathlib.Core.Bool.{true}
-use mathlib.Core.List.{List}
-use lib.ListN.{get_or, length-take}
-use lib.IntN.{ℤ, pos}
-use Rattle.lists.specs.Fill.{fit, fit-size, fit_at}
-use Rattle.integers.specs.Range.{InRange}
+-- Turn by turn, by the verdict of its pass.
+use Rattle.std.proofs.Common.{refl, ap, ◌∙◌, inl, arith}
+use Rattle.std.proofs.lemmas.Result.{err_from_is_err_and}
 use Rattle.graph.specs.declared.Graph.{Graph}
-use Rattle.graph.specs.Limits.{max_multiplier}
-use Rattle.graph.specs.Valid.{graph_of}
-use Rattle.tree_theory.specs.Inputs.{multipliers_fit}
-use Rattle.tree_theory.specs.Multipliers.{fit_ranged}
-use Rattle.machine.specs.Calls.{fault}
-use Rattle.node.specs.Opened.{taken}
-use Rattle.node.specs.Faults.{fault-fit}
-use Rattle.node.proofs.Turns.{turn_shut, turn_found, turn_last, turn_next}
-use Rattle.node.specs.Refusing.{AtPassOf, taken_at, turn_padded, turn_refused, turn_accepted}
+use Rattle.node.specs.Marks.{with_bytes}
+use Rattle.node.proofs.Turns.{at_padded, at_refused, at_shut, at_found, at_ruled}
 use Rattle.node.proofs.passes.open_left.Goals as goal
+use Rattle.node.proofs.passes.open_left.Goals.{then-left-gt0, else-left-gt0, else-loop-left-test, then-loop-left-test+in_ok-judge+in-Ruled+else-left-gt0}
 
--- multipliers that fit are in their range
-ranged : (n : ℕ) (d : List ℤ) → multipliers_fit (fit n (pos 0) d) ≡ true → (i : ℕ) → i < n → InRange max_multiplier (get_or d i (pos 0))
-ranged n d h i b = rw (← fit_at n (pos 0) d i b) (fit_ranged (fit n (pos 0) d) h i (omega (arith, fit-size n (pos 0) d)))
+pub loop-left-init : goal.loop-left-init
+loop-left-init c = record { turn = inl (refl, refl, refl); marks_alone = refl; hint = omega arith }
 
-pub loop-number-init : goal.loop-number-init
-loop-number-init c = (c.requires.0, c.requires.1, c.requires.2, inl (refl, refl, refl), omega arith, refl, refl, refl)
+pub judge-requires-clause-padded : goal.judge-requires-clause-padded
+judge-requires-clause-padded c = let i = c.loop-left.invariant in
+    at_padded c.args.g.now _ _ c.requires.padded _ c.loop-left.g _ i.marks_alone i.turn
 
-pub slice_bounds-judge-end : goal.slice_bounds-judge-end
-slice_bounds-judge-end c = let l = c.loop-number in
-    omega (arith, length-take l.live l.hint, l.invariant.4, l.invariant.7)
+pub returns-in_err-judge-clause-ending : goal.returns-in_err-judge-clause-ending
+returns-in_err-judge-clause-ending c = let i = c.loop-left.invariant in
+    let p = err_from_is_err_and c.from_residual.result c.from_residual.ensures.1 in
+    rw (p.1, p.2)
+    (at_refused c.args.g.now _ _ c.requires.padded _ c.loop-left.g _ i.marks_alone i.turn _ _ c.in_err-judge.ensures.verdict, refl)
 
-pub judge-verdict-requires : goal.judge-verdict-requires
-judge-verdict-requires c =
-    let given : Graph = let a = c.args in
-    graph_of a.p.n a.p.m a.a.now a.b.now a.cost.now a.row.now in
-    let l = c.loop-number in
-    (l.invariant.0, l.invariant.1, turn_padded c.args.p given l.invariant.2 _ _ _ l.invariant.3, l.invariant.5, refl)
+pub returns-in-Shut-clause-ending : goal.returns-in-Shut-clause-ending
+returns-in-Shut-clause-ending c = let i = c.loop-left.invariant in
+    at_shut c.args.g.now _ _ c.requires.padded _ c.loop-left.g _ i.marks_alone i.turn c.judge.new.g.mark
+    (rw c.in-Shut.is at c.in_ok-judge.ensures.verdict)
 
-pub returns-in-Refused : goal.returns-in-Refused
-returns-in-Refused c =
-    let given : Graph = let a = c.args in
-    graph_of a.p.n a.p.m a.a.now a.b.now a.cost.now a.row.now in
-    let l = c.loop-number in
-    let v = c.in-Refused.ensures.0 in (
-      turn_refused c.args.p given l.invariant.2 l.left l.row l.d l.invariant.3 _ v.0 v.1,
-      v.1,
-      l.invariant.6,
-    )
+pub returns-in-Found-clause-ending : goal.returns-in-Found-clause-ending
+returns-in-Found-clause-ending c = let i = c.loop-left.invariant in
+    at_found c.args.g.now _ _ c.requires.padded _ c.loop-left.g _ i.marks_alone i.turn _
+    (rw c.in-Found.is at c.in_ok-judge.ensures.verdict)
 
-pub returns-in-Shut : goal.returns-in-Shut
-returns-in-Shut c =
-    let given : Graph = let a = c.args in
-    graph_of a.p.n a.p.m a.a.now a.b.now a.cost.now a.row.now in
-    let accepted : fault (taken_at c.args.p given c.loop-number.row c.loop-number.d) ≡ 0 → let p = c.args.p in let g = given in let l = c.loop-number in (fault (taken p g) ≡ 0) × AtPassOf p g l.left l.row l.d = λ e. let l = c.loop-number in
-    turn_accepted c.args.p given l.invariant.2 l.left l.row l.d l.invariant.3 e in
-    let v = c.in-Shut.ensures.0 in
-    let t = accepted v.0 in
-    (t.0, turn_shut _ _ (fault-fit _ t.0).valid _ _ _ _ _ _ t.1 v.1)
-
-pub returns-in-Found : goal.returns-in-Found
-returns-in-Found c =
-    let given : Graph = let a = c.args in
-    graph_of a.p.n a.p.m a.a.now a.b.now a.cost.now a.row.now in
-    let accepted : fault (taken_at c.args.p given c.loop-number.row c.loop-number.d) ≡ 0 → let p = c.args.p in let g = given in let l = c.loop-number in (fault (taken p g) ≡ 0) × AtPassOf p g l.left l.row l.d = λ e. let l = c.loop-number in
-    turn_accepted c.args.p given l.invariant.2 l.left l.row l.d l.invariant.3 e in
-    let v = c.in-Found.ensures.0 in
-    let t = accepted v.0 in
-    (t.0, turn_found _ _ (fault-fit _ t.0).valid _ _ _ _ _ _ t.1 _ v.1)
-
-pub hand_on-requires : goal.hand_on-requires
-hand_on-requires c = c.loop-number.invariant.0
-
-pub returns-then-left-eq0 : goal.returns-then-left-eq0
-returns-then-left-eq0 c =
-    let given : Graph = let a = c.args in
-    graph_of a.p.n a.p.m a.a.now a.b.now a.cost.now a.row.now in
-    let accepted : fault (taken_at c.args.p given c.loop-number.row c.loop-number.d) ≡ 0 → let p = c.args.p in let g = given in let l = c.loop-number in (fault (taken p g) ≡ 0) × AtPassOf p g l.left l.row l.d = λ e. let l = c.loop-number in
-    turn_accepted c.args.p given l.invariant.2 l.left l.row l.d l.invariant.3 e in
-    let v = c.in-Ruled.ensures.0 in
-    let t = accepted v.0 in
-    (t.0, turn_last _ _ (fault-fit _ t.0).valid _ _ _ _ _ _ t.1 _ _ v.1 c.if-left-eq0.true _ c.hand_on.ensures)
-
-pub gains-next-requires : goal.gains-next-requires
-gains-next-requires c =
-    let given : Graph = let a = c.args in
-    graph_of a.p.n a.p.m a.a.now a.b.now a.cost.now a.row.now in
-    let accepted : fault (taken_at c.args.p given c.loop-number.row c.loop-number.d) ≡ 0 → let p = c.args.p in let g = given in let l = c.loop-number in (fault (taken p g) ≡ 0) × AtPassOf p g l.left l.row l.d = λ e. let l = c.loop-number in
-    turn_accepted c.args.p given l.invariant.2 l.left l.row l.d l.invariant.3 e in
-    let v = c.in-Ruled.ensures.0 in
-    let t = accepted v.0 in
-    let f = fault-fit _ t.0 in
-    (omega (arith, f.valid.low), f.valid.high, f.step, ranged _ c.loop-number.d t.1.fits)
-
-pub loop-number-preserved : goal.loop-number-preserved
-loop-number-preserved c =
-    let given : Graph = let a = c.args in
-    graph_of a.p.n a.p.m a.a.now a.b.now a.cost.now a.row.now in
-    let accepted : fault (taken_at c.args.p given c.loop-number.row c.loop-number.d) ≡ 0 → let p = c.args.p in let g = given in let l = c.loop-number in (fault (taken p g) ≡ 0) × AtPassOf p g l.left l.row l.d = λ e. let l = c.loop-number in
-    turn_accepted c.args.p given l.invariant.2 l.left l.row l.d l.invariant.3 e in
-    let l = c.loop-number in
-    let v = c.in-Ruled.ensures.0 in
-    let t = accepted v.0 in
-    let next =
-    turn_next _ _ (fault-fit _ t.0).valid _ _ _ _ _ _ t.1 _ _ v.1 c.gains-next.result c.gains-next.ensures (l.left - 1)
-    (omega (arith, c.if-left-eq0.false))
+pub gains-requires-clause-some : goal.gains-requires-clause-some
+gains-requires-clause-some c = let i = c.loop-left.invariant in
+    let t =
+    at_ruled c.args.g.now _ _ c.requires.padded _ c.loop-left.g _ i.marks_alone i.turn _ _ _ (rw c.in-Ruled.is at c.in_ok-judge.ensures.verdict)
     in
-    (l.invariant.0, l.invariant.1, l.invariant.2, inr (t.0, next), v.2, c.judge-verdict.ensures.1, l.invariant.6, c.judge-verdict.ensures.1)
+    omega (arith, c.from-n.ensures, t.some)
+
+pub gains-requires-clause-step : goal.gains-requires-clause-step
+gains-requires-clause-step c = let i = c.loop-left.invariant in
+    let t =
+    at_ruled c.args.g.now _ _ c.requires.padded _ c.loop-left.g _ i.marks_alone i.turn _ _ _ (rw c.in-Ruled.is at c.in_ok-judge.ensures.verdict)
+    in
+    t.step
+
+pub gains-requires-clause-ranged : goal.gains-requires-clause-ranged
+gains-requires-clause-ranged c = let i = c.loop-left.invariant in
+    let t =
+    at_ruled c.args.g.now _ _ c.requires.padded _ c.loop-left.g _ i.marks_alone i.turn _ _ _ (rw c.in-Ruled.is at c.in_ok-judge.ensures.verdict)
+    in
+    rw c.from-n.ensures t.ranged
+
+pub loop-left-preserved : goal.loop-left-preserved
+loop-left-preserved c = let i = c.loop-left.invariant in
+    let t =
+    at_ruled c.args.g.now _ _ c.requires.padded _ c.loop-left.g _ i.marks_alone i.turn _ _ _ (rw c.in-Ruled.is at c.in_ok-judge.ensures.verdict)
+    in
+    let same = c.judge.ensures.marks_alone ∙ ap (λ (h : Graph). with_bytes h c.judge.new.g.mark) i.marks_alone in
+    elim c.if-left-gt0.branch [
+      | then-left-gt0 w ↦
+          rw (w.d-is, w.live-is) (record {
+            turn = t.next (omega arith) _ (rw c.from-n.ensures at w.gains.ensures);
+            marks_alone = same;
+            hint = t.few;
+          })
+      | else-left-gt0 w ↦ absurd (omega arith)
+    ]
+
+pub returns-clause-ending : goal.returns-clause-ending
+returns-clause-ending c = let i = c.loop-left.invariant in
+    elim c.loop-left-test.branch [
+      | else-loop-left-test w ↦ absurd (omega arith)
+      | then-loop-left-test+in_ok-judge+in-Ruled+else-left-gt0 w ↦
+          let t =
+          at_ruled c.args.g.now _ _ c.requires.padded _ c.loop-left.g _ i.marks_alone i.turn _ _ _
+          (rw w.in-Ruled.is at w.in_ok-judge.ensures.verdict)
+          in
+          elim w.if-left-gt0.branch [
+            | then-left-gt0 v ↦ absurd (omega arith)
+            | else-left-gt0 v ↦
+                let told = rw (c.from-n.ensures, w.d-is, v.d-is) at c.hand_on.ensures in
+                rw (w.g-is, told) (t.fine, t.last (omega arith))
+          ]
+    ]

@@ -7,4 +7,4 @@ use Rattle.node.proofs.rows.free_word.Goals as goal
 
 pub returns : goal.returns
 returns c = subst (λ (x : ℕ). Masked (free_in c.args.m c.args.rows.now) c.args.m c.args.w x) (sym c.others.ensures)
-    (free_masked c.args.m c.args.rows.now c.requires.0 c.args.w)
+    (free_masked c.args.m c.args.rows.now c.requires.few c.args.w)

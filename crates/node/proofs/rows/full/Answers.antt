@@ -1,8 +1,6 @@
 -- By the number of bits.
-use native.Mathlib.Omega.{arith}
+use Rattle.std.proofs.Common.{◌-◌, ◌*◌, arith, pow_pos}
 use Rattle.node.specs.Words.{full_none, full_all, full_some, shifted}
-use lib.Pow.{pow_pos}
-use Prim.Native.Nat.{◌-◌, ◌*◌}
 use Rattle.node.proofs.rows.full.Goals as goal
 
 pub returns-then-m-low : goal.returns-then-m-low
@@ -11,9 +9,9 @@ returns-then-m-low c = full_none c.args.m c.args.w (omega (arith, c.if-m-low.tru
 pub returns-then-m-low-ge-WORD_BITS : goal.returns-then-m-low-ge-WORD_BITS
 returns-then-m-low-ge-WORD_BITS c = full_all c.args.m c.args.w (omega (arith, c.if-m-low-ge-WORD_BITS.true))
 
-pub overflow_sub-result-2 : goal.overflow_sub-result-2
-overflow_sub-result-2 c = let a = c.args in
+pub overflow_sub-result-else-m-low-ge-WORD_BITS : goal.overflow_sub-result-else-m-low-ge-WORD_BITS
+overflow_sub-result-else-m-low-ge-WORD_BITS c = let a = c.args in
     omega (arith, shifted (a.m - 64 * a.w) (omega (arith, c.if-m-low-ge-WORD_BITS.false)), pow_pos (a.m - 64 * a.w))
 
-pub returns : goal.returns
-returns c = full_some c.args.m c.args.w (omega (arith, c.if-m-low-ge-WORD_BITS.false))
+pub returns-else-m-low-ge-WORD_BITS : goal.returns-else-m-low-ge-WORD_BITS
+returns-else-m-low-ge-WORD_BITS c = full_some c.args.m c.args.w (omega (arith, c.if-m-low-ge-WORD_BITS.false))

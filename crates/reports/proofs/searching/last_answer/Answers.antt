@@ -1,26 +1,33 @@
 -- The machine's answers to the three calls: `answer-refused` and `answer-told`. A signed local is held as its bits.
-use mathlib.Core.Path.{◌≡◌, sym, ◌∙◌}
-use borrow.Author.Tests.{not-true, not-false}
-use mir.Facts.{to_z-of_z}
-use Rattle.machine.specs.Machine.{Opening}
-use Rattle.machine.specs.Calls.{opens}
-use Rattle.search.specs.Record.{fresh, opening_of}
+use Rattle.std.proofs.Common.{◌≡◌, sym, ap, ◌∙◌, pos, rules}
+use Rattle.std.proofs.lemmas.Result.{err_from_is_err_and}
+use Rattle.integers.specs.Words.{back64}
+use Rattle.machine.specs.Calls.{opens, run, is_accepted}
+use Rattle.search.specs.Record.{fresh}
 use Rattle.search.specs.Replies.{reply}
-use Rattle.reports.specs.Searching.{plain_settings}
-use Rattle.reports.specs.ThreeCalls.{answer-refused, answer-told}
+use Rattle.graph.specs.Limits.{max_vertices}
+use Rattle.reports.specs.Zeros.{part}
+use Rattle.reports.specs.Searching.{plain_opening, budget}
+use Rattle.reports.specs.ThreeCalls.{answer-refused, answer-told, accepted-ok}
 use Rattle.reports.proofs.searching.last_answer.Goals as goal
 
-pub returns-then-is_refused : goal.returns-then-is_refused
-returns-then-is_refused c =
-    let openedWith : Opening = opening_of c.args.g c.args.multipliers.now (plain_settings c.args.ceiling) in
-    let opening-reply : c.open_core-opened.result ≡ reply fresh (opens openedWith) = rw (c.fresh-s.ensures, to_z-of_z c.ranges.ceiling) at c.open_core-opened.ensures in
-    answer-refused openedWith c.open_core-opened.result opening-reply
-    (not-true _ (sym c.is_refused.ensures ∙ c.if-is_refused.true))
+pub returns-in_err-open : goal.returns-in_err-open
+returns-in_err-open c =
+    let g = c.args.input.now.graph in
+    let ceiling = back64 c.args.input.now.ceiling (search (rules, c.well_formed)) in
+    let zeros = part max_vertices g.n (pos 0) c.args.input.now.valid.high in
+    let o = plain_opening c.args.input.now.ceiling g in
+    let p = err_from_is_err_and c.from_residual.result c.from_residual.ensures.1 in
+    let said = rw (c.fresh-search.ensures, ceiling, c.from.ensures, zeros) at c.in_err-open.ensures.answer in
+    rw (p.1, p.2) (said ∙ answer-refused o (ap is_accepted (sym said)))
 
 pub returns : goal.returns
 returns c =
-    let openedWith : Opening = opening_of c.args.g c.args.multipliers.now (plain_settings c.args.ceiling) in
-    let opening-reply : c.open_core-opened.result ≡ reply fresh (opens openedWith) = rw (c.fresh-s.ensures, to_z-of_z c.ranges.ceiling) at c.open_core-opened.ensures in
-    answer-told openedWith c.open_core-opened.result opening-reply
-    (not-false _ (sym c.is_refused.ensures ∙ c.if-is_refused.false))
-    c.run_core-run.result c.tell_core-told.result c.run_core-run.ensures c.tell_core-told.ensures
+    let g = c.args.input.now.graph in
+    let ceiling = back64 c.args.input.now.ceiling (search (rules, c.well_formed)) in
+    let zeros = part max_vertices g.n (pos 0) c.args.input.now.valid.high in
+    let o = plain_opening c.args.input.now.ceiling g in
+    let said = rw (c.fresh-search.ensures, ceiling, c.from.ensures, zeros) at c.in_ok-open.ensures.answer in
+    let opened : c.open.new.self ≡ (reply fresh (opens o)).search = rw (c.fresh-search.ensures, ceiling, c.from.ensures, zeros) at c.open.ensures.left in
+    let ran : c.run.new.self ≡ (reply (reply fresh (opens o)).search (run budget)).search = rw opened at c.run.ensures.left in
+    (rw ran at c.tell.ensures.answer) ∙ answer-told o (ap is_accepted (sym said) ∙ accepted-ok c.in_ok-open.field-0)

@@ -1,53 +1,65 @@
--- The loop keeps: the sum is that of the first k edges that are in.
-use mathlib.Core.Path.{◌≡◌, sym, ◌∙◌, subst}
-use mathlib.Core.List.{List}
-use native.Mathlib.Omega.{arith}
-use lib.ListN.{get_or}
-use lib.IntN.{ℤ, pos}
-use mir.Val.{to_z}
-use mir.Syntax.{w64}
+-- An edge more, in or out; the two numbers fit, and are read back as they were.
+use Rattle.std.proofs.Common.{◌≡◌, ℕ, ◌+◌, ◌<◌, List, get_or, ℤ, pos, ◌+ℤ◌, to_z, of_z, w64, sym, ap, ◌∙◌, rules, arith}
+use Rattle.std.proofs.Math.IntN.{+ℤ_comm}
+use Rattle.std.specs.Int.Signed.{mag}
+use Rattle.integers.specs.Parts.{add-up, add-dn, mag_of_parts}
 use Rattle.integers.specs.Words.{back32, back64}
 use Rattle.integers.specs.Range.{InRange, within_range}
+use Rattle.graph.specs.declared.Graph.{Graph}
 use Rattle.graph.specs.Limits.{max_cost}
-use Rattle.search.specs.Runs.Costs.{Ticked, cost_none, cost_all, ticked}
-use Rattle.std.proofs.Common.{rules}
+use Rattle.graph.specs.Valid.{Valid}
+use Rattle.graph.specs.Fits.{total_fits}
+use Rattle.search.specs.Runs.Costs.{CostTo, cost_to, cost_none, cost_all, ticked}
 use Rattle.search.proofs.cost.tour_cost.Goals as goal
+use Rattle.search.proofs.cost.tour_cost.Goals.{then-w-k-eq1, else-w-k-eq1}
+
+module _ (k : ℕ) (g : Graph) (w : List ℕ) (sum : ℤ) (v : Valid g) (h : k < g.m) (s : CostTo k g w sum) where
+  abbrev z : ℤ
+  z = get_or g.cost k (pos 0)
+
+  range : InRange max_cost z
+  range = within_range max_cost z (v.each k h).range
+
+  -- it fits
+  small : mag z < 9223372036854775808
+  small = mag_of_parts z _ (omega (arith, range.high, total_fits)) (omega (arith, range.low, total_fits))
+
+  sum_small : mag (sum +ℤ z) < 9223372036854775808
+  sum_small =
+      mag_of_parts (sum +ℤ z) _ (omega (arith, add-up sum z, range.high, s.high, v.few, total_fits))
+      (omega (arith, add-dn sum z, range.low, s.low, v.few, total_fits))
+
+  more : (x r : ℤ) → get_or w k 0 ≡ 1 → x ≡ z → r ≡ to_z w64 (of_z w64 (sum +ℤ to_z w64 (of_z w64 x))) → CostTo (k + 1) g w r
+  more x r i e q = ticked k g w sum r h range s (record { yes' = λ _. is; no' = λ n. absurd (n i) })
+    where
+      is : r ≡ z +ℤ sum
+      is =
+          q
+          ∙ ap (λ (y : ℤ). to_z w64 (of_z w64 (sum +ℤ y))) (ap (λ (y : ℤ). to_z w64 (of_z w64 y)) e ∙ back64 z small)
+          ∙ back64 (sum +ℤ z) sum_small
+          ∙ +ℤ_comm sum z
+
+  no-more : (r : ℤ) → (get_or w k 0 ≡ 1 → ⊥) → r ≡ sum → CostTo (k + 1) g w r
+  no-more r n q = ticked k g w sum r h range s (record { yes' = λ e. absurd (n e); no' = λ _. q })
 
 pub loop-k-init : goal.loop-k-init
-loop-k-init c = (
-  omega arith,
-  omega (arith, c.requires.1.few, c.requires.2),
-  λ g v e q. record { is = sym (cost_none g c.args.w.now); high = omega arith; low = omega arith },
-)
-
-pub tick-sum-requires : goal.tick-sum-requires
-tick-sum-requires c = let l = c.loop-k in
-    let g = c.requires.0 in
-    let sum = l.invariant.2 g c.requires.1 c.requires.2 c.requires.3 in
-    rw (back32 (get_or c.args.costs.now l.k (pos 0)) (search rules)) (
-      subst (λ (x : List ℤ). InRange max_cost (get_or x l.k (pos 0))) c.requires.3
-          (within_range max_cost _ (c.requires.1.each l.k (omega (arith, c.requires.2))).range),
-      record { high = omega (arith, sum.high); low = omega (arith, sum.low) },
-    )
+loop-k-init c = record { is = sym (cost_none c.args.g.now c.args.w.now); high = omega arith; low = omega arith }
 
 pub loop-k-preserved : goal.loop-k-preserved
-loop-k-preserved c = let l = c.loop-k in
+loop-k-preserved c =
+    let g = c.args.g.now in
     let w = c.args.w.now in
-    let t = rw (back32 (get_or c.args.costs.now l.k (pos 0)) (search rules)) at c.tick-sum.ensures in
-    rw (back64 c.tick-sum.result c.tick-sum.type_inv) (
-      omega arith,
-      l.invariant.1,
-      λ g v e q.
-          ticked l.k g w (to_z w64 l.sum-bits) c.tick-sum.result (omega (arith, e))
-          (within_range max_cost _ (v.each l.k (omega (arith, e))).range)
-          (l.invariant.2 g v e q)
-          (subst (λ (x : List ℤ). Ticked (get_or w l.k 0) (get_or x l.k (pos 0)) (to_z w64 l.sum-bits) c.tick-sum.result) (sym q) t),
-    )
+    let h : c.loop-k.k < g.m = omega (arith, c.from-k-end.ensures) in
+    elim c.if-w-k-eq1.branch [
+      | then-w-k-eq1 b ↦ more c.loop-k.k g w _ c.requires h c.loop-k.invariant b.from-sum.result _ b.if-w-k-eq1.true (b.from-sum.ensures ∙ back32 _ (search rules)) b.sum-is
+      | else-w-k-eq1 b ↦ no-more c.loop-k.k g w _ c.requires h c.loop-k.invariant _ b.if-w-k-eq1.false b.sum-is
+    ]
 
 pub returns : goal.returns
-returns c = let l = c.loop-k in
-    let all : l.k ≡ c.args.m = omega arith in
-    let sum = l.invariant.2 c.requires.0 c.requires.1 c.requires.2 c.requires.3 in (
-      λ g v e q. (rw (all ∙ sym e) at (l.invariant.2 g v e q)).is ∙ cost_all g c.args.w.now,
-      record { high = omega (arith, sum.high); low = omega (arith, sum.low) },
+returns c =
+    let g = c.args.g.now in
+    let sum = c.loop-k.invariant in
+    let all : c.loop-k.k ≡ g.m = omega (arith, c.from-k-end.ensures) in (
+      sum.is ∙ ap (λ (k : ℕ). cost_to k g c.args.w.now) all ∙ cost_all g c.args.w.now,
+      record { high = omega (arith, sum.high, all, c.requires.few); low = omega (arith, sum.low, all, c.requires.few) },
     )

@@ -1,9 +1,5 @@
 -- The answer is the found tour's cost; what is kept is decided by the two costs and the two tours.
-use mathlib.Core.Path.{◌≡◌, sym, ◌∙◌}
-use mathlib.Core.Bool.{true}
-use native.Mathlib.Omega.{arith}
-use borrow.Author.Tests.{eq-eqb, ne_eqb}
-use lib.Dec.{eqb}
+use Rattle.std.proofs.Common.{◌≡◌, ℕ, ℤ, List, Bool, true, false, sym, ◌∙◌}
 use Rattle.integers.specs.Words.{back64}
 use Rattle.graph.specs.declared.Graph.{Graph}
 use Rattle.graph.specs.Network.{network}
@@ -12,49 +8,45 @@ use Rattle.search.specs.Record.{bits}
 use Rattle.search.specs.Runs.Keeping.{replaces_by, kept_of, replaces_is}
 use Rattle.tree_theory.specs.Arrays.{bytes}
 use Rattle.tours.specs.Tours.{cost}
-use Rattle.std.proofs.Common.{ℕ, ℤ, List}
 use Rattle.search.proofs.keeping.keep.Goals as goal
+use Rattle.search.proofs.keeping.keep.Goals.{then-not-has_best-via-then-not-has_best, then-not-has_best-via-else-not-has_best+then-replaces}
 
 -- what `replaces` says of the two costs is what the machine says
-says : (g : Graph) (m : ℕ) (x y : ℤ) (f b : List ℕ) → g.m ≡ m → x ≡ cost (network g) (bytes f) → y ≡ cost (network g) (bytes b)
+says : (g : Graph) (m : ℕ) (x y : ℤ) (f b : List ℕ) → m ≡ g.m → x ≡ cost (network g) (bytes f) → y ≡ cost (network g) (bytes b)
     → replaces_by m x y f b ≡ machine.replaces (network g) (bits g.m f) (bits g.m b)
-says g m x y f b e p q = (λ i. replaces_by (sym e i) (p i) (q i) f b) ∙ sym (replaces_is g f b)
+says g m x y f b e p q = (λ i. replaces_by (e i) (p i) (q i) f b) ∙ sym (replaces_is g f b)
 
-pub tour_cost-c-requires : goal.tour_cost-c-requires
-tour_cost-c-requires c = c.requires
-
-pub returns-then-has_best-ne1 : goal.returns-then-has_best-ne1
+kept : (g : Graph) (h r : Bool) (f b : List ℕ) → h ≡ true → r ≡ machine.replaces (network g) (bits g.m f) (bits g.m b) → r ≡ true → f ≡ kept_of g h f b
 unfolding kept_of
-returns-then-has_best-ne1 c = let k = c.tour_cost-c in
-    λ g v e q. (
-      back64 k.result k.type_inv ∙ k.ensures.0 g v e q,
-      rw (ne_eqb c.args.has_best 1 c.if-has_best-ne1.true),
-    )
+kept g h r f b i e t = rw (i, sym e ∙ t)
 
-pub tour_cost-d-requires : goal.tour_cost-d-requires
-tour_cost-d-requires c = c.requires
-
-pub replaces-requires : goal.replaces-requires
-replaces-requires c = omega (arith, c.requires.1.few, c.requires.2)
-
-pub returns-then-replaces : goal.returns-then-replaces
+stays : (g : Graph) (h r : Bool) (f b : List ℕ) → h ≡ true → r ≡ machine.replaces (network g) (bits g.m f) (bits g.m b) → r ≡ false → b ≡ kept_of g h f b
 unfolding kept_of
-returns-then-replaces c =
-    let is-best : eqb c.args.has_best 1 ≡ true = eq-eqb c.args.has_best 1 c.if-has_best-ne1.false in
+stays g h r f b i e t = rw (i, sym e ∙ t)
+
+first : (g : Graph) (h : Bool) (f b : List ℕ) → h ≡ false → f ≡ kept_of g h f b
+unfolding kept_of
+first g h f b e = rw e
+
+pub returns-then-not-has_best : goal.returns-then-not-has_best
+returns-then-not-has_best c =
+    let g = c.args.g.now in
     let k = c.tour_cost-c in
-    let j = c.tour_cost-d in
-    λ g v e q. (
-      back64 k.result k.type_inv ∙ k.ensures.0 g v e q,
-      rw (is-best, sym (c.replaces.ensures ∙ says g _ _ _ _ _ e (back64 k.result k.type_inv ∙ k.ensures.0 g v e q) (back64 j.result j.type_inv ∙ j.ensures.0 g v e q)) ∙ c.if-replaces.true),
+    let is = back64 k.result k.type_inv ∙ k.ensures.0 in (
+      is,
+      elim c.then-not-has_best.branch [
+        | then-not-has_best-via-then-not-has_best w ↦ first g _ _ _ w.if-not-has_best.true
+        | then-not-has_best-via-else-not-has_best+then-replaces w ↦ kept g _ _ _ _ w.if-not-has_best.false
+            (w.replaces.ensures ∙ says g _ _ _ _ _ w.from.ensures is (back64 w.tour_cost.result w.tour_cost.type_inv ∙ w.tour_cost.ensures.0)) w.if-replaces.true
+      ],
     )
 
 pub returns-else-replaces : goal.returns-else-replaces
-unfolding kept_of
 returns-else-replaces c =
-    let is-best : eqb c.args.has_best 1 ≡ true = eq-eqb c.args.has_best 1 c.if-has_best-ne1.false in
+    let g = c.args.g.now in
     let k = c.tour_cost-c in
-    let j = c.tour_cost-d in
-    λ g v e q. (
-      back64 k.result k.type_inv ∙ k.ensures.0 g v e q,
-      rw (is-best, sym (c.replaces.ensures ∙ says g _ _ _ _ _ e (back64 k.result k.type_inv ∙ k.ensures.0 g v e q) (back64 j.result j.type_inv ∙ j.ensures.0 g v e q)) ∙ c.if-replaces.false),
+    let is = back64 k.result k.type_inv ∙ k.ensures.0 in (
+      is,
+      stays g _ _ _ _ c.if-not-has_best.false
+          (c.replaces.ensures ∙ says g _ _ _ _ _ c.from.ensures is (back64 c.tour_cost.result c.tour_cost.type_inv ∙ c.tour_cost.ensures.0)) c.if-replaces.false,
     )

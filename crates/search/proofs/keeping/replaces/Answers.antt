@@ -1,26 +1,36 @@
--- Signed locals are held as their bits; the tests are the definition's.
-use mathlib.Core.Path.{◌≡◌}
-use mathlib.Core.Bool.{true, false}
-use lib.Signed.{lt_z}
+-- The definition's two tests are those of the comparison; signed locals are held as their bits.
+use Rattle.std.proofs.Common.{◌≡◌, refl, ℕ, ℤ, List, Bool, true, false, cond, Less, Equal, Greater, int_cmp, ap, ◌∙◌}
+use Rattle.std.specs.declared.cmp.Ordering.{Ordering}
+use Rattle.std.specs.Int.Signed.{lt_z}
 use mir.Facts.{to_z-of_z}
+use Rattle.tree_theory.specs.OneTree.{lacks_first}
+use Rattle.tree_theory.specs.Arrays.{bytes}
 use Rattle.search.specs.Runs.Keeping.{replaces_by}
 use Rattle.search.proofs.keeping.replaces.Goals as goal
 
-pub returns-then-x-y : goal.returns-then-x-y
-unfolding replaces_by
-returns-then-x-y c = let t : lt_z c.args.x c.args.y ≡ true = (rw (to_z-of_z c.ranges.x, to_z-of_z c.ranges.y) at c.if-x-y.true) in
-    rw t
+abbrev by : Ordering → Bool → Bool
+by Less r = true
+by Equal r = r
+by Greater r = false
 
-pub returns-then-y-x : goal.returns-then-y-x
-unfolding replaces_by
-returns-then-y-x c =
-    let not-cheaper : let a = c.args in lt_z a.x a.y ≡ false = (rw (to_z-of_z c.ranges.x, to_z-of_z c.ranges.y) at c.if-x-y.false) in
-    let t : lt_z c.args.y c.args.x ≡ true = (rw (to_z-of_z c.ranges.y, to_z-of_z c.ranges.x) at c.if-y-x.true) in
-    rw (not-cheaper, t)
+by_tests : (p q r : Bool) → by (cond p Less (cond q Greater Equal)) r ≡ cond p true (cond q false r)
+by_tests true q r = refl
+by_tests false true r = refl
+by_tests false false r = refl
 
-pub returns : goal.returns
+by_costs : (m : ℕ) (x y : ℤ) (f b : List ℕ) (o : Ordering) → o ≡ int_cmp x y → by o (lacks_first m (bytes f) (bytes b)) ≡ replaces_by m x y f b
 unfolding replaces_by
-returns c =
-    let not-cheaper : let a = c.args in lt_z a.x a.y ≡ false = (rw (to_z-of_z c.ranges.x, to_z-of_z c.ranges.y) at c.if-x-y.false) in
-    let t : lt_z c.args.y c.args.x ≡ false = (rw (to_z-of_z c.ranges.y, to_z-of_z c.ranges.x) at c.if-y-x.false) in
-    rw (not-cheaper, t) c.comes_first.ensures
+by_costs m x y f b o e = let r = lacks_first m (bytes f) (bytes b) in ap (λ (z : Ordering). by z r) e ∙ by_tests (lt_z x y) (lt_z y x) r
+
+pub returns-in-Less : goal.returns-in-Less
+returns-in-Less c =
+    by_costs c.args.m c.args.x c.args.y c.args.f.now c.args.b.now Less (rw (to_z-of_z c.ranges.x, to_z-of_z c.ranges.y) at c.in-Less.ensures)
+
+pub returns-in-Equal : goal.returns-in-Equal
+returns-in-Equal c =
+    c.comes_first.ensures
+    ∙ by_costs c.args.m c.args.x c.args.y c.args.f.now c.args.b.now Equal (rw (to_z-of_z c.ranges.x, to_z-of_z c.ranges.y) at c.in-Equal.ensures)
+
+pub returns-in-Greater : goal.returns-in-Greater
+returns-in-Greater c =
+    by_costs c.args.m c.args.x c.args.y c.args.f.now c.args.b.now Greater (rw (to_z-of_z c.ranges.x, to_z-of_z c.ranges.y) at c.in-Greater.ensures)

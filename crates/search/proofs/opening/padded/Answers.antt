@@ -1,27 +1,31 @@
--- The loop keeps: the first k places are those of d, the others zero.
-use mathlib.Core.Path.{refl}
-use native.Mathlib.Omega.{arith}
-use lib.ListN.{get_or}
-use lib.IntN.{pos}
-use Rattle.lists.specs.Fill.{fit}
-use Rattle.lists.specs.Filling.{filling_none, filling_more, filling_is}
-use Rattle.integers.specs.Words.{back32}
-use lib.ListN.{get_or-eq_default}
-use Rattle.std.proofs.Common.{rules}
+-- The multipliers at the front, and zeros behind them.
+use Rattle.std.proofs.Common.{◌≡◌, refl, ℕ, suc, ◌+◌, ◌-◌, ◌<◌, ◌≤◌, List, ◌++◌, ℤ, pos, length, get_or, drop, replicate, sym, ap, ◌∙◌, arith}
+use Rattle.std.proofs.Math.Decide.{dec_le}
+use Rattle.std.proofs.Math.ListN.{get_or-append, get_or-eq_default}
+use Rattle.std.proofs.lemmas.List.{length-append, length-drop, length-replicate, get_or-append_right, get_or-drop}
+use Rattle.lists.specs.Fill.{fit, fill_is, replicate-at}
 use Rattle.search.proofs.opening.padded.Goals as goal
 
-pub loop-k-init : goal.loop-k-init
-loop-k-init c = (c.requires, omega arith, filling_none (pos 0) 20 _)
+behind : (n : ℕ) (d : List ℤ) → length d ≤ n → d ++ drop (length d) (replicate n (pos 0)) ≡ fit n (pos 0) d
+unfolding fit
+behind n d few = sym (fill_is n (λ i. get_or d i z) whole z size (λ i h. sym (at i (dec_le (suc i) (length d)))))
+  where
+    z : ℤ
+    z = pos 0
 
-pub loop-k-preserved : goal.loop-k-preserved
-loop-k-preserved c = let l = c.loop-k in
-    let d = c.args.d.now in
-    let at = back32 (get_or d l.k (pos 0)) (search rules) in
-    (l.invariant.0, omega arith, filling_more (pos 0) 20 (λ i. get_or d i (pos 0)) l.k l.r _ (omega (arith, l.invariant.0)) at l.invariant.2)
+    whole : List ℤ
+    whole = d ++ drop (length d) (replicate n z)
+
+    size : length whole ≡ n
+    size = omega (arith, length-append d (drop (length d) (replicate n z)), length-drop (length d) (replicate n z), length-replicate n z)
+
+    at : (i : ℕ) → Dec (i < length d) → get_or whole i z ≡ get_or d i z
+    at i (yes h) = get_or-append d _ z i h
+    at i (no h) =
+        get_or-append_right d (drop (length d) (replicate n z)) (length d) i z refl (omega arith)
+        ∙ get_or-drop (length d) (replicate n z) (i - length d) z
+        ∙ replicate-at n z (length d + (i - length d))
+        ∙ sym (get_or-eq_default d z (omega arith))
 
 pub returns : goal.returns
-unfolding fit
-returns c = let l = c.loop-k in
-    let d = c.args.d.now in
-    filling_is (pos 0) 20 (λ i. get_or d i (pos 0)) l.k l.r (λ i. get_or d i (pos 0)) l.invariant.2 (λ i h. refl)
-    (λ i h. get_or-eq_default d (pos 0) (omega arith))
+returns c = ap (λ (d : List ℤ). d ++ drop (length c.args.d.now) (replicate 20 (pos 0))) c.copy_from_slice.ensures.after ∙ behind 20 c.args.d.now c.requires

@@ -1,11 +1,7 @@
--- The loop keeps the greatest of the places below i.
-use Prim.Native.Nat.{◌-◌}
-use lib.ListN.{get_or}
-use Rattle.search.specs.CheckParts.{Greatest}
+-- The loop keeps: what `met` says of the places met.
+use Rattle.std.proofs.Common.{ℕ, ◌≤◌, ◌<◌, get_or, not}
+use Rattle.lists.specs.Bools.{Says}
 use Rattle.search.proofs.record.bits.Given as goal
 
-abbrev pub invariant-loop-i : goal.invariant-loop-i
-invariant-loop-i l = Greatest (λ k. get_or l.a k 0) 0 190 l.i l.most
-
-abbrev pub decreases-loop-i : goal.decreases-loop-i
-decreases-loop-i l = 190 - l.i
+abbrev pub invariant-loop-x : goal.invariant-loop-x
+invariant-loop-x l = Says (not l.met) ((k : ℕ) → k < l.x-index → get_or l.a k 0 ≤ 1)

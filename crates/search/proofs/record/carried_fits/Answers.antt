@@ -1,10 +1,5 @@
--- The loop keeps: the multipliers that the first p nodes carry fit.
-use mathlib.Core.Path.{◌≡◌, sym, ap, ◌∙◌}
-use mathlib.Core.Bool.{true≢false}
-use native.Mathlib.Omega.{arith}
-use borrow.Author.Count.{below_more}
-use lib.ListN.{length, length-take}
-use lib.IntN.{pos}
+-- The first n of what a node carries are its multipliers.
+use Rattle.std.proofs.Common.{◌≡◌, ℕ, ◌≤◌, List, length, ℤ, pos, Bool, take, true≢false, below_more, sym, ap, ◌∙◌, arith}
 use Rattle.lists.specs.Fill.{fit}
 use Rattle.lists.specs.Filling.{take-fit}
 use Rattle.tree_theory.specs.Inputs.{multipliers_fit}
@@ -12,43 +7,20 @@ use Rattle.search.specs.Record.{multipliers_at}
 use Rattle.search.specs.Cells.{multipliers_size, multipliers_cut}
 use Rattle.search.proofs.record.carried_fits.Goals as goal
 
-pub loop-p-init : goal.loop-p-init
-loop-p-init c = (c.requires.0, λ k h. absurd (omega arith))
-
-pub get_carried-d-requires : goal.get_carried-d-requires
-get_carried-d-requires c = omega (arith, c.requires.1)
-
-pub slice_bounds-d-end : goal.slice_bounds-d-end
-slice_bounds-d-end c =
-    let long : length c.get_carried-d.result ≡ 20 = ap length c.get_carried-d.ensures ∙ multipliers_size 20 _ _ in
-    omega (arith, long, c.loop-p.invariant.0)
-
-pub slice_bounds-multipliers_fit-end : goal.slice_bounds-multipliers_fit-end
-slice_bounds-multipliers_fit-end c =
-    let long : length c.get_carried-d.result ≡ 20 = ap length c.get_carried-d.ensures ∙ multipliers_size 20 _ _ in
-    omega (arith, long, c.loop-p.invariant.0, length-take c.args.n c.get_carried-d.result)
+first : (n p : ℕ) (e d : List ℤ) (b : Bool) → n ≤ 20 → d ≡ multipliers_at 20 e p → b ≡ multipliers_fit (take n d)
+    → b ≡ multipliers_fit (multipliers_at n e p)
+first n p e d b few is told =
+    told ∙ ap multipliers_fit
+    (take-fit n (pos 0) d (omega (arith, few, ap length is, multipliers_size 20 e p)) ∙ ap (fit n (pos 0)) is ∙ multipliers_cut n e p few)
 
 pub returns-then-not-multipliers_fit : goal.returns-then-not-multipliers_fit
+unfolding multipliers_at
 returns-then-not-multipliers_fit c =
-    let long : length c.get_carried-d.result ≡ 20 = ap length c.get_carried-d.ensures ∙ multipliers_size 20 _ _ in
-    let told : c.multipliers_fit.result ≡ multipliers_fit (multipliers_at c.args.n c.args.carried.now c.loop-p.p) =
-    c.multipliers_fit.ensures
-    ∙ ap multipliers_fit
-    (take-fit c.args.n (pos 0) c.get_carried-d.result (omega (arith, long, c.loop-p.invariant.0))
-    ∙ ap (fit c.args.n (pos 0)) c.get_carried-d.ensures
-    ∙ multipliers_cut c.args.n c.args.carried.now c.loop-p.p c.loop-p.invariant.0) in
-    λ t. true≢false (sym (t c.loop-p.p (omega arith)) ∙ sym told ∙ c.if-not-multipliers_fit.true)
+    let told = first c.args.n c.loop-p.p c.args.carried.now _ _ c.requires.0 (c.get-d.ensures (pos 0)) c.multipliers_fit.ensures in
+    λ t. true≢false (sym (told ∙ t c.loop-p.p (omega arith)) ∙ c.if-not-multipliers_fit.true)
 
 pub loop-p-preserved : goal.loop-p-preserved
+unfolding multipliers_at
 loop-p-preserved c =
-    let long : length c.get_carried-d.result ≡ 20 = ap length c.get_carried-d.ensures ∙ multipliers_size 20 _ _ in
-    let told : c.multipliers_fit.result ≡ multipliers_fit (multipliers_at c.args.n c.args.carried.now c.loop-p.p) =
-    c.multipliers_fit.ensures
-    ∙ ap multipliers_fit
-    (take-fit c.args.n (pos 0) c.get_carried-d.result (omega (arith, long, c.loop-p.invariant.0))
-    ∙ ap (fit c.args.n (pos 0)) c.get_carried-d.ensures
-    ∙ multipliers_cut c.args.n c.args.carried.now c.loop-p.p c.loop-p.invariant.0) in
-    (c.loop-p.invariant.0, below_more _ _ c.loop-p.invariant.1 (sym told ∙ c.if-not-multipliers_fit.false))
-
-pub returns : goal.returns
-returns c = λ p h. c.loop-p.invariant.1 p (omega arith)
+    let told = first c.args.n c.loop-p.p c.args.carried.now _ _ c.requires.0 (c.get-d.ensures (pos 0)) c.multipliers_fit.ensures in
+    below_more _ _ c.loop-p.invariant (sym told ∙ c.if-not-multipliers_fit.false)

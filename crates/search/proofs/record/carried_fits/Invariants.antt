@@ -1,13 +1,8 @@
 -- The loop keeps: the multipliers that the first p nodes carry fit.
-use Prim.Native.Nat.{ℕ, ◌≤◌, ◌<◌, ◌-◌}
-use mathlib.Core.Path.{◌≡◌}
-use mathlib.Core.Bool.{true}
+use Rattle.std.proofs.Common.{◌≡◌, ℕ, ◌<◌, true}
 use Rattle.tree_theory.specs.Inputs.{multipliers_fit}
 use Rattle.search.specs.Record.{multipliers_at}
 use Rattle.search.proofs.record.carried_fits.Given as goal
 
 abbrev pub invariant-loop-p : goal.invariant-loop-p
-invariant-loop-p l = (l.n ≤ 20) × ((k : ℕ) → k < l.p → multipliers_fit (multipliers_at l.n l.carried k) ≡ true)
-
-abbrev pub decreases-loop-p : goal.decreases-loop-p
-decreases-loop-p l = l.depth - l.p
+invariant-loop-p l = (k : ℕ) → k < l.p → multipliers_fit (multipliers_at l.n l.carried k) ≡ true

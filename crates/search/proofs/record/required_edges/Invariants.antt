@@ -1,11 +1,7 @@
--- The loop keeps: the set bits of the first i words.
-use Prim.Native.Nat.{◌*◌, ◌≤◌, ◌-◌}
-use mathlib.Core.Path.{◌≡◌}
+-- The loop keeps: the set bits of the words so far.
+use Rattle.std.proofs.Common.{◌≡◌, ◌*◌, ◌≤◌}
 use Rattle.search.specs.CheckRows.{ones_to}
 use Rattle.search.proofs.record.required_edges.Given as goal
 
-abbrev pub invariant-loop-i : goal.invariant-loop-i
-invariant-loop-i l = (l.i ≤ 3) × (l.n ≡ ones_to l.rows l.i) × (l.n ≤ 64 * l.i)
-
-abbrev pub decreases-loop-i : goal.decreases-loop-i
-decreases-loop-i l = 3 - l.i
+abbrev pub invariant-loop-x : goal.invariant-loop-x
+invariant-loop-x l = (l.n ≡ ones_to l.rows l.x-index) × (l.n ≤ 64 * l.x-index)

@@ -1,10 +1,7 @@
 -- The loop keeps: the first p nodes fit.
-use Prim.Native.Nat.{ℕ, ◌<◌, ◌-◌}
+use Rattle.std.proofs.Common.{ℕ, ◌<◌}
 use Rattle.search.specs.Canonical.{NodeFits}
 use Rattle.search.proofs.record.stack_fits.Given as goal
 
 abbrev pub invariant-loop-p : goal.invariant-loop-p
 invariant-loop-p l = (k : ℕ) → k < l.p → NodeFits l.m l.stack k
-
-abbrev pub decreases-loop-p : goal.decreases-loop-p
-decreases-loop-p l = l.depth - l.p

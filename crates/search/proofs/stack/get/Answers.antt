@@ -1,29 +1,14 @@
--- The loop keeps: the first j words are those of node p.
-use Prim.Native.Nat.{ℕ, ◌+◌, ◌*◌}
-use mathlib.Core.Path.{refl}
-use native.Mathlib.Omega.{arith}
-use lib.ListN.{get_or}
-use Rattle.lists.specs.Filling.{filling_none, filling_more, filling_to, filling_full}
-use Rattle.search.specs.Record.{rows_at}
+-- A stretch of w places from place a on, place by place.
+use Rattle.std.proofs.Common.{◌≡◌, ℕ, ◌+◌, ◌≤◌, ◌<◌, List, length, get_or, take, drop, sym, ◌∙◌, arith}
+use Rattle.std.proofs.lemmas.List.{get_or-drop, get_or-take, length-take, length-drop}
+use Rattle.lists.specs.Fill.{fill, fill_is}
 use Rattle.search.proofs.stack.get.Goals as goal
 
-pub loop-j-init : goal.loop-j-init
-loop-j-init c = (omega arith, c.requires, filling_none 0 6 (λ i. get_or c.args.stack.now (6 * c.args.p + i) 0))
-
-pub bounds-r-j : goal.bounds-r-j
-bounds-r-j c = let l = c.loop-j in omega (arith, l.invariant.2.size)
-
-pub loop-j-preserved : goal.loop-j-preserved
-loop-j-preserved c = let l = c.loop-j in
-    let a = c.args in (
-      omega arith,
-      l.invariant.1,
-      filling_more 0 6 (λ i. get_or a.stack.now (6 * a.p + i) 0) l.j l.r _ (omega arith) refl l.invariant.2,
-    )
+stretch : {A : Type 0} (a w k : ℕ) (l : List A) (z : A) → k ≡ w → a + w ≤ length l → take k (drop a l) ≡ fill w (λ j. get_or l (a + j) z)
+stretch a w k l z e b =
+    sym (fill_is w (λ j. get_or l (a + j) z) (take k (drop a l)) z
+    (omega (arith, length-take k (drop a l), length-drop a l))
+    (λ i h. let c : i < k = omega arith in sym (get_or-take k (drop a l) i z c ∙ get_or-drop a l i z)))
 
 pub returns : goal.returns
-unfolding rows_at
-returns c = let l = c.loop-j in
-    let a = c.args in
-    let f : ℕ → ℕ = λ i. get_or a.stack.now (6 * a.p + i) 0 in
-    filling_full 0 6 f l.r (filling_to 0 6 f l.j 6 l.r (omega arith) l.invariant.2)
+returns g c = λ z. c.copy_from_slice.ensures.after ∙ stretch _ _ _ c.args.s.now z (omega arith) c.requires

@@ -4,4 +4,4 @@ use Rattle.shelf.proofs.Shelf.fresh.Goals as goal
 
 pub returns : goal.returns
 unfolding fresh_shelf
-returns c = rw c.fresh-s.ensures
+returns c = rw c.fresh.ensures

@@ -1,0 +1,69 @@
+// Why a call is refused: the documents' refusals, with their numbers.
+ghost use Rattle.std.specs.Prelude.{◌≡◌};
+ghost use Rattle.graph.specs.Refusals.{number};
+
+// The order of the numbers is not that in which a call tests: each call's own definition says which comes first.
+#[derive(Clone, Copy, Debug, PartialEq, Eq)]
+pub enum Refusal {
+    // a graph as bytes
+    TooShort = 1,
+    VertexCount = 2,
+    HeaderPadding = 3,
+    RecordCount = 4,
+    NoSuchRecord = 5,
+    RecordAgain = 6,
+    Ends = 7,
+    MarkOrPadding = 8,
+    Cost = 9,
+    PairAgain = 10,
+    // what any call takes
+    Length = 11,
+    Multiplier = 12,
+    Ceiling = 13,
+    Settings = 14,
+    Graph = 15,
+    // a search and its record
+    NotOpen = 20,
+    AlreadyOpen = 21,
+    NodesWait = 22,
+    NoTour = 23,
+    Record = 24,
+    // document 02
+    NoSuchEdge = 30,
+    NotFree = 31,
+    Denominator = 32,
+    Name = 33,
+    NothingSaved = 34,
+    Tour = 36,
+    StudentOrSpread = 37,
+    Window = 38,
+    LogEntry = 39,
+    NoNodes = 40,
+    Full = 41,
+    Place = 42,
+}
+
+// A refusal with the place that it is about: a record of a file or an entry of a log, from 1, or 0.
+#[derive(Clone, Copy, Debug, PartialEq, Eq)]
+pub struct Refused {
+    pub refusal: Refusal,
+    pub place: u64,
+}
+
+// Without a place.
+impl From<Refusal> for Refused {
+    ghost from_gives = { λ refusal refused. refused ≡ record { refusal = refusal; place = 0 } };
+
+    fn from(refusal: Refusal) -> Refused {
+        Refused { refusal, place: 0 }
+    }
+}
+
+impl Refusal {
+    // The documents' number. Ruled out: another refusal's; one counted from 0.
+    pub fn number(self) -> u32
+        ensures { result ≡ number self }
+    {
+        self as u32
+    }
+}

@@ -1,0 +1,35 @@
+-- A neighbour to hang, or one that hangs already. The row's last place has a zero, so a place that has none is before it.
+use Rattle.std.proofs.Common.{◌≡◌, ◌≢◌, ◌∙◌, ◌+◌, ◌-◌, ◌≤◌, ℕ, List, ap, refl, get_or, arith}
+use Rattle.std.proofs.Math.Decide.{ℕ_discrete}
+use Rattle.swaps.specs.Visiting.{row_of, opposite, visited_on, visited_room, visited_hang}
+use Rattle.onetree.proofs.rooted.Rooting.visit.Goals as goal
+use Rattle.onetree.proofs.rooted.Rooting.visit.Goals.{then-self-y-eq0, else-self-y-eq0}
+
+before_last : (row : List ℕ) (i : ℕ) → get_or row 19 0 ≡ 0 → get_or row i 0 ≢ 0 → i ≤ 19 → i + 1 ≤ 19
+before_last row i stop f l = go (ℕ_discrete i 19)
+  where
+    go : Dec (i ≡ 19) → i + 1 ≤ 19
+    go (yes e) = absurd (f (ap (λ (z : ℕ). get_or row z 0) e ∙ stop))
+    go (no e) = omega arith
+
+pub bounds-self-self : goal.bounds-self-self
+bounds-self-self c =
+    let s = c.args in
+    let other : (c.from.result + c.from-in-loop-i.result) - s.x ≡ opposite s.ends.now.from s.ends.now.to s.x (get_or (row_of s.listed.now.rows s.x) c.loop-i.i 0 - 1) =
+    rw (c.from.ensures, c.from-in-loop-i.ensures, c.from-k.ensures) refl in
+    visited_room _ _ _ _ _ _ _ c.requires _ _ _ c.loop-i.i c.loop-i.invariant.1 c.if-e-eq0.false _ other c.if-self-y-eq0.true
+
+pub loop-i-preserved : goal.loop-i-preserved
+loop-i-preserved c =
+    let s = c.args in
+    let i = c.loop-i.invariant in
+    let other : (c.from.result + c.from-in-loop-i.result) - s.x ≡ opposite s.ends.now.from s.ends.now.to s.x (get_or (row_of s.listed.now.rows s.x) c.loop-i.i 0 - 1) =
+    rw (c.from.ensures, c.from-in-loop-i.ensures, c.from-k.ensures) refl in
+    let inside = before_last _ c.loop-i.i c.requires.stops c.if-e-eq0.false i.0 in (
+      inside,
+      elim c.if-self-y-eq0.branch [
+        | then-self-y-eq0 w ↦ rw w.self-is (visited_hang _ _ _ _ _ _ _ c.requires _ _ _ c.loop-i.i i.1 c.if-e-eq0.false _ other w.if-self-y-eq0.true
+            (c.from-k.result - 1) (rw c.from-k.ensures refl))
+        | else-self-y-eq0 w ↦ rw w.self-is (visited_on _ _ _ _ _ _ _ c.requires _ _ _ c.loop-i.i i.1 (rw (← other) (omega (arith, w.if-self-y-eq0.false))))
+      ],
+    )

@@ -1,0 +1,27 @@
+-- The stores are those of the definition.
+use Rattle.std.specs.Prelude.{◌≡◌, length, set, pos}
+use Rattle.std.proofs.Common.{◌∙◌, to_z-of_z, arith, rules, get_or-set_same}
+use Rattle.integers.specs.Words.{back32}
+use Rattle.recent.specs.Greatest.{found}
+use Rattle.recent.specs.Windows.{ring_of, stored, entered_at}
+use Rattle.recent.proofs.Window.enter.Goals as goal
+
+pub enter-requires : goal.enter-requires
+enter-requires c = (c.requires.low, c.requires.high, c.requires.room)
+
+pub greatest-requires : goal.greatest-requires
+unfolding stored
+greatest-requires c =
+    let rings = c.args.self.now.rings in
+    let size : length rings ≡ 190 = search (rules, c.well_formed) in
+    let own : ring_of (set rings c.args.k c.enter.new.self) c.args.k ≡ c.enter.new.self = get_or-set_same rings c.args.k c.enter.new.self _ (omega arith) in
+    rw (own, c.enter.ensures) (omega arith, omega arith, omega arith)
+
+pub returns : goal.returns
+unfolding entered_at
+returns c =
+    let rings = c.args.self.now.rings in
+    let size : length rings ≡ 190 = search (rules, c.well_formed) in
+    let own : ring_of (set rings c.args.k c.enter.new.self) c.args.k ≡ c.enter.new.self = get_or-set_same rings c.args.k c.enter.new.self _ (omega arith) in
+    let top = back32 c.greatest.result c.greatest.type_inv ∙ found (pos 0) _ _ c.greatest.ensures.member c.greatest.ensures.most in
+    rw (top, own, c.enter.ensures, to_z-of_z c.ranges.time)

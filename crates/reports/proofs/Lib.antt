@@ -1,0 +1,4 @@
+mod Pieces
+mod Ceiling
+mod Whole
+mod Zeros

@@ -1,0 +1,2 @@
+-- what is refused before all input
+pub mod Closed

@@ -1,0 +1,54 @@
+-- The loop keeps: the record runs, with the budget that is left, to what the first one runs to. It then stands for the reply.
+use Rattle.std.proofs.Common.{rules, ◌≡◌, sym, ap, Err, ◌-◌, ◌+◌, inl, inr, arith}
+use Rattle.machine.specs.Machine.{ran}
+use Rattle.machine.specs.Calls as Calls
+use Rattle.search.specs.Record.{progress_of}
+use Rattle.search.specs.Replies.{Outcome}
+use Rattle.search.specs.Runs.TopNode.{Holds, top_of_lem}
+use Rattle.search.specs.Runs.Running.{run_stops, run_spent, run_turn, run_begins, run_finished, run_going}
+use Rattle.search.proofs.Closed.{closed-refused}
+use Rattle.search.specs.declared.Search.{Search}
+use Rattle.search.proofs.Search.run.Goals as goal
+use Rattle.search.proofs.Search.run.Goals.{else-loop-test, then-loop-test+then-self-eq0, then-self-eq0-via-then-self-eq0, then-self-eq0-via-else-self-eq0+then-self-ge-MAX_COUNT}
+
+pub returns-in_err-opened : goal.returns-in_err-opened
+returns-in_err-opened c =
+    let s : Search = c.args.self.now in
+    let r = c.in_err-opened.field-0.0 in
+    let e : c.from_residual.result ≡ Err r = search rules in
+    let k = (closed-refused s c.opened.ensures.typed (Calls.run c.args.budget) tt r c.in_err-opened.ensures.fault).0 in
+    rw e (record { answer = ap (λ (x : Outcome). x.answer) (sym k); left = ap (λ (x : Outcome). x.search) (sym k) })
+
+pub loop-init : goal.loop-init
+loop-init c = run_begins c.args.self.now c.in_ok-opened.ensures.passed c.args.budget (c.args.budget - 0) (omega arith)
+
+pub open_top-requires : goal.open_top-requires
+open_top-requires c =
+    let k = c.loop.invariant in
+    (k.search, k.holds, top_of_lem _ _ k.holds (omega arith) (omega arith))
+
+pub loop-preserved : goal.loop-preserved
+loop-preserved c =
+    run_turn _ _ _ c.loop.invariant (c.args.budget - (c.loop.counter + 1)) (omega arith) (omega arith) (omega arith) _ c.open_top.ensures
+
+pub returns-then-self-eq0-2 : goal.returns-then-self-eq0-2
+returns-then-self-eq0-2 c =
+    let h : Holds c.loop.self (ran c.args.budget (progress_of c.args.self.now)) = elim c.loop-test.branch [
+      | else-loop-test w ↦ run_spent _ _ _ c.loop.invariant (omega (arith, w.loop-test.false))
+      | then-loop-test+then-self-eq0 w ↦ run_stops _ _ _ c.loop.invariant (elim w.then-self-eq0.branch [
+        | then-self-eq0-via-then-self-eq0 v ↦ inl v.if-self-eq0.true
+        | then-self-eq0-via-else-self-eq0+then-self-ge-MAX_COUNT v ↦ inr v.if-self-ge-MAX_COUNT.true
+      ])
+    ] in
+    run_finished c.args.self.now c.in_ok-opened.ensures.passed c.args.budget _ h c.if-self-eq0-2.true
+
+pub returns : goal.returns
+returns c =
+    let h : Holds c.loop.self (ran c.args.budget (progress_of c.args.self.now)) = elim c.loop-test.branch [
+      | else-loop-test w ↦ run_spent _ _ _ c.loop.invariant (omega (arith, w.loop-test.false))
+      | then-loop-test+then-self-eq0 w ↦ run_stops _ _ _ c.loop.invariant (elim w.then-self-eq0.branch [
+        | then-self-eq0-via-then-self-eq0 v ↦ inl v.if-self-eq0.true
+        | then-self-eq0-via-else-self-eq0+then-self-ge-MAX_COUNT v ↦ inr v.if-self-ge-MAX_COUNT.true
+      ])
+    ] in
+    run_going c.args.self.now c.in_ok-opened.ensures.passed c.args.budget _ h c.if-self-eq0-2.false

@@ -189,8 +189,8 @@ fn whole(searches: &Searches) -> Table {
 }
 
 /// Run with budget 0 on a search just opened: what a call costs before it does anything. Ours and the
-/// reference in document 01's forms check the whole record (docs/RECORD.md) and copy it in and out;
-/// the free reference does not have one, its time is the clock's.
+/// reference in document 01's forms check the whole record (docs/RECORD.md); ours then works on it where
+/// it lies, that one copies it in and out. The free reference does not have one, its time is the clock's.
 fn fixed(searches: &Searches) -> Table {
     let title = "Fixed cost of a call (run with budget 0)";
     let mut table = Table::new(title, "searches", "ns");

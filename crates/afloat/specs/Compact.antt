@@ -1,8 +1,9 @@
 -- The reduced network without edges that are excluded in it: what a program computes with. Its edges are the kept ones in new numbers, their ends
 -- in new numbers of vertices; it is valid and has no pair twice. (Its least 1-tree and its rulings are those over the active vertices:
 -- proofs/Compact.)
-use Rattle.std.specs.Prelude.{◌≡◌, refl, Bool, true, false, not, cond, ℕ}
+use Rattle.std.specs.Prelude.{◌≡◌, Bool, true, false, not, cond, ℕ}
 use Rattle.std.proofs.Common.{sym, ap, ◌∙◌, true≢false}
+use Rattle.std.proofs.lemmas.Bool.{not-false}
 use Rattle.lists.specs.Bools.{by_cases}
 use Rattle.lists.specs.Members.{◌∈◌}
 use Rattle.lists.specs.Numbers.{up_to}
@@ -38,15 +39,11 @@ kept s g k = not (is_excluded (mark_over s g k))
 pub keeping_kept : (s : Ashore) (g : Network) → Keeping s g (kept s g)
 keeping_kept s g = record {
   free = λ k i e. by_cases (touched s g k) (λ q. absurd (clash k e q)) (λ q. q);
-  rest = λ k i e. excluded_is (mark_over s g k) (was (is_excluded (mark_over s g k)) e);
+  rest = λ k i e. excluded_is (mark_over s g k) (not-false (is_excluded (mark_over s g k)) e);
 }
   where
     clash : (k : ℕ) → kept s g k ≡ true → touched s g k ≡ true → ⊥
     clash k e q = true≢false (sym e ∙ ap (λ (b : Bool). not (is_excluded (cond b excluded (g.mark k)))) q)
-
-    was : (b : Bool) → not b ≡ false → b ≡ true
-    was true e = refl
-    was false e = sym e
 
 abbrev pub compact : Ashore → Edges → Network → Network
 compact s c g = thin c (reduced s g)

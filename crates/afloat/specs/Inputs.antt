@@ -1,10 +1,10 @@
 -- The list that a call takes, where refusal 35 does not apply: then the laws of this crate hold of its vertices. And the list of zeros, "none
 -- ashore".
-use Rattle.std.specs.Prelude.{◌≡◌, refl, Bool, true, false, not, ◌&&◌, ◌||◌, List, eqb, leb, replicate}
+use Rattle.std.specs.Prelude.{◌≡◌, refl, true, false, not, ◌&&◌, ◌||◌, List, eqb, leb, replicate}
 use Rattle.std.proofs.Common.{sym, ap, ap₂, ◌∙◌, true≢false, arith, leb-true}
 use Prim.Native.Nat.{ℕ, zero, suc, ◌≤◌}
 use Rattle.std.proofs.Math.Decide.{dec_le}
-use Rattle.std.proofs.lemmas.Bool.{not-true}
+use Rattle.std.proofs.lemmas.Bool.{not-true, not-false}
 use Rattle.lists.specs.Bools.{and_both, cond_zero}
 use Rattle.lists.specs.All.{every_of}
 use Rattle.lists.specs.Members.{◌∈◌}
@@ -20,13 +20,9 @@ use Rattle.afloat.specs.Reduced.{Fit}
 
 -- ---- where 35 does not apply
 
-not_was : (b : Bool) → not b ≡ false → b ≡ true
-not_was true e = refl
-not_was false e = sym e
-
 pub fault_fits : (l : List ℕ) (n : ℕ) → ashore_fault l n ≡ 0 → ashore_fits l n ≡ true
 unfolding ashore_fault
-fault_fits l n e = not_was (ashore_fits l n) (cond_zero (not (ashore_fits l n)) 35 0 (omega arith) e).0
+fault_fits l n e = not-false (ashore_fits l n) (cond_zero (not (ashore_fits l n)) 35 0 (omega arith) e).0
 
 pub fits_fault : (l : List ℕ) (n : ℕ) → ashore_fits l n ≡ true → ashore_fault l n ≡ 0
 unfolding ashore_fault

@@ -1,6 +1,7 @@
 -- Document 01's 'The chart as bytes', and of 'What the caller can send wrong' the numbers 1 to 11 and 15, in its order. A fault is its
 -- number, 0 where there is none. Definitions only.
 use Rattle.std.specs.Prelude.{ℕ, zero, suc, ◌+◌, ◌-◌, ◌*◌, ◌/◌, ◌%◌, Bool, true, false, not, cond, ◌&&◌, Result, Ok, Err, List, [], ◌∷◌, ◌++◌, length, get_or, set, replicate, ltb, leb, eqb, ℤ, pos, negsuc}
+use Rattle.std.specs.Option.{unwrap_or}
 use Rattle.integers.specs.Range.{within}
 use Rattle.graph.specs.declared.Graph.{Graph}
 use Rattle.graph.specs.declared.refusals.Refused.{Refused}
@@ -117,10 +118,10 @@ accept g = record { graph = g; outcome = accepted }
 unfoldable pub refuse : ℕ → ℕ → ReadResult
 refuse number place = record { graph = edgeless 0; outcome = refused number place }
 
--- what a reading's answer says
+-- what a reading's answer says; "otherwise 0" is the place
 unfoldable pub read_meaning : Result Graph Refused → ReadResult
 read_meaning (Ok g) = accept g
-read_meaning (Err r) = refuse (number r.refusal) r.place
+read_meaning (Err r) = refuse (number r.refusal) (unwrap_or r.place 0)
 
 -- "The chain starts at head and goes on by next; zero ends it." A refusal's place: "for 5 the head or next that is too large, for 6 to 10
 -- the record's number". "A record's next is judged after its own 7 to 10": it is the k of the next turn. The number f only makes the

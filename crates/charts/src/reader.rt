@@ -35,7 +35,7 @@ fn header_fault(s: &[u8]) -> Result<(), Refusal>
         return Err(Refusal::TooShort);
     }
     let n = usize::from(s[0]);
-    if n < MIN_VERTICES || n > MAX_VERTICES {
+    if !(MIN_VERTICES..=MAX_VERTICES).contains(&n) {
         return Err(Refusal::VertexCount);
     }
     if s[1] != 0 || s[6] != 0 || s[7] != 0 {
@@ -71,7 +71,7 @@ impl Record {
             b: s[p + 1],
             mark: s[p + 2],
             cost: i32::from_le_bytes([s[p + 4], s[p + 5], s[p + 6], s[p + 7]]),
-            next: u16::from_le_bytes([s[p + 8], s[p + 9]]),
+            next: u16_at(s, p + 8),
             padding: [s[p + 3], s[p + 10], s[p + 11]],
         }
     }
@@ -107,7 +107,7 @@ fn pair_met(g: &Graph, x: u8, y: u8) -> bool
 }
 
 // Record k, or which of refusals 5 to 10 it meets.
-#[tactic(auto, using(crate::specs::NoFault::header_ok), unfolding(crate::specs::Chart::record_fault, crate::specs::Chart::start_of))]
+#[tactic(auto, using(crate::specs::NoFault::header_ok, crate::specs::Records::body_is), unfolding(crate::specs::Chart::record_fault, crate::specs::Chart::start_of, crate::specs::Records::record_at))]
 fn checked(s: &[u8], met: &[bool; MAX_RECORDS], g: &Graph, k: usize) -> Result<Record, Refusal>
     requires { (header_fault s.now ≡ 0) × (0 < k) × (g.now.m ≤ max_edges) }
     ensures fault { fault_of result ≡ record_fault s.now met.now g.now k }
@@ -150,10 +150,11 @@ fn follow(s: &[u8]) -> Result<Graph, Refused>
     let mut met = [false; MAX_RECORDS];
     let mut g = Graph::edgeless(s[0]);
     let mut k = usize::from(u16_at(s, 2));
+    // no `for`: each record names the next
     while k != 0 {
         let found = checked(s, &met, &g, k).map_err(|refusal| Refused {
             refusal,
-            place: k as u64,
+            place: Some(k as u64),
         })?;
         met[k - 1] = true;
         append(&mut g, &found);

@@ -46,11 +46,13 @@ fn record(g: &Graph, k: u8) -> [u8; RECORD_SIZE]
     ]
 }
 
+#[tactic(auto, using(crate::specs::NoFault::write_ok))]
 fn put_all(g: &Graph, out: &mut [u8])
-    requires { (g.now.m ≤ max_edges) × (length out.old ≡ 8 + 12 * g.now.m) }
+    requires { write_fault g.now (length out.old) ≡ 0 }
     ensures { out.new ≡ file_bytes g.now }
 {
     out[..HEADER_SIZE].copy_from_slice(&header(g));
+    // by places: of what is written through chunks_exact_mut or as_chunks_mut a proof knows nothing afterwards
     for k in 0..g.m {
         let p = HEADER_SIZE + RECORD_SIZE * usize::from(k);
         out[p..p + RECORD_SIZE].copy_from_slice(&record(g, k));
@@ -62,9 +64,7 @@ fn put_all(g: &Graph, out: &mut [u8])
 fn write_fault(g: &Graph, len: usize) -> Result<(), Refusal>
     ensures { fault_of result ≡ write_fault g.now len }
 {
-    if !g.check() {
-        return Err(Refusal::Graph);
-    }
+    g.fault()?;
     if len != HEADER_SIZE + RECORD_SIZE * usize::from(g.m) {
         return Err(Refusal::Length);
     }
@@ -73,7 +73,7 @@ fn write_fault(g: &Graph, len: usize) -> Result<(), Refusal>
 
 // The graph as bytes, in a list of just the right length; on a refusal the list stays as it was.
 // Ruled out: a byte written beside a refusal; a last record whose next leads anywhere but to 0.
-#[tactic(auto, using(crate::specs::NoFault::write_ok, graph::specs::Refusals::positive), unfolding(crate::specs::Chart::write_outcome, crate::specs::Chart::write_leaves, crate::specs::Answers::write_meaning))]
+#[tactic(auto, using(graph::specs::Refusals::positive), unfolding(crate::specs::Chart::write_outcome, crate::specs::Chart::write_leaves, crate::specs::Answers::write_meaning))]
 pub fn write(g: &Graph, out: &mut [u8]) -> Result<(), Refusal>
     ensures { (write_meaning result ≡ write_outcome g.now (length out.old))
         × (out.new ≡ write_leaves g.now out.old) }

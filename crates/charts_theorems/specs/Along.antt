@@ -1,5 +1,6 @@
 -- The chain as a list of record numbers, whatever the records hold. Definitions, and that a chain goes by them.
-use Rattle.std.specs.Prelude.{ℕ, zero, suc, ◌≡◌, refl, List}
+use Rattle.std.specs.Prelude.{ℕ, zero, suc, ◌<◌, ◌≡◌, refl, List}
+use Rattle.std.proofs.Common.{arith}
 use Rattle.charts.specs.Chart.{chain_head, next_of}
 
 -- what follows record k: its next, and nothing after the end
@@ -11,6 +12,10 @@ follow s (suc k) = next_of s (suc k)
 unfoldable pub link : List ℕ → ℕ → ℕ
 link s zero = chain_head s
 link s (suc j) = follow s (link s j)
+
+-- a record number is 1 or more
+pub above : (k : ℕ) → (k ≡ 0 → ⊥) → 0 < k
+above k n = omega arith
 
 pub link-first : (s : List ℕ) → link s 0 ≡ chain_head s
 unfolding link

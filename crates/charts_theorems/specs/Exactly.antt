@@ -12,7 +12,7 @@ use Rattle.charts.specs.NoFault.{HeaderOk}
 use Rattle.charts.specs.ChainSteps.{chain_end, chain-fault, chain-step}
 use Rattle.charts_theorems.specs.FromFacts.{header_none, record_none}
 use Rattle.charts_theorems.specs.Along.{link, link-first, link-next}
-use Rattle.charts_theorems.specs.WritersForm.{taken-size}
+use Rattle.charts_theorems.specs.WritersForm.{taken-size, start_size}
 use Rattle.charts_theorems.specs.FirstFault.{
   HeaderRefusal,
   one,
@@ -34,7 +34,7 @@ use Rattle.charts_theorems.specs.FirstFault.{
 }
 use Rattle.charts_theorems.specs.HeaderRefusals.{fine_header, header_given}
 use Rattle.charts_theorems.specs.RecordRefusals.{Track, track_start, track_more, record_given, fine_record}
-use Rattle.charts_theorems.specs.Refusals.{refused-first, accepted_faultless, start_size}
+use Rattle.charts_theorems.specs.Refusals.{refused-first, accepted_faultless}
 
 positive : (k : ℕ) → 0 < k → k ≡ 0 → ⊥
 positive k l e = omega arith

@@ -1,6 +1,6 @@
 -- Where the plain facts hold, there is no fault: the other way round from NoFault.antt of crate charts. Needed to show that a file is read.
 -- Assumes nothing.
-use Rattle.std.specs.Prelude.{ℕ, ◌+◌, ◌-◌, ◌≡◌, Bool, List, length, get_or}
+use Rattle.std.specs.Prelude.{ℕ, ◌+◌, ◌≡◌, Bool, List, length, get_or}
 use Rattle.std.proofs.Common.{le-ltb, le-leb, eq-eqb}
 use Rattle.graph.specs.declared.Graph.{Graph}
 use Rattle.graph.specs.Limits.{min_vertices, max_vertices, max_mark, max_records}

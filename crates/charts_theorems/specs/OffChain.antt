@@ -14,7 +14,7 @@ use Rattle.graph.specs.Limits.{max_edges, max_records}
 use Rattle.charts.specs.Chart.{u16_at, u32_at, vertices, chain_head, record_count, start_of, cost_at, next_of, header_fault, body_fault, record_fault, with_record, chain_from, chain, reading}
 use Rattle.graph.specs.Edgeless.{edgeless}
 use Rattle.charts.specs.NoFault.{record_ok}
-use Rattle.charts_theorems.specs.Along.{link, link-first, link-next}
+use Rattle.charts_theorems.specs.Along.{above, link, link-first, link-next}
 
 -- s and t agree on record k
 unfoldable pub Alike : List ℕ → List ℕ → ℕ → Type 0
@@ -89,9 +89,6 @@ module _ (s t : List ℕ) (w : SameChain s t) where
       by_cases (ltb (record_count s) k) (λ e. rw (← same_count, e))
       (λ e. let b = a (ltb-false (record_count s) k e) in
       rw (← same_count, e, same_body k b g.n, same_first k b, b 1 (omega arith)))
-
-  above : (k : ℕ) → (k ≡ 0 → ⊥) → 0 < k
-  above k n = omega arith
 
   same_from : (f j : ℕ) (met : List Bool) (g : Graph) → chain_from f s met g (link s j) ≡ chain_from f t met g (link s j)
   unfolding chain_from

@@ -1,8 +1,8 @@
 -- Reading refuses with the first fault that applies, at its place, and reads only where there is none: each file has a verdict, and it
 -- is what reading answers. So a file with two faults gets the earlier one, and the count in the definition of the chain never runs out.
 -- Assumes nothing.
-use Prim.Native.Nat.{ℕ, zero, suc, ◌+◌, ◌-◌, ◌<◌}
-use Rattle.std.specs.Prelude.{◌≡◌, refl, Bool, true, false, List, set, replicate, eqb}
+use Prim.Native.Nat.{ℕ, zero, suc, ◌+◌, ◌-◌}
+use Rattle.std.specs.Prelude.{◌≡◌, Bool, true, false, List, set, replicate, eqb}
 use Rattle.std.proofs.Common.{◌∙◌, arith}
 use Rattle.std.proofs.Math.Path.{ap}
 use Rattle.std.proofs.Math.Numerals.{add-one}
@@ -14,8 +14,8 @@ use Rattle.charts.specs.Answers.{accepted, refused}
 use Rattle.charts.specs.Chart.{vertices, chain_head, start_of, next_of, header_fault, record_fault, with_record, ReadResult, accept, refuse, chain_from, chain, reading}
 use Rattle.graph.specs.Edgeless.{edgeless}
 use Rattle.charts.specs.NoFault.{HeaderOk, header_ok, record_ok}
-use Rattle.charts_theorems.specs.Along.{link, link-first, link-next}
-use Rattle.charts_theorems.specs.WritersForm.{taken-size}
+use Rattle.charts_theorems.specs.Along.{above, link, link-first, link-next}
+use Rattle.charts_theorems.specs.WritersForm.{taken-size, start_size}
 use Rattle.charts_theorems.specs.FirstFault.{Refusal, in_header, in_record, Faultless}
 use Rattle.charts_theorems.specs.HeaderRefusals.{header_fine, header_refusal}
 use Rattle.charts_theorems.specs.RecordRefusals.{Track, track_start, record_refusal, track_more}
@@ -24,9 +24,6 @@ use Rattle.charts_theorems.specs.RecordRefusals.{Track, track_start, record_refu
 pub data Verdict (s : List ℕ) : ReadResult → Type 0 where
   read : (g : Graph) → Faultless s → Verdict s (accept g)
   refuses : (e p : ℕ) → Refusal s e p → Verdict s (refuse e p)
-
-above : (k : ℕ) → (k ≡ 0 → ⊥) → 0 < k
-above k n = omega arith
 
 module _ (s : List ℕ) (h : HeaderOk s) where
   walk : (f : ℕ) (met : List Bool) (g : Graph) → f + g.m ≡ suc max_edges → Track s met g → Verdict s (chain_from f s met g (link s g.m))
@@ -47,10 +44,6 @@ module _ (s : List ℕ) (h : HeaderOk s) where
       (refuses (record_fault s met g k) k
       (in_record g.m (record_fault s met g k) (header_fine s h) t.fine o
       (record_refusal s met g t o (eqb-false (record_fault s met g k) 0 d))))))
-
-pub start_size : (n : ℕ) → (edgeless n).m ≡ 0
-unfolding edgeless
-start_size n = refl
 
 -- Each file has a verdict.
 pub verdict : (s : List ℕ) → Verdict s (reading s)

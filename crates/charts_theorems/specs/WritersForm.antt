@@ -2,7 +2,7 @@
 -- other: the chain of a file in that form goes through records 1, 2, … in turn, so that each edge is that of the record with its number,
 -- and every byte is one that the writer writes. Assumes nothing.
 use Prim.Native.Nat.{ℕ, zero, suc, ◌+◌, ◌-◌, ◌/◌, ◌%◌, ◌<◌, ◌≤◌}
-use Rattle.std.specs.Prelude.{◌≡◌, refl, Bool, true, false, List, ◌∷◌, ◌++◌, ◌↔◌, ◌⊎◌, length, get_or, set, replicate, take, drop, pos}
+use Rattle.std.specs.Prelude.{◌≡◌, refl, Bool, true, false, List, ◌∷◌, ◌++◌, ◌↔◌, length, get_or, set, replicate, take, drop, pos}
 use Rattle.std.proofs.Math.Path.{sym, ap}
 use Rattle.std.proofs.Common.{◌∙◌, subst, append_assoc, append-nil, ⊎_elim, add-one, drop-cons, below_more}
 use native.Mathlib.Omega.{arith}
@@ -128,7 +128,7 @@ form-walk (suc f) (suc j) s met h g w q o t e =
     (next_is f (record_count s) s (set met (k - 1) true) h g (start_of k) (next_of s k) (w.next h.m l) d.rest))
     (chain_split f s met h k g (rw (after_low h.m (record_count s) l) at e))
 
-start_size : (n : ℕ) → (edgeless n).m ≡ 0
+pub start_size : (n : ℕ) → (edgeless n).m ≡ 0
 unfolding edgeless
 start_size n = refl
 

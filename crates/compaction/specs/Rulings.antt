@@ -1,7 +1,9 @@
 -- A kept edge has the ruling in the network that it has in the thin one, where every edge that is not kept is excluded.
-use Rattle.std.specs.Prelude.{◌≡◌, refl, Bool, ℕ, ℤ, ◌<ℤ◌}
-use Rattle.std.proofs.Common.{sym, ◌∙◌}
+use Rattle.std.specs.Prelude.{◌≡◌, Bool, ℕ, ℤ, ◌<ℤ◌}
+use Rattle.std.proofs.Common.{◌∙◌}
 use Rattle.std.proofs.Math.Bool.{true, false}
+-- tests that pass alike are one
+pub use Rattle.std.specs.Cmp.{both_ways as same_test}
 use Rattle.lists.specs.Members.{◌∈◌}
 use Rattle.lists.specs.Numbers.{up_to}
 use Rattle.graph.specs.Network.{Network}
@@ -10,12 +12,6 @@ use Rattle.tree_theory.specs.Enumeration.{barred_b, forced_b, ruling}
 use Rattle.tree_theory.specs.Decide.{barred_test, forced_test}
 use Rattle.compaction.specs.Ranks.{rank, nth, nth_in, down}
 use Rattle.compaction.specs.Thinned.{thin, spread, RestExcluded, tree_only, tree-down, bound-thin, spread-down, spread-tree, spread-bound}
-
--- tests that pass alike are one
-pub same_test : (x y : Bool) → (x ≡ true → y ≡ true) → (y ≡ true → x ≡ true) → x ≡ y
-same_test true y h k = sym (h refl)
-same_test false true h k = k refl
-same_test false false h k = refl
 
 module _ (c : Edges) (g : Network) (rest : RestExcluded c g) (d : ℕ → ℤ) (ceiling : ℤ) (j : ℕ) (i : j ∈ up_to (rank c g.m)) where
   -- a claim of all 1-trees that have the edge, or of all that lack it

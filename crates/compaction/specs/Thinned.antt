@@ -1,9 +1,9 @@
 -- The network of the kept edges (`thin`), where every edge that is not kept is excluded: a set of edges is a 1-tree of the network exactly
 -- where its kept edges, in their new numbers, are one of the thin network; bounds are the same, and so is which of two comes first. So
 -- the least 1-tree of the one is that of the other.
-use Rattle.std.specs.Prelude.{◌≡◌, refl, Bool, false, ◌&&◌, ℕ, zero, suc, ◌+◌, length, ℤ, pos, ◌-ℤ◌, ◌*ℤ◌}
+use Rattle.std.specs.Prelude.{◌≡◌, refl, Bool, false, ◌&&◌, ℕ, ◌+◌, length, ℤ, pos, ◌-ℤ◌, ◌*ℤ◌}
 use Rattle.std.proofs.Math.Path.{sym, ap, subst}
-use Rattle.std.proofs.Common.{◌∙◌, inl, inr}
+use Rattle.std.proofs.Common.{◌∙◌}
 use Rattle.std.proofs.Math.Bool.{true, not}
 use mathlib.Core.List.{List, map}
 use Rattle.std.proofs.Math.Dec.{eqb}
@@ -15,7 +15,7 @@ use Rattle.lists.specs.Numbers.{up_to}
 use Rattle.integers.specs.Sums.{sum_z, sum_map}
 use Rattle.graph.specs.Network.{Network, required, excluded}
 use Rattle.spanning.specs.Walks.{Walk, stay, along, back}
-use Rattle.tree_theory.specs.OneTree.{Edges, OneTree, Least, others, at_one, away, charge, bound, lacks_first}
+use Rattle.tree_theory.specs.OneTree.{Edges, OneTree, Least, others, at_one, away, charge, bound}
 use Rattle.tree_theory.specs.Agree.{Agree, tree_agree, bound_agree, lacks_second}
 use Rattle.compaction.specs.Ranks.{rank, nth, rank_in, nth_of, nth_in, nth-kept, rank_back, Only, down, select-thin, lacks_thin}
 

@@ -1,14 +1,14 @@
 -- WHAT A COMPARISON ANSWERS, and what it leaves in the lent report, for every input: document 02's C-21, by the machine's answers to an opening
 -- and one run. Definitions only. (Its words: hunt for search, dues for multipliers, allowance for budget.)
-use Rattle.std.specs.Prelude.{Bool, true, false, not, cond, ◌&&◌, List, ℕ, zero, suc, eqb, leb, length, get_or, ℤ, Result, Ok, Err}
-use Rattle.lists.specs.All.{every_of}
+use Rattle.std.specs.Prelude.{Bool, true, false, not, cond, ◌&&◌, List, ℕ, zero, suc, eqb, leb, length, get_or, ℤ, Option, Some, None}
+use Rattle.std.specs.List.{list_all}
+use Rattle.std.specs.Option.{unwrap_or}
 use Rattle.lists.specs.Fill.{fill}
 use Rattle.graph.specs.declared.Graph.{Graph}
-use Rattle.graph.specs.declared.refusals.Refusal.{Refusal}
-use Rattle.graph.specs.Refusals.{number}
 use Rattle.graph.specs.Limits.{max_sweeps, max_step}
 use Rattle.graph.specs.Valid.{valid}
 use Rattle.tree_theory.specs.Inputs.{multipliers_fit, ceiling_fits, denominator_fault}
+use Rattle.machine.specs.declared.Settings.{Settings}
 use Rattle.machine.specs.Machine.{Opening, no_search}
 use Rattle.machine.specs.Calls.{opens, run, refused, accepted, runs, tells, step}
 use Rattle.machine.specs.Calls as machine
@@ -21,20 +21,33 @@ max_pairs = 16
 
 -- ---- one pair
 
--- "the count with which each pair's hunt finishes, or 0 if still going on": what an answer to a run says
+-- "the count with which each pair's hunt finishes": what an answer to a run says
+abbrev pub finished_in : machine.Answer → Option ℕ
+finished_in (refused number place) = None
+finished_in accepted = None
+finished_in (runs false count) = None
+finished_in (runs true count) = Some count
+finished_in (tells verdict count) = None
+
+-- "or 0 if still going on"
 abbrev pub count_of : machine.Answer → ℕ
-count_of (refused number place) = 0
-count_of accepted = 0
-count_of (runs false count) = 0
-count_of (runs true count) = count
-count_of (tells verdict count) = 0
+count_of answer = unwrap_or (finished_in answer) 0
 
 -- "after the whole allowance": from 'no hunt', the opening and then one run
 unfoldable pub finishes : Opening → ℕ → ℕ
 unfolding step
 finishes o budget = count_of (step (step no_search (opens o)).state (run budget)).answer
 
+-- the count alone, where there is one
+unfoldable pub finishes_with : Opening → ℕ → Option ℕ
+unfolding step
+finishes_with o budget = finished_in (step (step no_search (opens o)).state (run budget)).answer
+
 -- ---- all pairs
+
+-- a pair's settings
+abbrev pub settings_of : Terms → ℕ → ℕ → Settings
+settings_of terms sweeps step = record { ceiling = terms.ceiling; sweeps = sweeps; step = step; denominator = terms.denominator }
 
 -- "the arguments of opening .., with up to 16 pairs of sweeps and step instead of one": the opening of the pair at place i, counted from 0
 abbrev pub pair_opening : Graph → List ℤ → ℤ → ℕ → List ℕ → List ℕ → ℕ → Opening
@@ -55,8 +68,7 @@ pairs_fit sweeps steps report = (leb 1 sweeps && leb sweeps max_pairs) && (eqb s
 
 -- "14 sweeps or step", of any pair
 unfoldable pub settings_fit : List ℕ → List ℕ → Bool
-unfolding every_of
-settings_fit sweeps steps = every_of (λ x. leb x max_sweeps) sweeps && every_of (λ x. leb x max_step) steps
+settings_fit sweeps steps = list_all (λ x. leb x max_sweeps) sweeps && list_all (λ x. leb x max_step) steps
 
 -- the numbers of an opening, in its order, 32 too (C-17)
 unfoldable pub compare_fault : Graph → List ℤ → ℤ → ℕ → List ℕ → List ℕ → ℕ → ℕ
@@ -74,11 +86,6 @@ compare_fault g d ceiling q sweeps steps report =
 abbrev pub answer_by : ℕ → machine.Answer
 answer_by zero = accepted
 answer_by (suc f) = refused (suc f) 0
-
--- what the code's answer means
-abbrev pub meaning : Result (Unit {0}) Refusal → machine.Answer
-meaning (Ok done) = accepted
-meaning (Err r) = refused (number r) 0
 
 unfoldable pub compare_reply : Graph → List ℤ → Terms → List ℕ → List ℕ → ℕ → machine.Answer
 unfolding compare_fault

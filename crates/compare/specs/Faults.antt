@@ -1,12 +1,14 @@
 -- The fault of a comparison, test by test, as its code goes; that each pair's opening has none where there is none; the answer and the report by
 -- the fault. Assumes nothing.
-use Rattle.std.specs.Prelude.{◌≡◌, Bool, true, false, ◌&&◌, List, eqb, leb, length, ℤ}
+use Rattle.std.specs.Prelude.{◌≡◌, Bool, true, false, not, cond, ◌&&◌, List, eqb, leb, length, ℤ}
 use Rattle.std.proofs.Math.Path.{refl}
-use Rattle.std.proofs.Common.{sym, ◌∙◌, arith, eqb-true}
+use Rattle.std.proofs.Common.{sym, ap, ◌∙◌, arith, eqb-true, eq-eqb}
 use Prim.Native.Nat.{ℕ, zero, suc, ◌<◌}
 use Rattle.lists.specs.Bools.{by_cases, and_both}
-use Rattle.lists.specs.All.{every_of}
+use Rattle.std.specs.List.{list_all}
 use Rattle.graph.specs.declared.Graph.{Graph}
+use Rattle.graph.specs.declared.refusals.Refusal.{Refusal}
+use Rattle.graph.specs.Refusals.{number, not-zero}
 use Rattle.graph.specs.Limits.{max_sweeps, max_step}
 use Rattle.graph.specs.Valid.{valid}
 use Rattle.tree_theory.specs.Inputs.{multipliers_fit, ceiling_fits, denominator_fault}
@@ -14,6 +16,21 @@ use Rattle.machine.specs.Calls.{refused, accepted, fault}
 use Rattle.compare.specs.AtMost.{every_at}
 use Rattle.compare.specs.declared.Terms.{Terms}
 use Rattle.compare.specs.Comparison.{max_pairs, counts, pair_opening, pairs_fit, settings_fit, compare_fault, answer_by, compare_reply, left_by, compare_leaves}
+
+-- ---- what `?` knows of a test that answers one number, or none
+
+pub told : (b : Bool) (n : ℕ) (r : Refusal) → number r ≡ cond (not b) n 0 → (b ≡ false) × (number r ≡ n)
+told true n r e = absurd (not-zero r e)
+told false n r e = (refl, e)
+
+pub passed : (b : Bool) (n : ℕ) → 0 ≡ cond (not b) (suc n) 0 → b ≡ true
+passed true n e = refl
+passed false n e = absurd (omega arith)
+
+pub sizes_are : (m n : ℕ) (p : Bool) → m ≡ n → p ≡ true → eqb m n && p ≡ true
+sizes_are m n p e q = rw (eq-eqb m n e, q)
+
+-- ---- test by test
 
 abbrev pub sizes_fit : Graph → List ℤ → List ℕ → List ℕ → ℕ → Bool
 sizes_fit g d sweeps steps report = eqb (length d) g.n && pairs_fit (length sweeps) (length steps) report
@@ -101,26 +118,26 @@ pub pair_accepted : (g : Graph) (d : List ℤ) (ceiling : ℤ) (q : ℕ) (sweeps
 unfolding fault settings_fit
 pair_accepted g d ceiling q sweeps steps report none i =
     let f = no_fault g d ceiling q sweeps steps report none in
-    let both = and_both (every_of (λ x. leb x max_sweeps) sweeps) (every_of (λ x. leb x max_step) steps) f.settings in
+    let both = and_both (list_all (λ x. leb x max_sweeps) sweeps) (list_all (λ x. leb x max_step) steps) f.settings in
     rw (f.is_valid, f.long, f.multipliers, f.within_ceiling, every_at max_sweeps sweeps both.0 i, every_at max_step steps both.1 i)
     f.denominator
 
 -- ---- the answer and the report, by the fault
 
 module _ (g : Graph) (d : List ℤ) (terms : Terms) (sweeps steps : List ℕ) where
-  pub reply-refused : (report f : ℕ) → compare_fault g d terms.ceiling terms.denominator sweeps steps report ≡ f → ¬ (f ≡ 0)
-      → compare_reply g d terms sweeps steps report ≡ refused f 0
+  pub reply-refused : (report : ℕ) (r : Refusal) → number r ≡ compare_fault g d terms.ceiling terms.denominator sweeps steps report
+      → refused (number r) 0 ≡ compare_reply g d terms sweeps steps report
   unfolding compare_reply
-  reply-refused report f is h = rw is (go f h)
+  reply-refused report r is = sym (ap answer_by (sym is) ∙ go (number r) (not-zero r))
     where
       go : (f : ℕ) → ¬ (f ≡ 0) → answer_by f ≡ refused f 0
       go zero h = absurd (h refl)
       go (suc f) h = refl
 
-  pub refused-leaves : (report : List ℕ) (f : ℕ) → compare_fault g d terms.ceiling terms.denominator sweeps steps (length report) ≡ f → ¬ (f ≡ 0)
-      → compare_leaves g d terms sweeps steps report ≡ report
+  pub refused-leaves : (report : List ℕ) (r : Refusal)
+      → number r ≡ compare_fault g d terms.ceiling terms.denominator sweeps steps (length report) → report ≡ compare_leaves g d terms sweeps steps report
   unfolding compare_leaves
-  refused-leaves report f is h = rw is (go f h)
+  refused-leaves report r is = sym (ap (λ (f : ℕ). left_by f (counts g d terms sweeps steps) report) (sym is) ∙ go (number r) (not-zero r))
     where
       go : (f : ℕ) → ¬ (f ≡ 0) → left_by f (counts g d terms sweeps steps) report ≡ report
       go zero h = absurd (h refl)

@@ -3,21 +3,22 @@
 #![tactic(auto)]
 
 ghost use Rattle.std.specs.Prelude.{◌≡◌, leb, length};
-ghost use Rattle.lists.specs.All.{every_of};
+ghost use Rattle.std.specs.List.{list_all};
+ghost use Rattle.std.specs.Option.{unwrap_or};
 ghost use Rattle.graph.specs.Refusals.{fault_of};
 ghost use Rattle.search.specs.Record.{opening_of};
-ghost use Rattle.search.specs.Replies.{means};
-ghost use Rattle.compare.specs.Comparison.{pairs_fit, count_of, finishes, counts, compare_fault, compare_reply, compare_leaves, meaning};
+ghost use Rattle.search.specs.Replies.{means, run_means};
+ghost use Rattle.compare.specs.Comparison.{settings_of, pairs_fit, settings_fit, finished_in, finishes, finishes_with, counts, compare_fault, compare_reply, compare_leaves};
 
 use graph::{Graph, Refusal};
 use machine::Settings;
 use node::{MAX_STEP, MAX_SWEEPS};
-use search::{Answer, Said, Search};
+use search::{Progress, Search};
 
 // As specs/Comparison.antt has it.
 pub const MAX_PAIRS: usize = 16;
 
-// What all pairs have alike.
+// What all pairs have alike. The ceiling and the denominator stand in `Settings` too, since C has both structs.
 #[repr(C)]
 #[derive(Clone, Copy, Debug, PartialEq, Eq)]
 pub struct Terms {
@@ -28,88 +29,91 @@ pub struct Terms {
 
 // Is every number of the list at most the limit?
 fn all_at_most(list: &[u32], limit: u32) -> bool
-    ensures { result ≡ every_of (λ x. leb x limit) list.now }
+    ensures { result ≡ list_all (λ x. leb x limit) list.now }
 {
     list.iter().all(|x| *x <= limit)
 }
 
-// Are there 1 to 16 pairs, and an entry of the report for each?
-fn pairs_fit(sweeps: usize, steps: usize, report: usize) -> bool
-    ensures { result ≡ pairs_fit sweeps steps report }
-{
-    1 <= sweeps && sweeps <= MAX_PAIRS && steps == sweeps && report == sweeps
-}
-
-// The first fault of a comparison, in document 02's order. Every pair is looked at.
-fn fault(
-    g: &Graph,
-    multipliers: &[i32],
-    terms: Terms,
-    sweeps: &[u32],
-    steps: &[u32],
-    report: usize,
-) -> Result<(), Refusal>
-    ensures { fault_of result
-        ≡ compare_fault g.now multipliers.now terms.ceiling terms.denominator sweeps.now steps.now report }
-{
-    if !g.check() {
-        return Err(Refusal::Graph);
-    }
-    if multipliers.len() != usize::from(g.n) || !pairs_fit(sweeps.len(), steps.len(), report) {
-        return Err(Refusal::Length);
-    }
-    if !onetree::multipliers_fit(multipliers) {
-        return Err(Refusal::Multiplier);
-    }
-    if !onetree::ceiling_fits(terms.ceiling) {
-        return Err(Refusal::Ceiling);
-    }
-    if !(all_at_most(sweeps, MAX_SWEEPS) && all_at_most(steps, MAX_STEP)) {
-        return Err(Refusal::Settings);
-    }
-    onetree::denominator_fault(terms.denominator)
-}
-
-// The count of a run that finished; 0 of any other answer.
-fn count_in(answer: Answer) -> u64
-    ensures { result ≡ count_of (means answer) }
+// The count of a run that finished.
+fn count_in(answer: Result<Progress, Refusal>) -> Option<u64>
+    ensures { result ≡ finished_in (run_means answer) }
 {
     match answer {
-        Ok(Said::Finished(k)) => k,
-        _ => 0,
+        Ok(Progress::Finished(k)) => Some(k),
+        _ => None,
     }
 }
 
-// One pair: a fresh record, one opening and one run with the whole budget.
-fn count(g: &Graph, multipliers: &[i32], settings: Settings, budget: u64) -> u64
-    ensures { result ≡ finishes (opening_of g.now multipliers.now settings) budget }
-{
-    let mut s = Search::fresh();
-    // where the opening is refused no search is open, and the run says so
-    let _opened = s.open(g, multipliers, settings);
-    count_in(s.run(budget))
+// What is compared. The pairs are two lists beside each other, and none of pairs, since C lends them so.
+#[derive(Clone, Copy)]
+struct Comparison<'a> {
+    g: &'a Graph,
+    multipliers: &'a [i32],
+    terms: Terms,
+    sweeps: &'a [u32],
+    steps: &'a [u32],
 }
 
-// Each pair's count, in the report. Lists beside each other and none of pairs, since C lends them so.
-fn count_all(
-    g: &Graph,
-    multipliers: &[i32],
-    terms: Terms,
-    sweeps: &[u32],
-    steps: &[u32],
-    report: &mut [u64],
-)
-    requires { (length steps.now ≡ length sweeps.now) × (length report.old ≡ length sweeps.now) }
-    ensures { report.new ≡ counts g.now multipliers.now terms sweeps.now steps.now }
-{
-    for (i, (&sweeps, &step)) in sweeps.iter().zip(steps).enumerate() {
+impl<'a> Comparison<'a> {
+    // Are there 1 to 16 pairs, and an entry of the report for each?
+    fn pairs_fit(&self, report: usize) -> bool
+        ensures { result ≡ pairs_fit (length self.now.sweeps.now) (length self.now.steps.now) report }
+    {
+        let pairs = self.sweeps.len();
+        (1..=MAX_PAIRS).contains(&pairs) && self.steps.len() == pairs && report == pairs
+    }
+
+    // Every pair is looked at.
+    #[tactic(auto, unfolding(crate::specs::Comparison::settings_fit))]
+    fn settings_fit(&self) -> bool
+        ensures { result ≡ settings_fit self.now.sweeps.now self.now.steps.now }
+    {
+        all_at_most(self.sweeps, MAX_SWEEPS) && all_at_most(self.steps, MAX_STEP)
+    }
+
+    // The first fault, in document 02's order.
+    fn fault(&self, report: usize) -> Result<(), Refusal>
+        ensures { fault_of result
+            ≡ compare_fault self.now.g.now self.now.multipliers.now self.now.terms.ceiling self.now.terms.denominator
+            self.now.sweeps.now self.now.steps.now report }
+    {
+        self.g.fault()?;
+        if self.multipliers.len() != usize::from(self.g.n) || !self.pairs_fit(report) {
+            return Err(Refusal::Length);
+        }
+        onetree::multipliers_fault(self.multipliers)?;
+        onetree::ceiling_fault(self.terms.ceiling)?;
+        if !self.settings_fit() {
+            return Err(Refusal::Settings);
+        }
+        onetree::denominator_fault(self.terms.denominator)
+    }
+
+    // One pair: a fresh record, one opening and one run with the whole budget. None where the search is still going on.
+    fn count(&self, sweeps: u32, step: u32) -> Option<u64>
+        ensures finished { result ≡ finishes_with (opening_of self.now.g.now self.now.multipliers.now (settings_of self.now.terms sweeps step)) self.now.terms.budget }
+        ensures reported { unwrap_or result 0 ≡ finishes (opening_of self.now.g.now self.now.multipliers.now (settings_of self.now.terms sweeps step)) self.now.terms.budget }
+    {
         let settings = Settings {
-            ceiling: terms.ceiling,
+            ceiling: self.terms.ceiling,
             sweeps,
             step,
-            denominator: terms.denominator,
+            denominator: self.terms.denominator,
         };
-        report[i] = count(g, multipliers, settings, terms.budget);
+        let mut s = Search::fresh();
+        // where the opening is refused no search is open, and the run says so
+        let _opened = s.open(self.g, self.multipliers, settings);
+        count_in(s.run(self.terms.budget))
+    }
+
+    // Each pair's count, in the report; 0 where there is none. By places, since the library says nothing of what `zip` over `iter_mut` leaves.
+    fn count_all(&self, report: &mut [u64])
+        requires { (length self.now.steps.now ≡ length self.now.sweeps.now) × (length report.old ≡ length self.now.sweeps.now) }
+        ensures { report.new ≡ counts self.now.g.now self.now.multipliers.now self.now.terms self.now.sweeps.now self.now.steps.now }
+    {
+        for (i, (&sweeps, &step)) in self.sweeps.iter().zip(self.steps).enumerate() {
+            report[i] = self.count(sweeps, step).unwrap_or(0);
+        }
     }
 }
 
@@ -123,11 +127,18 @@ pub fn compare(
     steps: &[u32],
     report: &mut [u64],
 ) -> Result<(), Refusal>
-    ensures { (meaning result
+    ensures { (means result
         ≡ compare_reply g.now multipliers.now terms sweeps.now steps.now (length report.old))
         × (report.new ≡ compare_leaves g.now multipliers.now terms sweeps.now steps.now report.old) }
 {
-    fault(g, multipliers, terms, sweeps, steps, report.len())?;
-    count_all(g, multipliers, terms, sweeps, steps, report);
+    let comparison = Comparison {
+        g,
+        multipliers,
+        terms,
+        sweeps,
+        steps,
+    };
+    comparison.fault(report.len())?;
+    comparison.count_all(report);
     Ok(())
 }

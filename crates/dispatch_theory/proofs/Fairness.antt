@@ -2,7 +2,7 @@
 -- unfinished before it is served in one of these turns. What is measured is how many places the one last served stands before it in
 -- cyclic order, (i − 1 − last) mod 8 and so 7 at most: an accepted turn serves it, or another place on the way there. Assumes nothing.
 use Rattle.std.proofs.Math.Path.{◌≡◌, refl, ap, subst}
-use Rattle.std.proofs.Common.{sym, ◌∙◌, inl, inr, arith, lt-ltb, le-ltb}
+use Rattle.std.proofs.Common.{sym, ◌∙◌, inl, inr, arith}
 use Rattle.std.specs.Prelude.{◌⊎◌, Bool, cond, ◌&&◌, length}
 use Rattle.std.proofs.Math.Bool.{true, false, not}
 use Rattle.std.proofs.lemmas.Bool.{false≢true}
@@ -22,37 +22,7 @@ use Rattle.dispatch_theory.specs.Dispatcher.{places_by, last_by, dispatch_next, 
 use Rattle.dispatch_theory.specs.Stretches.{Still, Quiet, is_turn, turns}
 use Rattle.dispatch_theory.specs.Alone.{places-size, last_range, size-after}
 use Rattle.dispatch_theory.specs.Fairness.{Steady, ServedIn, still}
-
--- ---- the cyclic order
-
--- the place that n places follow before, after l
-unfoldable walk : ℕ → ℕ → ℕ
-walk zero l = following l
-walk (suc n) l = walk n (following l)
-
-following_low : (l : ℕ) → l < 8 → following l ≡ suc l
-unfolding following
-following_low l h = rw (lt-ltb l 8 h)
-
-following-high : (l : ℕ) → 8 ≤ l → following l ≡ 1
-unfolding following
-following-high l h = rw (le-ltb l 8 h)
-
-walk_up : (n l : ℕ) → l + n < 8 → walk n l ≡ suc (l + n)
-unfolding walk
-walk_up zero l h = following_low l (omega arith) ∙ omega arith
-walk_up (suc n) l h = ap (walk n) (following_low l (omega arith)) ∙ walk_up n (suc l) (omega arith) ∙ omega arith
-
-walk_round : (n l : ℕ) → l ≤ 8 → 8 ≤ l + n → l + n < 16 → walk n l + 7 ≡ l + n
-unfolding walk
-walk_round zero l h a b = ap (λ (k : ℕ). k + 7) (following-high l (omega arith)) ∙ omega arith
-walk_round (suc n) l h a b = go (dec_le (suc l) 8) (λ c. walk_round n (suc l) c (omega arith) (omega arith))
-  where
-    go : Dec (l < 8) → (l < 8 → walk n (suc l) + 7 ≡ suc l + n) → walk n (following l) + 7 ≡ l + suc n
-    go (yes c) below = ap (λ (k : ℕ). walk n k + 7) (following_low l c) ∙ below c ∙ omega arith
-    go (no c) below =
-        ap (λ (k : ℕ). walk n k + 7) (following-high l (omega arith))
-        ∙ ap (λ (k : ℕ). k + 7) (walk_up n 1 (omega arith)) ∙ omega arith
+use Rattle.dispatch_theory.specs.Cyclic.{walk, walk_up, walk_round}
 
 -- every place is at most seven others away
 away : (l i : ℕ) → l ≤ 8 → 1 ≤ i → i ≤ 8 → (n : ℕ) × (n ≤ 7) × (walk n l ≡ i)

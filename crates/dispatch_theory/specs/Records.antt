@@ -7,10 +7,10 @@ use Rattle.std.proofs.Common.{◌∙◌, le-leb}
 use mathlib.Core.List.{List, map}
 use native.Mathlib.Omega.{arith}
 use Rattle.std.proofs.Math.Dec.{leb}
-use Rattle.lists.specs.All.{every_of}
+use Rattle.std.specs.List.{AllByRecursion, list_all}
 use Rattle.lent_records.specs.Machine.{Machine, Searches, leaves}
 use Rattle.lent_records.specs.Places.{under, under-map}
-use Rattle.lent_records.specs.Every.{Every, every_replicate, every_put, every_under, every_back, every_passes}
+use Rattle.lent_records.specs.Every.{every_replicate, every_put, every_under, every_back, every_passes}
 use Rattle.lent_records.specs.Records.{Codec, replies, record_of}
 use Rattle.lent_records.specs.Following.{replies_follow, as_the_machine}
 use Rattle.dispatch_theory.specs.Dispatcher.{Calls, Dispatcher, DispatchCall, Response, Route, nowhere, to}
@@ -37,11 +37,10 @@ module _ {m : Machine} (o : Searches m) (h : Calls m) (k : Codec m) (f : Form k)
 
   -- every place passes its own check, and the number last served is a place, or 0
   unfoldable pub check_all : f.Record → Bool
-  unfolding every_of
-  check_all r = leb (f.last r) 8 && every_of k.check (f.places r)
+  check_all r = leb (f.last r) 8 && list_all k.check (f.places r)
 
   abbrev pub KeptAll : Dispatcher m.State → Type 0
-  KeptAll d = (d.last ≤ 8) × Every k.Kept d.places
+  KeptAll d = (d.last ≤ 8) × AllByRecursion k.Kept d.places
 
   pub all_begun : KeptAll (fresh m o h)
   unfolding fresh
@@ -50,7 +49,7 @@ module _ {m : Machine} (o : Searches m) (h : Calls m) (k : Codec m) (f : Form k)
   pub all_next : (d : Dispatcher m.State) (x : DispatchCall h.Opening) → KeptAll d → KeptAll (dispatch_next m o h d x)
   all_next d x q = (last_range m o h d x q.0, unfold dispatch_next in go (routed m o h d x))
     where
-      go : (r : Route m.Call) → Every k.Kept (places_by m o h d r)
+      go : (r : Route m.Call) → AllByRecursion k.Kept (places_by m o h d r)
       go nowhere = unfold places_by in q.1
       go (to i c) = unfold places_by state_at in every_put k.Kept d.places i (m.next (under m.begin d.places i) c) q.1
           (k.goes_on (under m.begin d.places i) c (every_under k.Kept m.begin d.places i q.1 k.begun))
@@ -59,7 +58,7 @@ module _ {m : Machine} (o : Searches m) (h : Calls m) (k : Codec m) (f : Form k)
   unfolding check_all encode_all
   all_passes d q =
       rw (f.places-made (map k.encode d.places) d.last, f.last_made (map k.encode d.places) d.last)
-      (ap (λ (b : Bool). b && every_of k.check (map k.encode d.places)) (le-leb d.last 8 q.0)
+      (ap (λ (b : Bool). b && list_all k.check (map k.encode d.places)) (le-leb d.last 8 q.0)
       ∙ every_passes k.Kept k.encode k.check k.passes d.places q.1)
 
   pub all_returns : (d : Dispatcher m.State) → KeptAll d → decode_all (encode_all d) ≡ d

@@ -1,39 +1,41 @@
 -- The replies, case by case, as the code of the calls goes: from what is seen of the places to what the dispatcher's machine does. Assumes
 -- nothing.
 use Rattle.std.proofs.Math.Path.{◌≡◌, refl, sym, ap}
-use Rattle.std.proofs.Common.{◌∙◌, subst, ne_eqb, le-leb, true≢false, ext_get_or}
-use Rattle.std.proofs.lemmas.Bool.{false≢true, lt-leb}
-use Rattle.std.specs.Prelude.{Bool, ◌&&◌, ◌||◌, length, Some, Ok, Err}
-use Rattle.std.specs.List.{list_any}
+use Rattle.std.proofs.Common.{◌∙◌, subst, ne_eqb, le-leb, leb-true, true≢false}
+use Rattle.std.proofs.lemmas.Bool.{lt-leb}
+use Rattle.std.proofs.lemmas.List.{get_or_default, set-get_or}
+use Rattle.std.proofs.lemmas.List.Elements.{recursion_from_All}
+use Rattle.std.proofs.lemmas.List.Sums.{AllPass-from_list_all}
+use Rattle.std.specs.Prelude.{Bool, ◌&&◌, None}
+use Rattle.std.specs.List.{list_all, AllPass}
 use Rattle.std.proofs.Math.Bool.{true, false, not, cond}
-use mathlib.Core.List.{List, [], ◌∷◌, map}
-use Prim.Native.Nat.{ℕ, zero, suc, ◌-◌, ◌≤◌, ◌<◌}
+use mathlib.Core.List.{List, map}
+use Prim.Native.Nat.{ℕ, zero, suc, ◌+◌, ◌≤◌, ◌<◌}
 use native.Mathlib.Omega.{arith}
 use Rattle.std.proofs.Math.Dec.{eqb, leb}
 use Rattle.std.proofs.Math.ListN.{get_or, set, length-map, get_or-map}
-use Rattle.lists.specs.All.{every_of}
-use Rattle.lists.specs.Bools.{by_cases, and_both}
+use Rattle.lists.specs.Bools.{by_cases, and_both, and_no_right}
 use Rattle.graph.specs.declared.refusals.Refusal.{Refusal}
-use Rattle.graph.specs.declared.refusals.Refusal.TheVariants.{Record}
-use Rattle.graph.specs.Refusals.{number, number-injective}
-use Rattle.graph.specs.Network.{network}
-use Rattle.machine.specs.Outcomes.{Incumbent, no_tour, a_tour}
+use Rattle.graph.specs.Refusals.{number, positive}
 use Rattle.machine.specs.Machine.{Opening, State, no_search, searching, finished}
 use Rattle.machine.specs.Calls as calls
-use Rattle.machine.specs.Calls.{Verdict, going_on, none, best, refused, tells, tell, step, verdict, verdict_of}
+use Rattle.machine.specs.Calls.{refused, tell, step}
+use Rattle.machine.specs.Refusals.{refused-leaves}
 use Rattle.search.specs.Record.{fresh, decode, encode}
 use Rattle.search.specs.Check.{check}
 use Rattle.search.specs.Replies as search
-use Rattle.search.specs.Replies.{means}
-use Rattle.machine.specs.Refusals.{refused-leaves}
+use Rattle.search.specs.Seen.{Again}
+use Rattle.search.specs.Seen.{state_of as seen_of}
+use Rattle.search.specs.Seen.{state_in as seen_in}
 use Rattle.search.specs.declared.Search.{Search}
-use Rattle.search.specs.declared.Said as search-said
-use Rattle.search.specs.declared.Said.TheVariants.{Accepted, GoingOn, Searching, NoTour, Best}
-use Rattle.search.specs.declared.Said.TheVariants.{Finished as Done}
-use Rattle.lent_records.specs.Places.{is_name, under, put, under-map, map-put}
-use Rattle.lent_records.specs.Every.{Every, every_back}
+use Rattle.search.specs.declared.State.{State as Seen}
+use Rattle.search.specs.declared.State.TheVariants.{Broken, Empty, Waiting}
+use Rattle.lent_records.specs.Places.{is_name, place_of, place_none, under, put, under-map, map-put}
+use Rattle.lent_records.specs.Every.{every_back}
 use Rattle.lent_records.specs.Records as records
 use Rattle.lent_records.specs.Records.{lent_on}
+use Rattle.search_records.specs.Seen as broken
+use Rattle.search_records.specs.Seen.{kind, kind-injective, passing_state, open_is, any_broken, any_seen, all_whole}
 use Rattle.dispatch_theory.specs.Dispatcher as theory
 use Rattle.dispatch_theory.specs.Dispatcher.{DispatchCall, Response, placed, served, idle, said, add, turn, tell_at, show_at, close_at, Route, nowhere, to, following, first_after}
 use Rattle.dispatch_theory.specs.Dispatcher.{state_at, is_held, waits, free_place, next_place, place_fault, routed, places_by, last_by, dispatch_next, dispatch_answer, dispatch_lent}
@@ -41,78 +43,12 @@ use Rattle.dispatch_theory.specs.Alone.{following_range, first_range}
 use Rattle.dispatch_theory.specs.Fairness.{still}
 use Rattle.dispatch_theory.specs.Records.{encode_all, decode_all, check_all}
 use Rattle.dispatcher.specs.Searches.{machine, held, made, codec}
-use Rattle.dispatcher.specs.Replies.{Call, form, refuses, reply, lent}
-use Rattle.dispatcher.specs.Seen.{seen_of, seen_in, kind, is_at, place_of, Again, Laid, passes, state, held_fault}
-use Rattle.dispatcher.specs.Scanning.{any_default, set_same, place_some}
+use Rattle.dispatcher.specs.Replies.{Call, Outcome, form, refuses, reply, lent}
+use Rattle.dispatcher.specs.Seen.{is_at, any_seen_broken, Laid, passes, state, held_fault}
 use Rattle.dispatcher.specs.Steady.{steady}
 use Rattle.dispatcher.specs.declared.Dispatcher.{Dispatcher}
-use Rattle.dispatcher.specs.declared.survey.Seen.{Seen}
-use Rattle.dispatcher.specs.declared.survey.Seen.TheVariants.{Broken, Empty, Waiting, Finished}
 
--- ---- one place, by what telling its record answers
-
--- what is told of a search
-abbrev pub seen_by : search-said.Said → Seen
-seen_by Accepted = Finished
-seen_by (GoingOn n) = Finished
-seen_by (Done n) = Finished
-seen_by (Searching n) = Waiting
-seen_by (NoTour n) = Finished
-seen_by (Best c n) = Finished
-
-abbrev verdict_seen : Verdict → Seen
-verdict_seen going_on = Waiting
-verdict_seen none = Finished
-verdict_seen (best c) = Finished
-
-told_by : (x : search-said.Said) (v : Verdict) (n : ℕ) → means (Ok x) ≡ tells v n → seen_by x ≡ verdict_seen v
-told_by Accepted v n e = cc
-told_by (GoingOn m) v n e = cc
-told_by (Done m) v n e = cc
-told_by (Searching m) going_on n e = refl
-told_by (Searching m) none n e = cc
-told_by (Searching m) (best c) n e = cc
-told_by (NoTour m) going_on n e = cc
-told_by (NoTour m) none n e = refl
-told_by (NoTour m) (best c) n e = refl
-told_by (Best d m) going_on n e = cc
-told_by (Best d m) none n e = refl
-told_by (Best d m) (best c) n e = refl
-
-pub none_told : (x : search-said.Said) (k p : ℕ) → means (Ok x) ≡ refused k p → ⊥
-none_told Accepted k p e = cc
-none_told (GoingOn m) k p e = cc
-none_told (Done m) k p e = cc
-none_told (Searching m) k p e = cc
-none_told (NoTour m) k p e = cc
-none_told (Best d m) k p e = cc
-
-state-told : (st : State) (x : search-said.Said) → means (Ok x) ≡ (step st tell).answer → seen_by x ≡ seen_of st
-unfolding step verdict
-state-told no_search x e = absurd (none_told x 20 0 e)
-state-told (searching p) x e = told_by x _ p.count e ∙ go (finished p) p.incumbent
-  where
-    go : (b : Bool) (i : Incumbent (List Bool)) → verdict_seen (cond b (verdict_of (network p.opening.graph) i) going_on) ≡ cond b Finished Waiting
-    go true no_tour = refl
-    go true (a_tour r) = refl
-    go false i = refl
-
-told_refused : (v : Verdict) (n k p : ℕ) → refused k p ≡ tells v n → ⊥
-told_refused v n k p e = cc
-
-state-refused : (st : State) (r : Refusal) → means (Err r) ≡ (step st tell).answer → (seen_of st ≡ Empty) × (number r ≡ 20)
-unfolding step
-state-refused no_search r e = (refl, cc)
-state-refused (searching p) r e = absurd (told_refused (verdict p) p.count (number r) 0 e)
-
--- an answer that is none of a refusal is accepted
-pub told_accepted : (x : search-said.Said) → calls.is_accepted (means (Ok x)) ≡ true
-told_accepted Accepted = refl
-told_accepted (GoingOn n) = refl
-told_accepted (Done n) = refl
-told_accepted (Searching n) = refl
-told_accepted (NoTour n) = refl
-told_accepted (Best c n) = refl
+-- ---- one place, by what its record is seen to hold
 
 -- the search's call, where its record passes its check, and where it does not
 answer_is : (s : Search) (c : calls.Call) → check s ≡ true → (search.reply s c).answer ≡ (step (decode s) c).answer
@@ -127,113 +63,9 @@ list_is : (s : Search) (c : calls.Call) → check s ≡ true → search.lent s c
 unfolding search.lent
 list_is s c e = rw e
 
-failing : (s : Search) → check s ≡ false → (search.reply s tell).answer ≡ refused 24 0
-unfolding search.reply
-failing s e = rw e
-
-module _ (s : Search) where
-  pub told : (x : search-said.Said) → means (Ok x) ≡ (search.reply s tell).answer → seen_by x ≡ seen_in s
-  unfolding seen_in
-  told x e =
-      by_cases (check s)
-      (λ p. rw p (state-told (decode s) x (e ∙ answer_is s tell p)))
-      (λ p. absurd (none_told x 24 0 (e ∙ failing s p)))
-
-  pub told_broken : means (Err Record) ≡ (search.reply s tell).answer → Broken ≡ seen_in s
-  unfolding seen_in
-  told_broken e =
-      by_cases (check s)
-      (λ p. absurd (let z : ◌≡◌ {A = ℕ} 24 20 = (state-refused (decode s) Record (e ∙ answer_is s tell p)).1 in omega arith))
-      (λ p. rw p)
-
-  pub told_empty : (r : Refusal) → means (Err r) ≡ (search.reply s tell).answer → ¬ (r ≡ Record) → Empty ≡ seen_in s
-  unfolding seen_in
-  told_empty r e n =
-      by_cases (check s)
-      (λ p. rw p (sym (state-refused (decode s) r (e ∙ answer_is s tell p)).0))
-      (λ p. let same : means (Err r) ≡ refused 24 0 = e ∙ failing s p in absurd (n (number-injective r Record cc)))
-
-  -- telling leaves the record, so that it is that of its state
-  pub told_again : s ≡ (search.reply s tell).search → Again s
-  told_again e p = sym (e ∙ left_is s tell p ∙ ap encode (steady.tells (decode s)))
-
-  -- what is seen of a record that passes
-  seen_passes : check s ≡ true → seen_in s ≡ seen_of (decode s)
-  unfolding seen_in
-  seen_passes e = rw e
-
-  seen_broken : eqb (kind (seen_in s)) 0 ≡ not (check s)
-  unfolding seen_in
-  seen_broken = by_cases (check s) (λ p. rw p (unbroken (decode s))) (λ p. rw p)
-    where
-      unbroken : (st : State) → eqb (kind (seen_of st)) 0 ≡ false
-      unbroken no_search = refl
-      unbroken (searching p) = by_cases (finished p) (λ f. rw f) (λ f. rw f)
-
--- of a state
-seen_held : (st : State) → held.is_open st ≡ not (eqb (kind (seen_of st)) 1)
-seen_held no_search = refl
-seen_held (searching p) = by_cases (finished p) (λ f. rw f) (λ f. rw f)
-
 seen_waits : (st : State) → held.is_open st && not (made.finished st) ≡ eqb (kind (seen_of st)) 2
 seen_waits no_search = refl
 seen_waits (searching p) = by_cases (finished p) (λ f. rw f) (λ f. rw f)
-
-pub kind-injective : (a b : Seen) → kind a ≡ kind b → a ≡ b
-kind-injective Broken Broken e = refl
-kind-injective Broken Empty e = absurd (omega arith)
-kind-injective Broken Waiting e = absurd (omega arith)
-kind-injective Broken Finished e = absurd (omega arith)
-kind-injective Empty Broken e = absurd (omega arith)
-kind-injective Empty Empty e = refl
-kind-injective Empty Waiting e = absurd (omega arith)
-kind-injective Empty Finished e = absurd (omega arith)
-kind-injective Waiting Broken e = absurd (omega arith)
-kind-injective Waiting Empty e = absurd (omega arith)
-kind-injective Waiting Waiting e = refl
-kind-injective Waiting Finished e = absurd (omega arith)
-kind-injective Finished Broken e = absurd (omega arith)
-kind-injective Finished Empty e = absurd (omega arith)
-kind-injective Finished Waiting e = absurd (omega arith)
-kind-injective Finished Finished e = refl
-
--- ---- lists
-
--- one is broken where not every one passes
-pub some_broken : (l : List Search) → list_any (λ x. eqb (kind x) 0) (map seen_in l) ≡ not (every_of check l)
-unfolding every_of
-some_broken [] = refl
-some_broken (s ∷ l) = rw (seen_broken s, some_broken l) (either (check s) (every_of check l))
-  where
-    either : (b c : Bool) → not b || not c ≡ not (b && c)
-    either true c = refl
-    either false c = refl
-
--- what is seen of all eight, place by place
-pub seen_all : (seen : List Seen) (l : List Search) → length seen ≡ 8 → length l ≡ 8
-    → ((j : ℕ) → j < 8 → get_or seen j Broken ≡ seen_in (get_or l j fresh)) → seen ≡ map seen_in l
-seen_all seen l e g h =
-    ext_get_or Broken seen (map seen_in l) (e ∙ sym (length-map l seen_in ∙ g))
-    (λ j b. let c : j < 8 = omega arith in
-    h j c ∙ sym (get_or-map seen_in l j fresh) ∙ any_default (map seen_in l) j (seen_in fresh) Broken (omega (arith, length-map l seen_in)))
-
--- a test that tells whether it is a broken one
-pub broken_test : (x : Seen) (b : Bool) → (b ≡ true → x ≡ Broken) → (b ≡ false → ¬ (x ≡ Broken)) → b ≡ eqb (kind x) 0
-broken_test x true t f = rw (t refl)
-broken_test Broken false t f = absurd (f refl refl)
-broken_test Empty false t f = refl
-broken_test Waiting false t f = refl
-broken_test Finished false t f = refl
-
-every_from : {A : Type 0} (P : A → Type 0) (z : A) (l : List A) → ((i : ℕ) → i < length l → P (get_or l i z)) → Every P l
-every_from P z [] h = tt
-every_from P z (x ∷ l) h = (h 0 (omega arith), every_from P z l (λ i b. h (suc i) (omega arith)))
-
-every_at : (l : List Search) → every_of check l ≡ true → (i : ℕ) → i < length l → check (get_or l i fresh) ≡ true
-unfolding every_of
-every_at [] e i b = absurd (omega arith)
-every_at (s ∷ l) e zero b = (and_both (check s) (every_of check l) e).0
-every_at (s ∷ l) e (suc i) b = every_at l (and_both (check s) (every_of check l) e).1 i (omega arith)
 
 -- two tests that agree on the places find the same
 first-same : (t u : ℕ → Bool) → ((i : ℕ) → 1 ≤ i → i ≤ 8 → t i ≡ u i) → (n l : ℕ) → first_after t n l ≡ first_after u n l
@@ -243,16 +75,12 @@ first-same t u h (suc n) l =
     let r = following_range l in
     rw (h (following l) r.0 r.1, first-same t u h n (following l))
 
--- a place that was found
-pub record Chosen (t : ℕ → Bool) (l k : ℕ) : Type 0 where
-  pub is : first_after t 8 l ≡ k
-  pub low : 1 ≤ k
-  pub high : k ≤ 8
-
-pub chosen : (t : ℕ → Bool) (l k : ℕ) → Some k ≡ place_of (first_after t 8 l) → Chosen t l k
-chosen t l k e =
-    let r = place_some (first_after t 8 l) k e in
-    record { is = r.0; low = r.1; high = omega (arith, r.0, first_range t 8 l) }
+pub not_found : (t : ℕ → Bool) (l : ℕ) → None ≡ place_of (first_after t 8 l) → first_after t 8 l ≡ 0
+not_found t l e = go (first_after t 8 l) (first_range t 8 l) (place_none (first_after t 8 l) e)
+  where
+    go : (k : ℕ) → k ≤ 8 → is_name k ≡ false → k ≡ 0
+    go zero h n = refl
+    go (suc k) h n = absurd (true≢false (sym (rw (le-leb 1 (suc k) (omega arith), le-leb (suc k) 8 h)) ∙ n))
 
 decode-fresh : decode fresh ≡ no_search
 unfolding decode fresh
@@ -261,7 +89,7 @@ decode-fresh = refl
 -- ---- 24
 
 module _ (d : Dispatcher) where
-  pub passes_is : passes d ≡ leb d.last 8 && every_of check d.places
+  pub passes_is : passes d ≡ leb d.last 8 && list_all check d.places
   unfolding check_all
   passes_is = refl
 
@@ -270,26 +98,14 @@ module _ (d : Dispatcher) where
   last-high l = passes_is ∙ rw (lt-leb d.last 8 l)
 
   module _ (seen : List Seen) (s : seen ≡ map seen_in d.places) where
-    broken_is : list_any (λ x. eqb (kind x) 0) seen ≡ not (every_of check d.places)
-    broken_is = ap (λ (l : List Seen). list_any (λ x. eqb (kind x) 0) l) s ∙ some_broken d.places
+    broken_is : any_seen_broken seen ≡ any_broken d.places
+    broken_is = ap any_seen_broken s ∙ any_seen d.places
 
-    pub one_broken : list_any (λ x. eqb (kind x) 0) seen ≡ true → passes d ≡ false
-    one_broken t = passes_is ∙ rw (some (every_of check d.places) (sym broken_is ∙ t)) (nothing (leb d.last 8))
-      where
-        some : (b : Bool) → not b ≡ true → b ≡ false
-        some true e = absurd (false≢true e)
-        some false e = refl
+    pub one_broken : any_seen_broken seen ≡ true → passes d ≡ false
+    one_broken t = passes_is ∙ and_no_right (leb d.last 8) (list_all check d.places) (broken.one_broken d.places (sym broken_is ∙ t))
 
-        nothing : (b : Bool) → b && false ≡ false
-        nothing true = refl
-        nothing false = refl
-
-    pub none_broken : d.last ≤ 8 → list_any (λ x. eqb (kind x) 0) seen ≡ false → passes d ≡ true
-    none_broken l t = passes_is ∙ rw (le-leb d.last 8 l) (all (every_of check d.places) (sym broken_is ∙ t))
-      where
-        all : (b : Bool) → not b ≡ false → b ≡ true
-        all true e = refl
-        all false e = absurd (true≢false e)
+    pub none_broken : d.last ≤ 8 → any_seen_broken seen ≡ false → passes d ≡ true
+    none_broken l t = passes_is ∙ rw (le-leb d.last 8 l) (all_whole d.places (sym broken_is ∙ t))
 
   module _ (e : passes d ≡ false) where
     pub reply_24 : (c : Call) → refuses d 24 ≡ reply d c
@@ -305,18 +121,23 @@ module _ (d : Dispatcher) where
     held_24 i = rw e
 
 module _ (d : Dispatcher) (h : Laid d) (e : passes d ≡ true) where
-  all_pass : every_of check d.places ≡ true
-  all_pass = (and_both (leb d.last 8) (every_of check d.places) (sym (passes_is d) ∙ e)).1
+  parts : (leb d.last 8 ≡ true) × (list_all check d.places ≡ true)
+  parts = and_both (leb d.last 8) (list_all check d.places) (sym (passes_is d) ∙ e)
+
+  pub last_low : d.last ≤ 8
+  last_low = leb-true d.last 8 parts.0
+
+  all_pass : AllPass check d.places
+  all_pass = AllPass-from_list_all check d.places parts.1
 
   place-passes : (i : ℕ) → i < 8 → check (under fresh d.places (suc i)) ≡ true
   unfolding under
-  place-passes i b = every_at d.places all_pass i (omega (arith, h.eight))
+  place-passes i b = all_pass i fresh (omega (arith, h.eight))
 
   places_back : map encode (map decode d.places) ≡ d.places
   places_back =
       every_back (λ s. Again s × (check s ≡ true)) decode encode (λ s g. g.0 g.1) d.places
-      (every_from (λ s. Again s × (check s ≡ true)) fresh d.places
-      (λ i b. (h.again i (omega (arith, h.eight)), every_at d.places all_pass i b)))
+      (recursion_from_All (λ s. Again s × (check s ≡ true)) d.places (λ i z b. (h.again i z b, all_pass i z b)))
 
   state_is : (i : ℕ) → state_at machine held made (state d) i ≡ decode (under fresh d.places i)
   unfolding state_at decode_all
@@ -331,15 +152,15 @@ module _ (d : Dispatcher) (h : Laid d) (e : passes d ≡ true) where
     seen_is zero a b = absurd (omega arith)
     seen_is (suc i) a b =
         ap (λ (l : List Seen). get_or l i Broken) s
-        ∙ any_default (map seen_in d.places) i Broken (seen_in fresh) (omega (arith, length-map d.places seen_in, h.eight))
+        ∙ get_or_default (map seen_in d.places) i Broken (seen_in fresh) (omega (arith, length-map d.places seen_in, h.eight))
         ∙ get_or-map seen_in d.places i fresh
-        ∙ seen_passes (get_or d.places i fresh) (every_at d.places all_pass i (omega (arith, h.eight)))
+        ∙ passing_state (get_or d.places i fresh) (all_pass i fresh (omega (arith, h.eight)))
         ∙ ap seen_of (sym (state_is (suc i)))
 
     held_is : (i : ℕ) → 1 ≤ i → i ≤ 8 → is_held machine held made (state d) i ≡ not (is_at seen Empty i)
     unfolding is_held
     held_is i a b =
-        seen_held (state_at machine held made (state d) i) ∙ ap (λ (x : Seen). not (eqb (kind x) 1)) (sym (seen_is i a b))
+        open_is (state_at machine held made (state d) i) ∙ ap (λ (x : Seen). not (eqb (kind x) 1)) (sym (seen_is i a b))
 
     waits_is : (i : ℕ) → 1 ≤ i → i ≤ 8 → waits machine held made (state d) i ≡ is_at seen Waiting i
     unfolding waits is_held
@@ -360,7 +181,7 @@ module _ (d : Dispatcher) (h : Laid d) (e : passes d ≡ true) where
     next_is = first-same (waits machine held made (state d)) (is_at seen Waiting) waits_is 8 d.last
 
     -- the fault of a place that is one, by what stands there
-    pub fault_by : (i : ℕ) (b : Bool) → i < 8 → is_at seen Empty (suc i) ≡ b → held_fault d (suc i) ≡ cond b 20 0
+    fault_by : (i : ℕ) (b : Bool) → i < 8 → is_at seen Empty (suc i) ≡ b → held_fault d (suc i) ≡ cond b 20 0
     unfolding held_fault place_fault
     fault_by i b l a = rw (e, named i l, held_is (suc i) (omega arith) (omega arith), a) (twice b)
       where
@@ -380,13 +201,9 @@ module _ (d : Dispatcher) (h : Laid d) (e : passes d ≡ true) where
       unfolding under
       fault_0 h = rw n (fault_by i false b (ne_eqb (kind (get_or seen i Broken)) 1 (λ e. h (kind-injective (get_or seen i Broken) Empty e))))
 
-  pub fault_low : (i : ℕ) → i < 1 → held_fault d i ≡ 42
+  pub fault_42 : (i : ℕ) → is_name i ≡ false → held_fault d i ≡ 42
   unfolding held_fault place_fault
-  fault_low i l = rw (e, lt-leb 1 i l)
-
-  pub fault_high : (i : ℕ) → 1 ≤ i → 8 < i → held_fault d i ≡ 42
-  unfolding held_fault place_fault
-  fault_high i l h = rw (e, le-leb 1 i l, lt-leb i 8 h)
+  fault_42 i n = rw (e, n)
 
   fault_is : (i : ℕ) → held_fault d i ≡ place_fault machine held made (state d) i
   unfolding held_fault
@@ -427,7 +244,7 @@ module _ (d : Dispatcher) (h : Laid d) (e : passes d ≡ true) where
   -- what stands at a place, whatever stands past the eight
   element : (i : ℕ) (z : Search) → i < 8 → get_or d.places i z ≡ under fresh d.places (suc i)
   unfolding under
-  element i z b = any_default d.places i z fresh (omega (arith, h.eight))
+  element i z b = get_or_default d.places i z fresh (omega (arith, h.eight))
 
   -- the call of the search at a place: its answer, its record and its list
   module _ (i : ℕ) (b : i < 8) (c : calls.Call) (z : Search) where
@@ -475,10 +292,10 @@ module _ (d : Dispatcher) (h : Laid d) (e : passes d ≡ true) where
     stands : (n p : ℕ) → there.answer ≡ refused n p → set d.places i there.search ≡ d.places
     stands n p r =
         let s = get_or d.places i z in
-        let pass : check s ≡ true = ap check (element i z b) ∙ place-passes i b in
+        let pass = all_pass i z (omega (arith, h.eight)) in
         let same = (refused-leaves (decode s) c n p (sym (answer_is s c pass) ∙ r)).state in
-        let again = subst Again (any_default d.places i fresh z (omega (arith, h.eight))) (h.again i b) pass in
-        ap (λ (t : Search). set d.places i t) (left_is s c pass ∙ ap encode same ∙ again) ∙ set_same d.places i z (omega (arith, h.eight))
+        let again = h.again i z (omega (arith, h.eight)) pass in
+        ap (λ (t : Search). set d.places i t) (left_is s c pass ∙ ap encode same ∙ again) ∙ set-get_or d.places i z
 
   -- ---- turn
 
@@ -502,15 +319,14 @@ module _ (d : Dispatcher) (h : Laid d) (e : passes d ≡ true) where
       sym (goes i b (calls.run (suc p)) z (turn (suc p)) (served (suc i))
       (unfold routed theory.turn_route in rw next) (unfold dispatch_answer theory.turn_answer in rw next))
 
-  -- by the place's own number
-  pub turn_served : (p k : ℕ) (z : Search) → 1 ≤ k → k ≤ 8 → ¬ (p ≡ 0) → next_place machine held made (state d) ≡ k
-      → record { dispatcher = record { last = k; places = set d.places (k - 1) (search.reply (get_or d.places (k - 1) z) (calls.run p)).search }; answer = served k }
+  pub turn_served : (p i : ℕ) (z : Search) → i < 8 → ¬ (p ≡ 0) → next_place machine held made (state d) ≡ suc i
+      → record { dispatcher = record { last = i + 1; places = set d.places i (search.reply (get_or d.places i z) (calls.run p)).search }; answer = served (i + 1) }
       ≡ reply d (turn p)
-  turn_served p zero z low high f next = absurd (omega arith)
-  turn_served p (suc i) z low high f next = rw (less i) (turn_done p i z high f next)
+  turn_served p i z b f next =
+      ap (λ (k : ℕ). with_last k) (omega arith) ∙ turn_done p i z b f next
     where
-      less : (i : ℕ) → suc i - 1 ≡ i
-      less i = omega arith
+      with_last : ℕ → Outcome
+      with_last k = record { dispatcher = record { last = k; places = set d.places i (search.reply (get_or d.places i z) (calls.run p)).search }; answer = served k }
 
   -- ---- add
 
@@ -531,10 +347,10 @@ module _ (d : Dispatcher) (h : Laid d) (e : passes d ≡ true) where
         (to_nowhere (add a) (unfold routed theory.add_route in rw (free, taken, f)))
         (unfold dispatch_answer theory.add_answer in rw (free, taken, f) (ap said (sym (answered i b (calls.opens a) z)))))
 
-    pub add-refused : (n p : ℕ) → refused n p ≡ (search.reply (get_or d.places i z) (calls.opens a)).answer
+    pub add_turned : (n p : ℕ) → refused n p ≡ (search.reply (get_or d.places i z) (calls.opens a)).answer
         → record { dispatcher = record { last = d.last; places = set d.places i (search.reply (get_or d.places i z) (calls.opens a)).search }; answer = said (refused n p) }
         ≡ reply d (add a)
-    add-refused n p r =
+    add_turned n p r =
         (λ j. record { dispatcher = record { last = d.last; places = stands i b (calls.opens a) z n p (sym r) j }; answer = said (r j) })
         ∙ refused_there (ap calls.is_accepted (sym r))
 
@@ -546,25 +362,13 @@ module _ (d : Dispatcher) (h : Laid d) (e : passes d ≡ true) where
         sym (goes i b (calls.opens a) z (add a) (placed (suc i)) (unfold routed theory.add_route in rw (free, taken, f))
         (unfold dispatch_answer theory.add_answer in rw (free, taken, f)))
 
-  module _ (a : Opening) (k : ℕ) (z : Search) (low : 1 ≤ k) (high : k ≤ 8) (free : free_place machine held made (state d) ≡ k) where
-    less : suc (k - 1) ≡ k
-    less = omega arith
-
-    -- a refused opening
-    pub add_turned : (n p : ℕ) → refused n p ≡ (search.reply (get_or d.places (k - 1) z) (calls.opens a)).answer
-        → record { dispatcher = record { last = d.last; places = set d.places (k - 1) (search.reply (get_or d.places (k - 1) z) (calls.opens a)).search }; answer = said (refused n p) }
+    pub add_placed : calls.is_accepted (search.reply (get_or d.places i z) (calls.opens a)).answer ≡ true
+        → record { dispatcher = record { last = d.last; places = set d.places i (search.reply (get_or d.places i z) (calls.opens a)).search }; answer = placed (i + 1) }
         ≡ reply d (add a)
-    add_turned n p r = add-refused a (k - 1) z (omega arith) (free ∙ sym less) n p r
-
-    pub add_placed : calls.is_accepted (search.reply (get_or d.places (k - 1) z) (calls.opens a)).answer ≡ true
-        → record { dispatcher = record { last = d.last; places = set d.places (k - 1) (search.reply (get_or d.places (k - 1) z) (calls.opens a)).search }; answer = placed k }
-        ≡ reply d (add a)
-    add_placed f =
-        (λ j. record {
-          dispatcher = record { last = d.last; places = set d.places (k - 1) (search.reply (get_or d.places (k - 1) z) (calls.opens a)).search };
-          answer = placed (sym less j);
-        })
-        ∙ add_done a (k - 1) z (omega arith) (free ∙ sym less) f
+    add_placed f = ap (λ (k : ℕ). with_place k) (omega arith) ∙ add_done f
+      where
+        with_place : ℕ → Outcome
+        with_place k = record { dispatcher = record { last = d.last; places = set d.places i (search.reply (get_or d.places i z) (calls.opens a)).search }; answer = placed k }
 
   -- ---- at a place
 
@@ -622,24 +426,24 @@ module _ (d : Dispatcher) (h : Laid d) (e : passes d ≡ true) where
 
 -- ---- at a place, by its fault: 24, or one of 42 and 20
 
-module _ (d : Dispatcher) (h : Laid d) (k n : ℕ) (g : n ≡ held_fault d k) (f : ¬ (n ≡ 0)) where
-  by_fault : (P : ℕ → Type 0) → (passes d ≡ false → P 24) → (passes d ≡ true → (m : ℕ) → held_fault d k ≡ suc m → P (suc m)) → P n
+module _ (d : Dispatcher) (h : Laid d) (k : ℕ) (r : Refusal) (g : number r ≡ held_fault d k) where
+  by_fault : (P : ℕ → Type 0) → (passes d ≡ false → P 24) → (passes d ≡ true → (m : ℕ) → held_fault d k ≡ suc m → P (suc m)) → P (number r)
   by_fault P broken at =
       by_cases (passes d)
-      (λ e. by n g f (at e))
+      (λ e. by (number r) g (positive r) (at e))
       (λ e. subst P (sym (g ∙ held_24 d e k)) (broken e))
     where
-      by : (x : ℕ) → x ≡ held_fault d k → ¬ (x ≡ 0) → ((m : ℕ) → held_fault d k ≡ suc m → P (suc m)) → P x
-      by zero q z p = absurd (z refl)
+      by : (x : ℕ) → x ≡ held_fault d k → 1 ≤ x → ((m : ℕ) → held_fault d k ≡ suc m → P (suc m)) → P x
+      by zero q z p = absurd (omega arith)
       by (suc x) q z p = p x (sym q)
 
-  pub tell_refused : refuses d n ≡ reply d (tell_at k)
+  pub tell_refused : refuses d (number r) ≡ reply d (tell_at k)
   tell_refused = by_fault (λ (x : ℕ). refuses d x ≡ reply d (tell_at k)) (λ e. reply_24 d e (tell_at k)) (λ e m q. tell_faulty d h e k m q)
 
-  pub close_refused : refuses d n ≡ reply d (close_at k)
+  pub close_refused : refuses d (number r) ≡ reply d (close_at k)
   close_refused = by_fault (λ (x : ℕ). refuses d x ≡ reply d (close_at k)) (λ e. reply_24 d e (close_at k)) (λ e m q. close_faulty d h e k m q)
 
-  pub show_refused : (l : List ℕ) → (refuses d n ≡ reply d (show_at k l)) × (l ≡ lent d (show_at k l))
+  pub show_refused : (l : List ℕ) → (refuses d (number r) ≡ reply d (show_at k l)) × (l ≡ lent d (show_at k l))
   show_refused l =
       by_fault (λ (x : ℕ). (refuses d x ≡ reply d (show_at k l)) × (l ≡ lent d (show_at k l)))
       (λ e. (reply_24 d e (show_at k l), lent_24 d e k l)) (λ e m q. show_faulty d h e k m q l)

@@ -8,5 +8,4 @@ pub mod Meant
 -- What follows is proved, or says what code knows.
 pub mod Steady
 pub mod Seen
-pub mod Scanning
 pub mod Cases

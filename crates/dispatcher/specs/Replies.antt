@@ -1,11 +1,12 @@
--- WHAT EVERY CONTRACT OF THIS CRATE CITES: what an answer means (`means`), the dispatcher and the answer that a call gives (`reply`), and the lent
+-- WHAT EVERY CONTRACT OF THIS CRATE CITES: what each call's answer means (`add_means` and the like), the dispatcher and the answer that a call gives (`reply`), and the lent
 -- list as it leaves it (`lent`): those of dispatch_theory's dispatcher over document 01's machine, behind 24. Definitions only.
-use Rattle.std.specs.Prelude.{refl, List, ℕ, Result, Ok, Err}
+use Rattle.std.specs.Prelude.{refl, List, ℕ, Option, Some, None, Result, Ok, Err}
 use Rattle.graph.specs.declared.refusals.Refusal.{Refusal}
 use Rattle.graph.specs.Refusals.{number}
 use Rattle.machine.specs.Machine.{Opening}
 use Rattle.machine.specs.Calls as calls
 use Rattle.search.specs.Replies as search
+use Rattle.search.specs.declared.Verdict.{Verdict}
 use Rattle.lent_records.specs.Machine.{Machine}
 use Rattle.lent_records.specs.Records.{Codec, lent_on}
 use Rattle.lent_records.specs.Records as records
@@ -13,8 +14,6 @@ use Rattle.dispatch_theory.specs.Dispatcher.{DispatchCall, Response, placed, ser
 use Rattle.dispatch_theory.specs.Records.{Form, dispatch_codec}
 use Rattle.dispatcher.specs.Searches.{machine, held, made, codec}
 use Rattle.dispatcher.specs.declared.Dispatcher.{Dispatcher}
-use Rattle.dispatcher.specs.declared.Said.{Said}
-use Rattle.dispatcher.specs.declared.Said.TheVariants.{Placed, Served, Idle, OfSearch}
 
 -- add with the arguments of an opening, turn, and tell, show and close at a place
 abbrev pub Call : Type 0
@@ -27,12 +26,22 @@ dispatching = dispatcher machine held made
 -- ---- answers
 
 -- the machine's answer for each of the code's; no refusal of these calls has a place
-abbrev pub means : Result Said Refusal → Response calls.Answer
-means (Err r) = said (calls.refused (number r) 0)
-means (Ok (Placed i)) = placed i
-means (Ok (Served i)) = served i
-means (Ok Idle) = idle
-means (Ok (OfSearch s)) = said (search.means (Ok s))
+abbrev pub add_means : Result ℕ Refusal → Response calls.Answer
+add_means (Err r) = said (calls.refused (number r) 0)
+add_means (Ok i) = placed i
+
+-- the place served, or none
+abbrev pub turn_means : Result (Option ℕ) Refusal → Response calls.Answer
+turn_means (Err r) = said (calls.refused (number r) 0)
+turn_means (Ok None) = idle
+turn_means (Ok (Some i)) = served i
+
+abbrev pub tell_means : Result Verdict Refusal → Response calls.Answer
+tell_means told = said (search.tell_means told)
+
+-- of showing and closing
+abbrev pub means : Result (Unit {0}) Refusal → Response calls.Answer
+means done = said (search.means done)
 
 -- the record: eight search records, and the place last served
 abbrev pub form : Form codec

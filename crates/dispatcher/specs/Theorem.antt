@@ -1,6 +1,6 @@
 -- C-24'S CLAIMS HOLD OF THE CALLS, however their answers are said: dispatch_theory's at document 01's machine and crate search's record, and
 -- demand 3's of the machine. Assumes nothing.
-use Rattle.std.specs.Prelude.{◌≡◌, refl, true, List, [], ◌∷◌, ◌++◌, ℕ, zero, suc, ◌-◌, ◌^◌, ◌≤◌, length}
+use Rattle.std.specs.Prelude.{◌≡◌, refl, true, List, ◌++◌, ℕ, zero, suc, ◌-◌, ◌^◌, ◌≤◌, length}
 use Rattle.std.proofs.Common.{sym, ap, ◌∙◌, subst, arith, le-leb}
 use Rattle.std.proofs.Math.Decide.{dec_le}
 use Rattle.std.proofs.Math.ListN.{get_or-eq_default}
@@ -8,16 +8,18 @@ use Rattle.graph.specs.Network.{network}
 use Rattle.tours.specs.OneNetwork.{OneNetwork}
 use Rattle.machine.specs.Machine.{Opening, State, no_search, searching}
 use Rattle.machine.specs.Calls as calls
-use Rattle.machine.specs.Calls.{Verdict, going_on, none, best, since, history, free_at_start, step}
+use Rattle.machine.specs.Calls.{Verdict, since, history, free_at_start, step}
 use Rattle.machine.proofs.Claim.{machine_agrees, machine_ends}
+use Rattle.machine.proofs.Following.{said_as}
 use Rattle.machine.specs.Claim as claim
-use Rattle.machine.specs.Demand3.{Finished, LeavesFinished, Otherwise}
+use Rattle.machine.specs.Demand3.{Finished, LeavesFinished}
 use Rattle.search.specs.Record.{encode}
 use Rattle.search.specs.Record as search
 use Rattle.lent_records.specs.Places.{under}
-use Rattle.lent_records.specs.Machine.{after, leaves, leaves-append}
+use Rattle.lent_records.specs.Machine.{leaves, leaves-append}
 use Rattle.lent_records.specs.Records.{Interface, record_of, AsTheMachine, replies, Outcome}
 use Rattle.lent_records.specs.Following.{Follows, as_the_machine, replies_follow, reply_is, lent_is}
+use Rattle.search_records.specs.Same.{same-leaves}
 use Rattle.dispatch_theory.specs.Dispatcher as theory
 use Rattle.dispatch_theory.specs.Dispatcher.{tell_at, show_at, turn, fresh, state_at, is_held, place_fault, dispatch_answer, dispatch_lent, routed}
 use Rattle.dispatch_theory.specs.Alone.{alone, size-after}
@@ -29,17 +31,6 @@ use Rattle.dispatcher.specs.Steady.{steady}
 use Rattle.dispatcher.specs.Replies.{Call, dispatching, dispatchers, form, reply, lent}
 use Rattle.dispatcher.specs.Claims.{Unfinished, EightTurns, calls_at, Served, at, SaysAt, Dispatches, calls_said, calls_made}
 use Rattle.dispatcher.specs.declared.Dispatcher.{Dispatcher}
-
--- ---- lists of the machine's calls, as lent_records has them and as crate machine does
-
-same_after : (cs : List calls.Call) (s : State) → after machine s cs ≡ calls.state_after s cs
-unfolding after calls.state_after
-same_after [] s = refl
-same_after (c ∷ cs) s = same_after cs (step s c).state
-
-same-leaves : (cs : List calls.Call) → leaves machine cs ≡ calls.leaves cs
-unfolding leaves calls.leaves
-same-leaves cs = same_after cs no_search
 
 -- ---- a place that holds a finished search
 
@@ -87,7 +78,7 @@ module _ (i : Interface dispatching) (f : Follows i) where
   module _ (xs : List Call) (k : ℕ) where
     -- the state at the place is what its own calls leave
     at_place : state_at machine held made (leaves dispatching xs) k ≡ calls.leaves (calls_at k xs)
-    at_place = alone machine held made xs k ∙ same-leaves (calls_at k xs)
+    at_place = alone machine held made xs k ∙ sym (same-leaves (calls_at k xs))
 
     ends_here : (o : Opening) (total : ℕ) → history (calls_at k xs) ≡ since o total → free_at_start o ≤ 62
         → 2 ^ suc (free_at_start o) - 1 ≤ total → Finished (state_at machine held made (i.holds (record_of i xs)) k)
@@ -117,28 +108,9 @@ module _ (i : Interface dispatching) (f : Follows i) where
           (ap (λ s. (step s (calls.show b)).lent) at_place))
 
       says : (v : Verdict) → claim.Says (calls_at k xs) o v → SaysAt i xs k o v
-      says v x = record {
-        count = x.count;
-        told = tells ∙ ap (λ a. i.said (theory.said a)) x.told;
-        exactly = x.exactly;
-        otherwise = go v x.otherwise;
-      }
-        where
-          go : (w : Verdict)
-              → Otherwise (λ a. a) (λ c. (step (calls.leaves (calls_at k xs)) c).answer)
-              (λ c. (step (calls.leaves (calls_at k xs)) c).lent) o w
-              → Otherwise (λ a. i.said (theory.said a)) (λ c. i.answer (record_of i xs) (at k c)) (λ c. i.list (record_of i xs) (at k c)) o w
-          go going_on y = y
-          go none y = y
-          go (best c) y = record {
-            tour = y.tour;
-            such = y.such;
-            exact = y.exact;
-            least = y.least;
-            first = y.first;
-            accepts = λ b e. shows b ∙ ap (λ a. i.said (theory.said a)) (y.accepts b e);
-            writes = λ b e. writes b ∙ y.writes b e;
-          }
+      says =
+          said_as (λ a. i.said (theory.said a)) (λ c. i.answer (record_of i xs) (at k c)) (λ c. i.list (record_of i xs) (at k c)) (calls_at k xs)
+          tells shows writes o
 
   agree_here : (xs ys : List Call) (j k : ℕ) (o p : Opening) → LeavesFinished (calls_at j xs) o
       → LeavesFinished (calls_at k ys) p → OneNetwork (network o.graph) (network p.graph)

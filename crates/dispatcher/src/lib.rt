@@ -6,42 +6,29 @@ ghost use Rattle.std.specs.Prelude.{◌≡◌};
 ghost use Rattle.dispatch_theory.specs.Dispatcher as Calls;
 ghost use Rattle.lent_records.specs.Records.{replies};
 ghost use Rattle.search.specs.Record.{opening_of};
-ghost use Rattle.dispatcher.specs.Replies.{dispatchers, means, reply, lent};
+ghost use Rattle.dispatcher.specs.Replies.{dispatchers, add_means, turn_means, tell_means, means, reply, lent};
 
 mod survey;
 
 use graph::{Graph, Refusal};
+pub use lent_records::PLACES;
 use machine::Settings;
-use search::Search;
-use survey::{Seen, first_after};
-
-// As specs/Places.antt of crate lent_records has it.
-pub const PLACES: usize = 8;
+use search::{Search, State, Verdict};
+use survey::first_after;
 
 // The dispatcher: the place last served, 1 to 8, or 0 where none was yet; and a search record for each place. docs/RECORD.md states the
 // check that every call makes of all of it. A number and no Option for the place, since C lends the record, all of whose bytes count.
 #[repr(C)]
-#[derive(Clone, Copy)]
+#[derive(Clone, Copy, Debug, PartialEq, Eq)]
 pub struct Dispatcher {
     pub last: usize,
     pub places: [Search; PLACES],
 }
 
-// What a call that is not refused answers: the place of an added search, or the one that a turn served; that a turn found none to serve; or what
-// the search at a place answers.
-#[derive(Clone, Copy, Debug, PartialEq, Eq)]
-pub enum Said {
-    Placed(usize),
-    Served(usize),
-    Idle,
-    OfSearch(search::Said),
-}
-
-pub type Answer = Result<Said, Refusal>;
-
 impl Dispatcher {
     // A dispatcher that holds no search.
     // Ruled out: a place that holds one; a byte that is not zero.
+    #[tactic(auto, unfolding(dispatch_theory::specs::Records::encode_all, dispatch_theory::specs::Dispatcher::fresh, search::specs::Record::encode))]
     pub fn fresh() -> Dispatcher
         ensures { result ≡ (replies dispatchers).fresh }
     {
@@ -52,68 +39,70 @@ impl Dispatcher {
     }
 
     // Ruled out: a ninth search; a place other than the free one with the smallest number; a part of a refused opening in a place.
-    pub fn add(&mut self, g: &Graph, multipliers: &[i32], settings: Settings) -> Answer
-        ensures answer { means result ≡ (reply self.old (Calls.add (opening_of g.now multipliers.now settings))).answer }
+    pub fn add(
+        &mut self,
+        g: &Graph,
+        multipliers: &[i32],
+        settings: Settings,
+    ) -> Result<usize, Refusal>
+        ensures answer { add_means result ≡ (reply self.old (Calls.add (opening_of g.now multipliers.now settings))).answer }
         ensures left { self.new ≡ (reply self.old (Calls.add (opening_of g.now multipliers.now settings))).dispatcher }
     {
         let seen = self.survey()?;
-        let Some(k) = first_after(&seen, 0, Seen::Empty) else {
+        let Some(at) = first_after(&seen, 0, State::Empty) else {
             return Err(Refusal::Full);
         };
-        self.places[k - 1].open(g, multipliers, settings)?;
-        Ok(Said::Placed(k))
+        self.places[at].open(g, multipliers, settings)?;
+        Ok(at + 1)
     }
 
     // Ruled out: a turn for a finished search, or for one that stands behind another unfinished one; more nodes than p; an idle turn that forgets
     // the place last served; a place named that was not served.
-    pub fn turn(&mut self, p: u64) -> Answer
-        ensures answer { means result ≡ (reply self.old (Calls.turn p)).answer }
+    pub fn turn(&mut self, p: u64) -> Result<Option<usize>, Refusal>
+        ensures answer { turn_means result ≡ (reply self.old (Calls.turn p)).answer }
         ensures left { self.new ≡ (reply self.old (Calls.turn p)).dispatcher }
     {
         let seen = self.survey()?;
         if p == 0 {
             return Err(Refusal::NoNodes);
         }
-        let Some(k) = first_after(&seen, self.last, Seen::Waiting) else {
-            return Ok(Said::Idle);
+        let Some(at) = first_after(&seen, self.last, State::Waiting) else {
+            return Ok(None);
         };
         // the turn answers the place alone
-        let _ran = self.places[k - 1].run(p);
-        self.last = k;
-        Ok(Said::Served(k))
+        let _ran = self.places[at].run(p);
+        self.last = at + 1;
+        Ok(Some(self.last))
     }
 
     // Telling at a place.
     // Ruled out: the verdict of another place; a place that holds nothing told as going on.
-    pub fn tell(&self, place: usize) -> Answer
-        ensures answer { means result ≡ (reply self.now (Calls.tell_at place)).answer }
+    pub fn tell(&self, place: usize) -> Result<Verdict, Refusal>
+        ensures answer { tell_means result ≡ (reply self.now (Calls.tell_at place)).answer }
         ensures left { self.now ≡ (reply self.now (Calls.tell_at place)).dispatcher }
     {
         let at = self.holding(place)?;
-        let told = self.places[at].tell()?;
-        Ok(Said::OfSearch(told))
+        self.places[at].tell()
     }
 
     // Showing at a place.
     // Ruled out: the tour of another place; a refusal with a byte of `out` changed.
-    pub fn show(&self, place: usize, out: &mut [u8]) -> Answer
+    pub fn show(&self, place: usize, out: &mut [u8]) -> Result<(), Refusal>
         ensures answer { means result ≡ (reply self.now (Calls.show_at place out.old)).answer }
         ensures left { self.now ≡ (reply self.now (Calls.show_at place out.old)).dispatcher }
         ensures list { out.new ≡ lent self.now (Calls.show_at place out.old) }
     {
         let at = self.holding(place)?;
-        let shown = self.places[at].show(out)?;
-        Ok(Said::OfSearch(shown))
+        self.places[at].show(out)
     }
 
     // Closing at a place.
     // Ruled out: a byte of the search left in the place; another place, or the place last served, changed.
-    pub fn close(&mut self, place: usize) -> Answer
+    pub fn close(&mut self, place: usize) -> Result<(), Refusal>
         ensures answer { means result ≡ (reply self.old (Calls.close_at place)).answer }
         ensures left { self.new ≡ (reply self.old (Calls.close_at place)).dispatcher }
     {
         let at = self.holding(place)?;
-        let closed = self.places[at].close()?;
-        Ok(Said::OfSearch(closed))
+        self.places[at].close()
     }
 }

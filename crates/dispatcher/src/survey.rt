@@ -1,81 +1,68 @@
 // What the dispatcher sees of its places, and the choice of one.
-ghost use Rattle.std.specs.Prelude.{◌≡◌};
-ghost use Rattle.dispatch_theory.specs.Dispatcher.{following, first_after};
-ghost use Rattle.dispatcher.specs.Seen.{seen_in, is_at, place_of, Again, Laid, Surveys, Holds};
+ghost use Rattle.std.specs.Prelude.{◌≡◌, ◌≤◌, ◌<◌, map, IfSome};
+ghost use Rattle.graph.specs.Refusals.{number};
+ghost use Rattle.search.specs.Seen.{state_in};
+ghost use Rattle.lent_records.specs.Places.{place_of, AtPlace};
+ghost use Rattle.dispatch_theory.specs.Dispatcher.{first_after};
+ghost use Rattle.dispatcher.specs.Seen.{is_at, any_seen_broken, Laid, Surveys, held_fault};
 
-use crate::{Dispatcher, PLACES};
+use crate::Dispatcher;
 use graph::Refusal;
-use search::{Said, Search};
+use lent_records::{PLACES, place_of};
+use search::State;
+use std::array;
 
-// What a place is seen to hold: a record that fails its own check; no search; one that is unfinished; one that is finished.
-#[derive(Clone, Copy, Debug, PartialEq, Eq)]
-pub(crate) enum Seen {
-    Broken,
-    Empty,
-    Waiting,
-    Finished,
+// Where the first place after `last`, in cyclic order, stands that is seen to hold what is wanted, counted from 0.
+pub(crate) fn first_after(seen: &[State; PLACES], last: usize, wanted: State) -> Option<usize>
+    requires { last ≤ 8 }
+    ensures found { result ≡ place_of (first_after (is_at seen.now wanted) 8 last) }
+    ensures within { IfSome result (λ at. at < 8) }
+{
+    let (before, after) = seen.split_at(last);
+    after
+        .iter()
+        .chain(before)
+        .position(|x| *x == wanted)
+        .map(|k| (last + k) % PLACES)
 }
 
-// By what telling it answers.
-fn seen_in(s: &Search) -> Seen
-    ensures { (result ≡ seen_in s.now) × Again s.now }
+fn any_broken(seen: &[State; PLACES]) -> bool
+    ensures { result ≡ any_seen_broken seen.now }
 {
-    match s.tell() {
-        Err(Refusal::Record) => Seen::Broken,
-        Err(_) => Seen::Empty,
-        Ok(Said::Searching(_)) => Seen::Waiting,
-        Ok(_) => Seen::Finished,
-    }
-}
-
-// The place after another, in cyclic order.
-fn following(last: usize) -> usize
-    ensures { result ≡ following last }
-{
-    if last < PLACES { last + 1 } else { 1 }
-}
-
-// The first place after `last`, in cyclic order, that is seen to hold what is wanted.
-pub(crate) fn first_after(seen: &[Seen; PLACES], last: usize, wanted: Seen) -> Option<usize>
-    ensures { result ≡ place_of (first_after (is_at seen.now wanted) 8 last) }
-{
-    let mut at = last;
-    for _ in 0..PLACES {
-        at = following(at);
-        if seen[at - 1] == wanted {
-            return Some(at);
-        }
-    }
-    None
+    seen.iter().any(|x| *x == State::Broken)
 }
 
 impl Dispatcher {
+    fn states(&self) -> [State; PLACES]
+        ensures laid { Laid self.now }
+        ensures seen { result ≡ map state_in self.now.places }
+    {
+        array::from_fn(|k| self.places[k].state())
+    }
+
     // Every place, if each is such as its own check accepts, and the last served one of them, or 0.
-    pub(crate) fn survey(&self) -> Result<[Seen; PLACES], Refusal>
+    pub(crate) fn survey(&self) -> Result<[State; PLACES], Refusal>
         ensures laid { Laid self.now }
         ensures seen { Surveys self.now result }
     {
-        let mut seen = [Seen::Broken; PLACES];
-        for (k, s) in self.places.iter().enumerate() {
-            seen[k] = seen_in(s);
-        }
-        if self.last > PLACES || seen.iter().any(|x| *x == Seen::Broken) {
+        let seen = self.states();
+        if self.last > PLACES || any_broken(&seen) {
             return Err(Refusal::Record);
         }
         Ok(seen)
     }
 
-    // Where the search at a place to tell, show or close stands.
+    // Where the search at a place to tell, show or close stands. Each of these is this test and the search's own call: a closure around two
+    // lines would be no plainer, and close changes what the others read.
     pub(crate) fn holding(&self, place: usize) -> Result<usize, Refusal>
         ensures laid { Laid self.now }
-        ensures held { Holds self.now place result }
+        ensures held { AtPlace number (held_fault self.now place) place result }
     {
         let seen = self.survey()?;
-        if place < 1 || place > PLACES {
+        let Some(at) = place_of(place) else {
             return Err(Refusal::Place);
-        }
-        let at = place - 1;
-        if seen[at] == Seen::Empty {
+        };
+        if seen[at] == State::Empty {
             return Err(Refusal::NotOpen);
         }
         Ok(at)

@@ -7,3 +7,5 @@ pub mod Demand3
 -- It holds.
 pub mod Theorem
 pub mod CompareAtOne
+-- What code knows.
+pub mod Outcomes

@@ -7,23 +7,39 @@ ghost use Rattle.search.specs.Record.{opening_of};
 ghost use Rattle.dispatcher.specs.Replies.{dispatchers};
 ghost use Rattle.ffi.specs.Dispatches.{Leaves, LeavesList};
 
-use crate::{IDLE, Reply};
-use dispatcher::{Dispatcher, Said};
+use crate::{Outcome, Reply};
+use dispatcher::Dispatcher;
 use graph::Graph;
 use machine::Settings;
 
-impl From<Said> for Reply {
+// The place that was added.
+impl From<usize> for Reply {
     ghost use Rattle.std.specs.Prelude.{◌≡◌, Ok};
-    ghost use Rattle.dispatcher.specs.Replies.{means};
+    ghost use Rattle.dispatcher.specs.Replies.{add_means};
     ghost use Rattle.ffi.specs.Dispatches.{said_at};
 
-    ghost from_gives = { λ answer said. said ≡ said_at (means (Ok answer)) };
+    ghost from_gives = { λ place said. said ≡ said_at (add_means (Ok place)) };
 
-    fn from(answer: Said) -> Reply {
-        match answer {
-            Said::Placed(k) | Said::Served(k) => Reply::plain(0, k as u64),
-            Said::Idle => Reply::plain(IDLE, 0),
-            Said::OfSearch(told) => Reply::from(told),
+    fn from(place: usize) -> Reply {
+        Reply {
+            place: place as u64,
+            ..Reply::default()
+        }
+    }
+}
+
+// The place that a turn served, if it served one.
+impl From<Option<usize>> for Reply {
+    ghost use Rattle.std.specs.Prelude.{◌≡◌, Ok};
+    ghost use Rattle.dispatcher.specs.Replies.{turn_means};
+    ghost use Rattle.ffi.specs.Dispatches.{said_at};
+
+    ghost from_gives = { λ served said. said ≡ said_at (turn_means (Ok served)) };
+
+    fn from(served: Option<usize>) -> Reply {
+        match served {
+            Some(place) => place.into(),
+            None => Outcome::Idle.into(),
         }
     }
 }

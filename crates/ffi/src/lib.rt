@@ -1,11 +1,12 @@
-// The calls for C, C++, Rust and Python. A graph goes in by value, a record or a graph to be filled is lent, and each call answers with the
-// same four numbers: document 01's number, 0 where the call is accepted, and the place, the value and the count of nodes, 0 where the answer
-// has none.
+// The calls for C, C++, Rust and Python, as include/planner.h has them: a graph goes in by value, a record or a graph to be filled is lent, and each
+// call but planner_simulate answers with the same four numbers: document 01's number, 0 where the call is accepted, and the place, the value and the
+// count of nodes, 0 where the answer has none.
 #![tactic(auto)]
 
 ghost use Rattle.std.specs.Prelude.{◌≡◌, length};
 ghost use Rattle.charts.specs.Chart.{reading, write_outcome, write_leaves};
-ghost use Rattle.ffi.specs.Answers.{plain, said_outcome, check_outcome, Fills};
+ghost use Rattle.ffi.specs.Answers.{counted, said_outcome, check_outcome, Fills};
+ghost use Rattle.ffi.specs.Outcomes.{number_of};
 
 mod dispatches;
 mod logs;
@@ -16,22 +17,29 @@ mod trees;
 
 use graph::{Graph, Refusal, Refused};
 
-// What a call answers beside document 01's numbers; no refusal has one of these. First 'no tree' and 'dead'.
-pub(crate) const NONE: u32 = 1000;
+// What a call answers beside document 01's numbers; no refusal has one of these.
+#[derive(Clone, Copy)]
+pub(crate) enum Outcome {
+    // 'no tree' and 'dead'
+    Nothing = 1000,
+    GoingOn = 1001,
+    Finished = 1002,
+    // 'None': no tour is within the ceiling.
+    NoTour = 1003,
+    Best = 1004,
+    // A turn that found no unfinished search.
+    Idle = 1005,
+}
 
-pub(crate) const GOING_ON: u32 = 1001;
+impl From<Outcome> for u32 {
+    ghost from_gives = { λ outcome n. n ≡ number_of outcome };
 
-pub(crate) const FINISHED: u32 = 1002;
+    fn from(outcome: Outcome) -> u32 {
+        outcome as u32
+    }
+}
 
-// 'None': no tour is within the ceiling.
-pub(crate) const NO_TOUR: u32 = 1003;
-
-pub(crate) const BEST: u32 = 1004;
-
-// A turn that found no unfinished search.
-pub(crate) const IDLE: u32 = 1005;
-
-// What a call answers.
+// What a call answers. C has no Option and no enum with values, so all four fields are always there, and 0 stands for none.
 #[repr(C)]
 #[derive(Clone, Copy, Debug, PartialEq, Eq, Default)]
 pub struct Reply {
@@ -42,13 +50,14 @@ pub struct Reply {
 }
 
 impl Reply {
-    // A number and a place alone.
-    fn plain(number: u32, place: u64) -> Reply
-        ensures { result ≡ plain number place }
+    // An outcome with a value and a count of nodes.
+    fn counted(outcome: Outcome, value: i64, nodes: u64) -> Reply
+        ensures { result ≡ counted (number_of outcome) value nodes }
     {
         Reply {
-            number,
-            place,
+            number: outcome.into(),
+            value,
+            nodes,
             ..Reply::default()
         }
     }
@@ -61,7 +70,34 @@ impl From<()> for Reply {
     ghost from_gives = { λ _ said. said ≡ plain 0 0 };
 
     fn from(_done: ()) -> Reply {
-        Reply::plain(0, 0)
+        Reply::default()
+    }
+}
+
+impl From<Outcome> for Reply {
+    ghost use Rattle.ffi.specs.Answers.{plain};
+    ghost use Rattle.ffi.specs.Outcomes.{number_of};
+
+    ghost from_gives = { λ outcome said. said ≡ plain (number_of outcome) 0 };
+
+    fn from(outcome: Outcome) -> Reply {
+        Reply::counted(outcome, 0, 0)
+    }
+}
+
+impl From<Refused> for Reply {
+    ghost use Rattle.std.specs.Option.{unwrap_or};
+    ghost use Rattle.graph.specs.Refusals.{number};
+    ghost use Rattle.ffi.specs.Answers.{plain};
+
+    ghost from_gives = { λ refused said. said ≡ plain (number refused.refusal) (unwrap_or refused.place 0) };
+
+    fn from(refused: Refused) -> Reply {
+        Reply {
+            number: refused.refusal.into(),
+            place: refused.place.unwrap_or(0),
+            ..Reply::default()
+        }
     }
 }
 
@@ -72,18 +108,7 @@ impl From<Refusal> for Reply {
     ghost from_gives = { λ refusal said. said ≡ plain (number refusal) 0 };
 
     fn from(refusal: Refusal) -> Reply {
-        Reply::plain(refusal.number(), 0)
-    }
-}
-
-impl From<Refused> for Reply {
-    ghost use Rattle.graph.specs.Refusals.{number};
-    ghost use Rattle.ffi.specs.Answers.{plain};
-
-    ghost from_gives = { λ refused said. said ≡ plain (number refused.refusal) refused.place };
-
-    fn from(refused: Refused) -> Reply {
-        Reply::plain(refused.refusal.number(), refused.place)
+        Refused::from(refusal).into()
     }
 }
 
@@ -106,11 +131,7 @@ impl<T: Into<Reply>, E: Into<Reply>> From<Result<T, E>> for Reply {
 pub extern "C" fn planner_check(g: Graph) -> Reply
     ensures { result ≡ said_outcome (check_outcome g) }
 {
-    if g.check() {
-        Reply::from(())
-    } else {
-        Reply::from(Refusal::Graph)
-    }
+    Reply::from(g.fault())
 }
 
 // Ruled out: a graph changed by a refusal; a place left out.

@@ -4,42 +4,38 @@ ghost use Rattle.machine.specs.Calls as Calls;
 ghost use Rattle.search.specs.Record.{opening_of, fresh};
 ghost use Rattle.ffi.specs.Searches.{Leaves, LeavesList};
 
-use crate::{BEST, FINISHED, GOING_ON, NO_TOUR, Reply};
+use crate::{Outcome, Reply};
 use graph::Graph;
 use machine::Settings;
-use search::{Said, Search};
+use search::{Progress, Search, Verdict};
 
-impl From<Said> for Reply {
+impl From<Progress> for Reply {
     ghost use Rattle.std.specs.Prelude.{◌≡◌, Ok};
-    ghost use Rattle.search.specs.Replies.{means};
+    ghost use Rattle.search.specs.Replies.{run_means};
     ghost use Rattle.ffi.specs.Answers.{said_of};
 
-    ghost from_gives = { λ answer said. said ≡ said_of (means (Ok answer)) };
+    ghost from_gives = { λ progress said. said ≡ said_of (run_means (Ok progress)) };
 
-    fn from(answer: Said) -> Reply {
-        match answer {
-            Said::Accepted => Reply::default(),
-            Said::GoingOn(nodes) | Said::Searching(nodes) => Reply {
-                number: GOING_ON,
-                nodes,
-                ..Reply::default()
-            },
-            Said::Finished(nodes) => Reply {
-                number: FINISHED,
-                nodes,
-                ..Reply::default()
-            },
-            Said::NoTour(nodes) => Reply {
-                number: NO_TOUR,
-                nodes,
-                ..Reply::default()
-            },
-            Said::Best(value, nodes) => Reply {
-                number: BEST,
-                value,
-                nodes,
-                ..Reply::default()
-            },
+    fn from(progress: Progress) -> Reply {
+        match progress {
+            Progress::GoingOn(count) => Reply::counted(Outcome::GoingOn, 0, count),
+            Progress::Finished(count) => Reply::counted(Outcome::Finished, 0, count),
+        }
+    }
+}
+
+impl From<Verdict> for Reply {
+    ghost use Rattle.std.specs.Prelude.{◌≡◌, Ok};
+    ghost use Rattle.search.specs.Replies.{tell_means};
+    ghost use Rattle.ffi.specs.Answers.{said_of};
+
+    ghost from_gives = { λ verdict said. said ≡ said_of (tell_means (Ok verdict)) };
+
+    fn from(verdict: Verdict) -> Reply {
+        match verdict {
+            Verdict::Searching(count) => Reply::counted(Outcome::GoingOn, 0, count),
+            Verdict::NoTour(count) => Reply::counted(Outcome::NoTour, 0, count),
+            Verdict::Best { cost, count } => Reply::counted(Outcome::Best, cost, count),
         }
     }
 }

@@ -8,7 +8,8 @@ use crate::Reply;
 use compare::Terms;
 use graph::{Graph, Refusal};
 
-// What a simulation answers: 0, the total and the last state; or a refusal's number and place, and 0 for the others.
+// What a simulation answers: 0, the total and the last state; or a refusal's number and place, and 0 for the others, in C's form as Reply is. No
+// refusal of this call has a place.
 #[repr(C)]
 #[derive(Clone, Copy, Debug, PartialEq, Eq, Default)]
 pub struct Sailed {
@@ -34,7 +35,7 @@ impl From<Result<simulation::Sailed, Refusal>> for Sailed {
                 ..Sailed::default()
             },
             Err(refusal) => Sailed {
-                number: refusal.number(),
+                number: refusal.into(),
                 ..Sailed::default()
             },
         }

@@ -5,7 +5,7 @@ ghost use Rattle.onetree.specs.Answers.{tree_reply, tree_leaves, rule_reply, rul
 ghost use Rattle.preview.specs.Preview.{preview_reply, preview_leaves};
 ghost use Rattle.ffi.specs.Answers.{said_reply};
 
-use crate::{NONE, Reply};
+use crate::{Outcome, Reply};
 use graph::Graph;
 
 impl From<Option<i64>> for Reply {
@@ -20,7 +20,7 @@ impl From<Option<i64>> for Reply {
                 value,
                 ..Reply::default()
             },
-            None => Reply::plain(NONE, 0),
+            None => Outcome::Nothing.into(),
         }
     }
 }

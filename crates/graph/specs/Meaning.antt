@@ -6,7 +6,9 @@ use Rattle.lists.specs.Bools.{by_cases, and_both, or_none}
 use Rattle.integers.specs.Range.{within}
 use Rattle.graph.specs.declared.Graph.{Graph}
 use Rattle.graph.specs.Limits.{min_vertices, max_vertices, max_edges, max_cost, max_mark}
-use Rattle.graph.specs.Valid.{EdgeValid, EdgeAt, SamePair, Valid, ends_ok, edge_ok, pair_met, edges_ok, valid}
+use Rattle.graph.specs.declared.refusals.Refusal.{Refusal}
+use Rattle.graph.specs.Refusals.{number, positive}
+use Rattle.graph.specs.Valid.{EdgeValid, EdgeAt, SamePair, Valid, ends_ok, edge_ok, pair_met, edges_ok, valid, graph_fault}
 
 -- ---- one edge
 
@@ -140,3 +142,12 @@ true_valid g v =
 
 pub not_valid : (g : Graph) → (Valid g → ⊥) → valid g ≡ false
 not_valid g h = by_cases (valid g) (λ e. absurd (h (valid_true g e))) (λ e. e)
+
+-- a graph that is not refused is valid
+pub graph_fine : (g : Graph) → graph_fault g ≡ 0 → Valid g
+graph_fine g h = by_cases (valid g) (valid_true g) (λ e. absurd (let z : 15 ≡ 0 = (rw e at h) in omega arith))
+
+-- and one that is refused is not, and has the number 15
+pub graph_refused : (g : Graph) (r : Refusal) → number r ≡ graph_fault g → (valid g ≡ false) × (number r ≡ 15)
+graph_refused g r h =
+    by_cases (valid g) (λ e. absurd (let z : number r ≡ 0 = (rw e at h) in omega (arith, positive r))) (λ e. (e, rw e at h))

@@ -81,6 +81,10 @@ positive refusal.NoNodes = omega arith
 positive refusal.Full = omega arith
 positive refusal.Place = omega arith
 
+-- so what `?` hands on is a fault
+pub not-zero : (r : Refusal) → number r ≡ 0 → ⊥
+not-zero r z = omega (arith, positive r, z)
+
 -- and no two have one number: the refusal of a number
 refusal_of : ℕ → Refusal
 refusal_of n =

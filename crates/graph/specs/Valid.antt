@@ -1,6 +1,6 @@
 -- Document 01's 'Legs and marks': as plain statements, `Valid`, and as a test that computes, `valid`. Meaning.antt shows that they are one.
 -- Edge k of the document stands at place k − 1. Definitions only.
-use Rattle.std.specs.Prelude.{ℕ, zero, suc, ◌<◌, ◌≤◌, ◌≡◌, Bool, true, false, not, ◌&&◌, ◌||◌, List, get_or, ltb, leb, eqb, ℤ, pos}
+use Rattle.std.specs.Prelude.{ℕ, zero, suc, ◌<◌, ◌≤◌, ◌≡◌, Bool, true, false, not, cond, ◌&&◌, ◌||◌, List, get_or, ltb, leb, eqb, ℤ, pos}
 use Rattle.integers.specs.Range.{within}
 use Rattle.graph.specs.declared.Graph.{Graph}
 use Rattle.graph.specs.Limits.{min_vertices, max_vertices, max_edges, max_cost, max_mark}
@@ -62,3 +62,7 @@ edges_ok g (suc k) =
 
 unfoldable pub valid : Graph → Bool
 valid g = leb min_vertices g.n && (leb g.n max_vertices && (leb g.m max_edges && edges_ok g g.m))
+
+-- "15 a chart value that breaks 'Legs and marks'"
+abbrev pub graph_fault : Graph → ℕ
+graph_fault g = cond (not (valid g)) 15 0

@@ -15,6 +15,9 @@ pub const MIN_VERTICES: usize = 3;
 
 pub const MAX_VERTICES: usize = 20;
 
+// A place for each vertex, and place 0 for none.
+pub const VERTEX_PLACES: usize = MAX_VERTICES + 1;
+
 pub const MAX_EDGES: usize = 190;
 
 pub const MAX_COST: i32 = 100_000_000;
@@ -26,8 +29,9 @@ pub const REQUIRED: u8 = 1;
 
 pub const EXCLUDED: u8 = 2;
 
-// A graph by value, with any contents: vertices 1 to n, edges 1 to m. Edge k stands at place k - 1 of the arrays and joins a and b;
-// what stands past m counts for nothing. The fields stand widest first, so that no byte lies between them.
+// A graph, with any contents: vertices 1 to n, edges 1 to m. Edge k stands at place k - 1 of the arrays and joins a and b;
+// what stands past m counts for nothing. The fields stand widest first, so that no byte lies between them. Arrays and a count, and none of edges, since
+// C lays a graph out so.
 #[repr(C)]
 #[derive(Clone, Copy, Debug, PartialEq, Eq)]
 pub struct Graph {
@@ -42,6 +46,7 @@ pub struct Graph {
 impl Graph {
     // n vertices and no edges, zero at every place.
     // Ruled out: one with a vertex more or less; one with an edge or a mark left past m.
+    #[tactic(auto, unfolding(crate::specs::Edgeless::edgeless))]
     pub fn edgeless(n: u8) -> Graph
         ensures { result ≡ edgeless n }
     {

@@ -1,5 +1,5 @@
 // Why a call is refused: the documents' refusals, with their numbers.
-ghost use Rattle.std.specs.Prelude.{◌≡◌};
+ghost use Rattle.std.specs.Prelude.{◌≡◌, None};
 ghost use Rattle.graph.specs.Refusals.{number};
 
 // The order of the numbers is not that in which a call tests: each call's own definition says which comes first.
@@ -43,27 +43,30 @@ pub enum Refusal {
     Place = 42,
 }
 
-// A refusal with the place that it is about: a record of a file or an entry of a log, from 1, or 0.
+// The documents' number. Ruled out: another refusal's; one counted from 0.
+impl From<Refusal> for u32 {
+    ghost from_gives = { λ refusal n. n ≡ number refusal };
+
+    fn from(refusal: Refusal) -> u32 {
+        refusal as u32
+    }
+}
+
+// A refusal with the place that it is about, if there is one: a record of a file or an entry of a log, from 1.
 #[derive(Clone, Copy, Debug, PartialEq, Eq)]
 pub struct Refused {
     pub refusal: Refusal,
-    pub place: u64,
+    pub place: Option<u64>,
 }
 
 // Without a place.
 impl From<Refusal> for Refused {
-    ghost from_gives = { λ refusal refused. refused ≡ record { refusal = refusal; place = 0 } };
+    ghost from_gives = { λ refusal refused. refused ≡ record { refusal = refusal; place = None } };
 
     fn from(refusal: Refusal) -> Refused {
-        Refused { refusal, place: 0 }
-    }
-}
-
-impl Refusal {
-    // The documents' number. Ruled out: another refusal's; one counted from 0.
-    pub fn number(self) -> u32
-        ensures { result ≡ number self }
-    {
-        self as u32
+        Refused {
+            refusal,
+            place: None,
+        }
     }
 }

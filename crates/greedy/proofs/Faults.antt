@@ -1,13 +1,9 @@
 -- The faults of a call's input one after the other: what is left to test counts where those before it are none.
-use Rattle.std.specs.Prelude.{◌≡◌, refl, Bool, true, false, not, cond, ◌&&◌, List, ℕ, zero, suc, ◌≤◌, eqb, length, ℤ}
+use Rattle.std.specs.Prelude.{◌≡◌, refl, Bool, true, false, not, cond, ◌&&◌, List, ℕ, ◌≤◌, eqb, length, ℤ}
 use Rattle.std.proofs.Common.{sym, arith}
 use Rattle.graph.specs.declared.Graph.{Graph}
 use Rattle.graph.specs.Valid.{valid}
-use Rattle.tree_theory.specs.Inputs.{multipliers_fit, or_else, input_fault}
-
-pub or_else_first : (f next : ℕ) → 1 ≤ f → or_else f next ≡ f
-or_else_first zero next h = absurd (omega arith)
-or_else_first (suc f) next h = refl
+use Rattle.tree_theory.specs.Inputs.{multipliers_fit, input_fault}
 
 first_of : (v l m : Bool) (left n : ℕ) → n ≡ cond (not v) 15 (cond (not l) 11 (cond (not m) 12 0)) → 1 ≤ n
     → n ≡ cond (not v) 15 (cond (not l) 11 (cond (not m) 12 left))

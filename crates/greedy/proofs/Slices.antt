@@ -3,11 +3,17 @@ use Rattle.std.specs.Prelude.{◌≡◌, List, ℕ, ◌+◌, ◌-◌, ◌%◌, �
 use Rattle.std.proofs.Common.{◌∙◌, ap, arith, length-drop}
 use Rattle.std.proofs.lemmas.List.{get_or-take, get_or-drop, length-take-le}
 use Rattle.graph.specs.declared.Graph.{Graph}
-use Rattle.greedy.specs.Keys.{far_keys, near_at, far_at, keyed_small, SamePlaces, queued, queued-same}
+use Rattle.lists.specs.Sorting.{Ascending}
+use Rattle.greedy.specs.declared.charges.ChargedGraph.{ChargedGraph}
+use Rattle.greedy.specs.Keys.{AllKeyed, far_keys, near_at, far_at, keyed_small, SamePlaces, queued, queued-same}
 use Rattle.greedy.specs.Parting.{Reached, unraised, raised_at, same-places, near_keyed, near_ascends, far_keyed, far_ascends}
 use Rattle.greedy.specs.Queue.{InKeyOrder}
 use Rattle.greedy.specs.Required.{Small, far-small}
 use Rattle.greedy.specs.Chosen.{KeysOf}
+
+pub keys_of : (x : ChargedGraph) (ks : List ℕ) → AllKeyed x.graph.now x.charges.now ks (length ks) → Ascending (length ks) ks
+    → KeysOf x.graph.now x.charges.now ks
+keys_of x ks k a = record { valid = x.valid; low = x.low; cheap = x.cheap; keyed = k; ascending = a }
 
 -- the front of a list
 pub taken-places : (n : ℕ) (xs : List ℕ) → SamePlaces (take n xs) xs n

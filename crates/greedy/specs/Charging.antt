@@ -92,6 +92,10 @@ raised-more d k x s h r l = rw add-one (omega (arith, add_parts (get_or d k (pos
 
 -- ---- the bound
 
+-- b is the bound that a sum of charges stands for, of a tree on n vertices
+abbrev pub BoundOf : ℕ → List ℤ → ℕ → ℤ → Type 0
+BoundOf n d sum b = (t : ℕ) × Raised d n t × IsDiff b sum (2 * t + (max_scaled + 1) * n)
+
 pub bound_is : (q : ℕ) (g : Graph) → value.Valid g → (d : List ℤ) (c w : List ℕ) (b : ℤ) (sum t : ℕ) → Charged q g d c
     → OneTree (scaled_by q (network g)) (bytes w)
     → sum ≡ weight (entry c) (select (bytes w) (up_to g.m)) → Raised d g.n t

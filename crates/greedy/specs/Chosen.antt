@@ -1,6 +1,5 @@
 -- What the choice among all edges starts from and what it comes to, as code has it. Assumes nothing.
-use Rattle.std.specs.Prelude.{◌≡◌, List, ℕ, ◌<◌, ◌≤◌, ◌*◌, length, get_or, ℤ}
-use Rattle.lists.specs.Bools.{Says}
+use Rattle.std.specs.Prelude.{◌≡◌, List, ℕ, ◌<◌, ◌≤◌, ◌*◌, length, get_or, ℤ, Option, None, Some}
 use Rattle.lists.specs.Sorting.{Ascending}
 use Rattle.graph.specs.declared.Graph.{Graph}
 use Rattle.graph.specs.Limits.{max_edges}
@@ -23,14 +22,17 @@ pub record KeysOf (g : Graph) (c ks : List ℕ) : Type 0 where
   pub keyed : AllKeyed g c ks (length ks)
   pub ascending : Ascending (length ks) ks
 
+-- the sum of a choice that is a 1-tree, and none where it is not
+abbrev pub SumOf : (g : Graph) → Choice g → Option ℕ → Type 0
+SumOf g made None = ¬ Whole g made
+SumOf g made (Some sum) = Whole g made × (made.sum ≡ sum) × (sum ≤ max_charge * max_edges)
+
 -- the choice is that of Kruskal.antt
 pub record ChosenIs (g : Graph) (c tree labels : List ℕ) (r : Chosen) : Type 0 where
   pub made : Choice g
   pub charges_are : made.charges ≡ c
   pub tree_is : made.tree ≡ tree
-  pub sum_is : made.sum ≡ r.sum
-  pub whole : Says r.whole (Whole g made)
-  pub light : r.sum ≤ max_charge * max_edges
+  pub sum : SumOf g made r.sum
   pub long : length tree ≡ max_edges
   pub merges : Merges g labels
   pub looked : (den : ℕ) (d : List ℤ) → Charged den g d c → Looked (scaled_by den (network g)) (multiplier d) r.looked

@@ -15,7 +15,7 @@ use Rattle.graph.specs.Limits.{max_edges}
 use Rattle.graph.specs.Network.{network}
 use Rattle.graph.specs.Refusals.{fault_of}
 use Rattle.tree_theory.specs.OneTree.{Edges, OneTree, Least, bound}
-use Rattle.tree_theory.specs.Inputs.{multiplier, or_else, denominator_fault, input_fault}
+use Rattle.tree_theory.specs.Inputs.{multiplier, denominator_fault, input_fault}
 use Rattle.tree_theory.specs.Scaled.{scaled_by}
 use Rattle.tree_theory.specs.Arrays.{blank, bytes}
 use Rattle.tree_theory.specs.Merges.{Merges}
@@ -57,20 +57,16 @@ pub record NoTree (q : ℕ) (g : Graph) (d : List ℤ) (after : Lists) : Type 0 
   pub tree : after.tree ≡ blank
   pub order : after.order ≡ blank
 
--- the charges are blanked before all else, and a fault changes nothing more
-abbrev pub blanked : Lists → Lists
-blanked l = record l { charges = blank }
-
+-- a fault changes nothing
 abbrev pub Leaves : ℕ → Graph → List ℤ → Lists → Result (Option Found) Refusal → Lists → Type 0
-Leaves q g d before (Err fault) after = after ≡ blanked before
+Leaves q g d before (Err fault) after = after ≡ before
 Leaves q g d before (Ok None) after = NoTree q g d after
 Leaves q g d before (Ok (Some r)) after = TreeFound q g d r after
 
--- lent is the length of the list for an answer, and later the fault that the caller has left to tell; document 02, C-17: "32 when q is out of range"
--- comes after it
-pub record LeastOrRefused (q : ℕ) (g : Graph) (d : List ℤ) (lent later : ℕ) (before : Lists) (r : Result (Option Found) Refusal) (after : Lists)
-    : Type 0 where
-  pub fault : fault_of r ≡ input_fault g d lent (or_else later (denominator_fault q))
+-- the lists are the caller's own, so none that is lent can be of wrong length. Document 02, C-17: "32 when q is out of range" comes after the faults of
+-- the other input
+pub record LeastOrRefused (q : ℕ) (g : Graph) (d : List ℤ) (before : Lists) (r : Result (Option Found) Refusal) (after : Lists) : Type 0 where
+  pub fault : fault_of r ≡ input_fault g d g.m (denominator_fault q)
   pub leaves : Leaves q g d before r after
 
 -- ---- the search for the tree itself

@@ -8,32 +8,29 @@ ghost use Rattle.graph.specs.Limits.{max_cost, max_multiplier, max_denominator, 
 ghost use Rattle.graph.specs.Valid.{Valid};
 ghost use Rattle.tree_theory.specs.Inputs.{multiplier};
 ghost use Rattle.tree_theory.specs.Multipliers.{Ranged};
-ghost use Rattle.greedy.specs.Charged.{offset, max_scaled, max_charge, high_bound, low_bound};
-ghost use Rattle.greedy.specs.Charging.{ChargesOf, Raised};
+ghost use Rattle.greedy.specs.Charged.{offset, max_scaled, max_charge, Cheap};
+ghost use Rattle.greedy.specs.Charging.{ChargesOf, Raised, BoundOf};
 
-use crate::{MAX_DENOMINATOR, MAX_MULTIPLIER};
-use graph::{Graph, MAX_COST, MAX_EDGES};
-
-// How large q times a cost gets.
-const MAX_SCALED: i64 = MAX_DENOMINATOR as i64 * MAX_COST as i64;
+use crate::{Checked, MAX_MULTIPLIER, MAX_SCALED};
+use graph::{Graph, MAX_EDGES};
 
 // What a charge is moved up by for its cost: one more than that, so that no charge is 0.
-const COST_OFFSET: u64 = MAX_SCALED as u64 + 1;
+const COST_OFFSET: u64 = MAX_SCALED + 1;
 
 // q times a cost, moved up by its limit.
 fn raised_cost(q: u64, x: i32) -> u64
     requires { (q ≤ max_denominator) × InRange max_cost x }
     ensures { IsDiff (q times x) result max_scaled × (result ≤ 2 * max_scaled) }
 {
-    ((q as i64) * i64::from(x) + MAX_SCALED) as u64
+    ((q as i64) * i64::from(x) + MAX_SCALED as i64) as u64
 }
 
-// A multiplier likewise.
+// A multiplier likewise. In 64 bits, so that the compiler makes one number of all that a charge is moved up by.
 fn raised(x: i32) -> u64
     requires { InRange max_multiplier x }
     ensures { IsDiff x result max_multiplier × (result ≤ 2 * max_multiplier) }
 {
-    (x + MAX_MULTIPLIER) as u64
+    (i64::from(x) + i64::from(MAX_MULTIPLIER)) as u64
 }
 
 fn charge(q: u64, cost: i32, x: i32, y: i32) -> u64
@@ -51,34 +48,60 @@ fn multiplier_at(multipliers: &[i32], v: u8) -> i32
     multipliers[usize::from(v) - 1]
 }
 
-// Every edge's charge.
-fn charge_each(g: &Graph, q: u64, multipliers: &[i32], charges: &mut [u64; MAX_EDGES])
-    requires { Valid g.now × Ranged multipliers.now × (length multipliers.now ≡ g.now.n) × (q ≤ max_denominator) }
-    ensures { ChargesOf q g.now multipliers.now charges.new g.now.m
-        × ((k : ℕ) → g.now.m ≤ k → get_or charges.new k 0 ≡ get_or charges.old k 0) × (length charges.new ≡ max_edges) }
-{
-    for k in 0..usize::from(g.m) {
-        let x = multiplier_at(multipliers, g.a[k]);
-        let y = multiplier_at(multipliers, g.b[k]);
-        charges[k] = charge(q, g.cost[k], x, y);
+impl Checked<'_> {
+    // Every edge's charge. By index: a loop's invariant can't name what `iter_mut` lends through `zip`.
+    fn charge_each(&self, q: u64, charges: &mut [u64; MAX_EDGES])
+        requires { q ≤ max_denominator }
+        ensures { ChargesOf q self.now.graph.now self.now.multipliers.now charges.new self.now.graph.now.m × (length charges.new ≡ max_edges) }
+    {
+        let Checked {
+            graph: g,
+            multipliers,
+        } = *self;
+        for k in 0..usize::from(g.m) {
+            let x = multiplier_at(multipliers, g.a[k]);
+            let y = multiplier_at(multipliers, g.b[k]);
+            charges[k] = charge(q, g.cost[k], x, y);
+        }
+    }
+
+    // The same, and zeros past the edges. Multipliers mostly count in minutes: with the number 1 itself the compiler leaves the product out.
+    pub(crate) fn charge(&self, q: u64, charges: &mut [u64; MAX_EDGES])
+        requires { q ≤ max_denominator }
+        ensures { ChargesOf q self.now.graph.now self.now.multipliers.now charges.new self.now.graph.now.m
+            × ((k : ℕ) → self.now.graph.now.m ≤ k → get_or charges.new k 0 ≡ 0) × (length charges.new ≡ max_edges) }
+    {
+        if q == 1 {
+            self.charge_each(1, charges);
+        } else {
+            self.charge_each(q, charges);
+        }
+        charges[usize::from(self.graph.m)..].fill(0);
+    }
+
+    // The bound of a 1-tree whose charges add up to sum: what each was moved up by for its cost comes off, for as many edges as there are vertices, and twice
+    // the multipliers, moved up as they are.
+    pub(crate) fn bound(&self, sum: u64) -> i64
+        requires { sum ≤ max_charge * max_edges }
+        ensures { BoundOf self.now.graph.now.n self.now.multipliers.now sum result }
+    {
+        let t = total(self.multipliers);
+        sum as i64 - (2 * t + COST_OFFSET * u64::from(self.graph.n)) as i64
     }
 }
 
-// The same. Multipliers mostly count in minutes: with the number 1 itself the compiler leaves the product out.
-pub(crate) fn charges(g: &Graph, q: u64, multipliers: &[i32], charges: &mut [u64; MAX_EDGES])
-    requires { Valid g.now × Ranged multipliers.now × (length multipliers.now ≡ g.now.n) × (q ≤ max_denominator) }
-    ensures { ChargesOf q g.now multipliers.now charges.new g.now.m
-        × ((k : ℕ) → g.now.m ≤ k → get_or charges.new k 0 ≡ get_or charges.old k 0) × (length charges.new ≡ max_edges) }
-{
-    if q == 1 {
-        charge_each(g, 1, multipliers, charges);
-    } else {
-        charge_each(g, q, multipliers, charges);
-    }
+// A graph whose edges have their charges, both lent: none is 0, nor too large for its key.
+#[derive(Clone, Copy)]
+pub(crate) struct ChargedGraph<'a> {
+    pub(crate) graph: &'a Graph,
+    pub(crate) charges: &'a [u64; MAX_EDGES],
+    ghost valid: { Valid graph.now },
+    ghost low: { (k : ℕ) → k < graph.now.m → 1 ≤ get_or charges.now k 0 },
+    ghost cheap: { Cheap graph.now charges.now },
 }
 
 // The sum of the multipliers, each moved up by its limit.
-pub(crate) fn total(multipliers: &[i32]) -> u64
+fn total(multipliers: &[i32]) -> u64
     requires { Ranged multipliers.now × (length multipliers.now ≤ max_vertices) }
     ensures { Raised multipliers.now (length multipliers.now) result }
 {
@@ -87,13 +110,4 @@ pub(crate) fn total(multipliers: &[i32]) -> u64
         sum += raised(*x);
     }
     sum
-}
-
-// The bound of a 1-tree on n vertices whose charges add up to sum, where the multipliers, moved up, add up to t: the n offsets come off
-// the sum and twice n limits go back on.
-pub(crate) fn bound(sum: u64, n: usize, t: u64) -> i64
-    requires { (sum ≤ max_charge * max_edges) × (n ≤ max_vertices) × (t ≤ 2 * max_multiplier * max_vertices) }
-    ensures { IsDiff result sum (2 * t + (max_scaled + 1) * n) }
-{
-    sum as i64 - (2 * t + COST_OFFSET * n as u64) as i64
 }

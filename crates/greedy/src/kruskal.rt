@@ -3,17 +3,18 @@ ghost use Rattle.std.specs.Prelude.{◌≡◌, cond, ℕ, ◌+◌, ◌*◌, ◌%
 ghost use Rattle.lists.specs.Bools.{Says};
 ghost use Rattle.graph.specs.Limits.{max_edges};
 ghost use Rattle.graph.specs.Network.{network};
-ghost use Rattle.graph.specs.Valid.{Valid};
 ghost use Rattle.spanning.specs.Walks.{relabel};
-ghost use Rattle.greedy.specs.Charged.{max_charge, Cheap};
+ghost use Rattle.greedy.specs.Charged.{max_charge};
 ghost use Rattle.greedy.specs.ChoiceSoFar.{ChoiceSoFar, Lacking, TwoTaken};
+ghost use Rattle.greedy.specs.Keys.{AllKeyed, KeysOfEdges};
 ghost use Rattle.greedy.specs.Parting.{Reached};
-ghost use Rattle.greedy.specs.Chosen.{KeysOf, ChosenIs};
+ghost use Rattle.lists.specs.Sorting.{Ascending};
+ghost use Rattle.greedy.specs.Chosen.{ChosenIs};
 ghost use Rattle.tree_theory.specs.Arrays.{blank};
 
-use crate::MAX_LABELS;
+use crate::charges::ChargedGraph;
 use crate::order::{FAR_KEYS, place};
-use graph::{Graph, MAX_EDGES};
+use graph::{MAX_EDGES, VERTEX_PLACES};
 
 // The label z where those that are high become low.
 fn relabelled(z: u8, low: u8, high: u8) -> u8
@@ -23,7 +24,7 @@ fn relabelled(z: u8, low: u8, high: u8) -> u8
 }
 
 // The components labelled x and y become one, labelled by the smaller. Every label is stored, so that the loop takes many at a time.
-fn join(labels: &mut [u8; MAX_LABELS], x: u8, y: u8)
+fn join(labels: &mut [u8; VERTEX_PLACES], x: u8, y: u8)
     ensures { (v : ℕ) → v < 21 → get_or labels.new v 0 ≡ relabel x y (get_or labels.old v 0) }
 {
     let low = x.min(y);
@@ -33,9 +34,9 @@ fn join(labels: &mut [u8; MAX_LABELS], x: u8, y: u8)
     }
 }
 
-// The first place whose key is at least `least`. Of either kind the required edges come first: their charge counts for nothing in the key, and a free
-// edge's is at least 1.
-pub(crate) fn reached(keys: &[u64], least: u64) -> usize
+// The first place whose key is at least `least`, or the number of keys. So both the edges at vertex 1 among all and the required among those of one kind
+// are counted, for these come first: a required edge's key has no charge in it, and a free edge's has one of at least 1.
+fn reached(keys: &[u64], least: u64) -> usize
     ensures { Reached keys.now (length keys.now) least result }
 {
     keys.iter()
@@ -46,50 +47,44 @@ pub(crate) fn reached(keys: &[u64], least: u64) -> usize
 // What the greedy choice among the edges away from vertex 1 came to: the turn that is next, how many it took, the sum of their charges, and for each
 // vertex the label of its component, the least vertex in it.
 #[derive(Clone, Copy)]
-pub(crate) struct Grown {
-    pub next: usize,
-    pub far: usize,
-    pub sum: u64,
-    pub labels: [u8; MAX_LABELS],
+struct Grown {
+    next: usize,
+    far: usize,
+    sum: u64,
+    labels: [u8; VERTEX_PLACES],
 }
 
 impl Grown {
     // Each vertex a component of its own.
-    pub(crate) fn none() -> Grown
+    fn none() -> Grown
         ensures { (result.next ≡ 0) × (result.far ≡ 0) × (result.sum ≡ 0)
             × (length result.labels ≡ 21) × ((v : ℕ) → v < 21 → get_or result.labels v 0 ≡ v) }
     {
-        let mut labels = [0; MAX_LABELS];
-        for v in 0..MAX_LABELS {
-            labels[v] = v as u8;
-        }
         Grown {
             next: 0,
             far: 0,
             sum: 0,
-            labels,
+            labels: std::array::from_fn(|v| v as u8),
         }
     }
 
     // From the turn that is next on, onto what was taken before: one byte an edge in the tree. It ends as soon as `enough` edges are taken.
-    pub(crate) fn grow(
+    fn grow(
         &mut self,
-        g: &Graph,
-        charges: &[u64; MAX_EDGES],
+        charged: &ChargedGraph,
         keys: &[u64],
         enough: usize,
         tree: &mut [u8; MAX_EDGES],
     )
-        requires { Valid g.now × (self.old.next ≤ length keys.now) × (length keys.now ≤ max_edges)
-            × ((i : ℕ) → i < length keys.now → get_or keys.now i 0 % 256 < g.now.m)
-            × Cheap g.now charges.now
-            × ChoiceSoFar (network g.now) charges.now keys.now self.old.next self.old.labels tree.old self.old.far self.old.sum }
-        ensures { ChoiceSoFar (network g.now) charges.now keys.now self.new.next self.new.labels tree.new self.new.far self.new.sum
-            × Lacking (network g.now) keys.now enough self.old.next self.new.next
+        requires { KeysOfEdges charged.now.graph.now keys.now × (self.old.next ≤ length keys.now)
+            × ChoiceSoFar (network charged.now.graph.now) charged.now.charges.now keys.now self.old.next self.old.labels tree.old self.old.far self.old.sum }
+        ensures { ChoiceSoFar (network charged.now.graph.now) charged.now.charges.now keys.now self.new.next self.new.labels tree.new self.new.far self.new.sum
+            × Lacking (network charged.now.graph.now) keys.now enough self.old.next self.new.next
             × (self.old.next ≤ self.new.next) × (self.new.next ≤ length keys.now)
             × (self.new.next < length keys.now → enough ≤ self.new.far) }
     {
-        // counted in registers: fields would be stored in each turn
+        let ChargedGraph { graph: g, charges } = *charged;
+        // Counted in registers: fields would be stored in each turn. The turn that is next is part of the answer, so it is counted and not iterated.
         let Grown {
             mut next,
             mut far,
@@ -114,82 +109,67 @@ impl Grown {
     }
 }
 
-// The first two edges at vertex 1, or as many as there are, onto the others that are taken: one byte an edge in the tree, and the sum of charges.
-pub(crate) fn take_two(
-    charges: &[u64; MAX_EDGES],
-    keys: &[u64],
-    sum: u64,
-    tree: &mut [u8; MAX_EDGES],
-) -> u64
-    requires { (length keys.now ≤ max_edges) × (sum ≤ max_charge * max_edges)
-        × ((i : ℕ) → i < length keys.now
-        → (get_or keys.now i 0 % 256 < max_edges) × (get_or charges.now (get_or keys.now i 0 % 256) 0 ≤ max_charge)) }
-    ensures { TwoTaken charges.now keys.now (length keys.now) tree.old sum tree.new result
-        × (result ≤ sum + max_charge * length keys.now) }
-{
-    let mut all = sum;
-    for key in &keys[..keys.len().min(2)] {
-        let k = place(*key);
-        tree[k] = 1;
-        all += charges[k];
-    }
-    all
-}
-
 // Is what was taken a 1-tree? near: how many edges at vertex 1 there were to choose two from, and must: how many of them are required; far: how many
 // others were taken. The required ones among these were taken first, and all must have joined two components.
-pub(crate) fn whole(
-    n: usize,
-    near: usize,
-    must: usize,
-    far: usize,
-    required: usize,
-    joined: usize,
-) -> bool
+fn whole(n: usize, near: usize, must: usize, far: usize, required: usize, joined: usize) -> bool
     requires { far ≤ max_edges }
     ensures { Says result ((2 ≤ near) × (far + 2 ≡ n) × (must ≤ 2) × (joined ≡ required)) }
 {
     near >= 2 && far + 2 == n && must <= 2 && joined == required
 }
 
-// What the greedy choice came to: the sum of the charges of all that it took, whether these are a 1-tree, and at how many free edges the loop looked
-// that joins the vertices other than vertex 1 (document 02, C-12).
+// What the greedy choice came to: the sum of the charges of all that it took, where these are a 1-tree; and at how many free edges the loop looked that
+// joins the vertices other than vertex 1 (document 02, C-12).
 #[derive(Clone, Copy)]
 pub(crate) struct Chosen {
-    pub sum: u64,
-    pub whole: bool,
+    pub sum: Option<u64>,
     pub looked: usize,
 }
 
-// The choice among all edges by their keys: one byte for each that is taken into the tree, which is blank before, and the labels that the required ones
-// give the vertices.
-pub(crate) fn choose(
-    g: &Graph,
-    charges: &[u64; MAX_EDGES],
-    keys: &[u64],
-    tree: &mut [u8; MAX_EDGES],
-    labels: &mut [u8; MAX_LABELS],
-) -> Chosen
-    requires { KeysOf g.now charges.now keys.now × (tree.old ≡ blank) }
-    ensures { ChosenIs g.now charges.now tree.new labels.new result }
-{
-    let near = reached(keys, FAR_KEYS);
-    let at_1 = &keys[..near];
-    let away = &keys[near..];
-    let must = reached(at_1, 256);
-    let required = reached(away, FAR_KEYS + 256);
-    let n = usize::from(g.n);
-    let enough = n - 2;
-    let mut grown = Grown::none();
-    // the required edges are all taken, however few connect the vertices
-    grown.grow(g, charges, &away[..required], MAX_EDGES, tree);
-    let joined = grown.far;
-    *labels = grown.labels;
-    grown.grow(g, charges, away, enough, tree);
-    let sum = take_two(charges, at_1, grown.sum, tree);
-    Chosen {
-        sum,
-        whole: whole(n, near, must, grown.far, required, joined),
-        looked: grown.next - required,
+impl ChargedGraph<'_> {
+    // The first two edges at vertex 1, or as many as there are, onto the others that are taken: one byte an edge in the tree, and the sum of charges.
+    fn take_two(&self, keys: &[u64], sum: u64, tree: &mut [u8; MAX_EDGES]) -> u64
+        requires { KeysOfEdges self.now.graph.now keys.now × (sum ≤ max_charge * max_edges) }
+        ensures { TwoTaken self.now.charges.now keys.now (length keys.now) tree.old sum tree.new result
+            × (result ≤ sum + max_charge * length keys.now) }
+    {
+        let mut all = sum;
+        for key in &keys[..keys.len().min(2)] {
+            let k = place(*key);
+            tree[k] = 1;
+            all += self.charges[k];
+        }
+        all
+    }
+
+    // The choice among all edges by their keys: one byte for each that is taken into the tree, which is blank before, and the labels that the required ones
+    // give the vertices.
+    pub(crate) fn choose(
+        &self,
+        keys: &[u64],
+        tree: &mut [u8; MAX_EDGES],
+        labels: &mut [u8; VERTEX_PLACES],
+    ) -> Chosen
+        requires { AllKeyed self.now.graph.now self.now.charges.now keys.now (length keys.now) × Ascending (length keys.now) keys.now × (tree.old ≡ blank) }
+        ensures { ChosenIs self.now.graph.now self.now.charges.now tree.new labels.new result }
+    {
+        let near = reached(keys, FAR_KEYS);
+        let at_1 = &keys[..near];
+        let away = &keys[near..];
+        let must = reached(at_1, 256);
+        let required = reached(away, FAR_KEYS + 256);
+        let n = usize::from(self.graph.n);
+        let enough = n - 2;
+        let mut grown = Grown::none();
+        // the required edges are all taken, however few connect the vertices
+        grown.grow(self, &away[..required], MAX_EDGES, tree);
+        let joined = grown.far;
+        *labels = grown.labels;
+        grown.grow(self, away, enough, tree);
+        let sum = self.take_two(at_1, grown.sum, tree);
+        Chosen {
+            sum: whole(n, near, must, grown.far, required, joined).then_some(sum),
+            looked: grown.next - required,
+        }
     }
 }

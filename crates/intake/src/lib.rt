@@ -1,4 +1,5 @@
-// Bytes of a reader, put into a buffer that is lent: until the buffer is full or the reader is at its end.
+// Bytes of a reader, put into a buffer that is lent: until the buffer is full or the reader is at its end. Std's read_to_end takes memory for
+// them, and its read_exact refuses a reader that ends before the buffer is full.
 #![tactic(auto)]
 
 ghost use Rattle.std.specs.Prelude.{◌<◌, IfOk, length, take};

@@ -1,7 +1,7 @@
 -- AN INTERFACE THAT FOLLOWS THE MACHINE IS AS THE MACHINE (`as_the_machine`): where one call, on the records of a state that they can hold,
 -- leaves the records of the machine's next state and says what the machine says, whole lists do. Replies by a codec follow it
 -- (`replies_follow`). Assumes nothing.
-use Rattle.std.specs.Prelude.{◌≡◌, refl, Bool, true}
+use Rattle.std.specs.Prelude.{◌≡◌, refl, true}
 use Rattle.std.proofs.Common.{ap, ◌∙◌}
 use mathlib.Core.List.{List, [], ◌∷◌}
 use Rattle.lent_records.specs.Machine.{Machine, after, leaves}

@@ -1,11 +1,12 @@
 -- Eight places with the names 1 to 8: what stands under a name, and what a change under one leaves. Assumes nothing.
-use Rattle.std.specs.Prelude.{◌≡◌, Bool, true, ◌&&◌, List, [], ◌∷◌, map, leb, length, get_or, set}
+use Rattle.std.specs.Prelude.{◌≡◌, Bool, true, false, cond, ◌&&◌, List, ◌∷◌, map, leb, length, get_or, set, Option, Some, None, Result, Ok, Err}
 use Rattle.std.proofs.Math.Path.{refl}
 use Rattle.std.proofs.Common.{ap, arith, leb-true}
-use Prim.Native.Nat.{ℕ, zero, suc, ◌≤◌}
+use Rattle.std.proofs.lemmas.List.{map-set, get_or_default}
+use Prim.Native.Nat.{ℕ, zero, suc, ◌-◌, ◌≤◌, ◌<◌}
 use Rattle.std.proofs.Math.ListN.{length-set, get_or-map}
 use Rattle.std.proofs.Math.Seq.{get_or-set_same, get_or-set_other}
-use Rattle.lists.specs.Bools.{and_both}
+use Rattle.lists.specs.Bools.{by_cases, and_both}
 
 -- "names 1 to 8", "its places 1 to 8"
 abbrev pub is_name : ℕ → Bool
@@ -13,6 +14,26 @@ is_name k = leb 1 k && leb k 8
 
 pub name_range : (k : ℕ) → is_name k ≡ true → (1 ≤ k) × (k ≤ 8)
 name_range k h = let r = and_both (leb 1 k) (leb k 8) h in (leb-true 1 k r.0, leb-true k 8 r.1)
+
+-- where it stands among the eight, counted from 0; none for another number
+unfoldable pub place_of : ℕ → Option ℕ
+place_of k = cond (is_name k) (Some (k - 1)) None
+
+pub place_some : (k i : ℕ) → Some i ≡ place_of k → (is_name k ≡ true) × (k ≡ suc i) × (i < 8)
+unfolding place_of
+place_some k i e = by_cases (is_name k) (λ n. named n (rw n at e)) (λ n. let q = (rw n at e) in cc)
+  where
+    named : is_name k ≡ true → Some i ≡ Some (k - 1) → (is_name k ≡ true) × (k ≡ suc i) × (i < 8)
+    named n q = let same : i ≡ k - 1 = cc in let r = name_range k n in (n, omega arith, omega arith)
+
+pub place_none : (k : ℕ) → None ≡ place_of k → is_name k ≡ false
+unfolding place_of
+place_none k e = by_cases (is_name k) (λ n. let q = (rw n at e) in cc) (λ n. n)
+
+-- what a test of a name answers: the place, where there is no fault; or the refusal that has the fault's number
+abbrev pub AtPlace : {R : Type 0} → (R → ℕ) → ℕ → ℕ → Result ℕ R → Type 0
+AtPlace number fault k (Ok at) = (fault ≡ 0) × (k ≡ suc at) × (at < 8)
+AtPlace number fault k (Err r) = number r ≡ fault
 
 module _ {A : Type 0} where
   -- what stands under a name; z where it is none
@@ -22,6 +43,11 @@ module _ {A : Type 0} where
   unfoldable pub put : List A → ℕ → A → List A
   put l zero v = l
   put l (suc k) v = set l k v
+
+  -- at a place of the list it is the same, whatever stands past its end
+  pub under_at : (x z : A) (l : List A) (i : ℕ) → i < length l → get_or l i x ≡ under z l (suc i)
+  unfolding under
+  under_at x z l i h = get_or_default l i x z h
 
   pub put-size : (l : List A) (k : ℕ) (v : A) → length (put l k v) ≡ length l
   unfolding put
@@ -44,12 +70,7 @@ module _ {A B : Type 0} (f : A → B) where
   unfolding under
   under-map z l k = get_or-map f (z ∷ l) k z
 
-  map-set : (l : List A) (k : ℕ) (v : A) → map f (set l k v) ≡ set (map f l) k (f v)
-  map-set [] k v = refl
-  map-set (x ∷ l) zero v = refl
-  map-set (x ∷ l) (suc k) v = ap (λ (r : List B). f x ∷ r) (map-set l k v)
-
   pub map-put : (l : List A) (k : ℕ) (v : A) → map f (put l k v) ≡ put (map f l) k (f v)
   unfolding put
   map-put l zero v = refl
-  map-put l (suc k) v = map-set l k v
+  map-put l (suc k) v = map-set f l k v

@@ -1,8 +1,10 @@
 -- A tree counts only as far as the edges go: trees that agree on the edges 1 to m have the same supports, replacements and lifted multipliers.
-use Rattle.std.specs.Prelude.{◌≡◌, Bool, true, false, ◌&&◌, List, [], ◌∷◌, ℕ, ℤ}
+use Rattle.std.specs.Prelude.{◌≡◌, ◌&&◌, List, [], ◌∷◌, ℕ, ℤ}
 use Rattle.std.proofs.Math.Path.{refl}
 use Rattle.std.proofs.Common.{sym, inl, inr}
 use Rattle.std.proofs.Math.Bool.{not}
+-- tests that pass alike are one
+pub use Rattle.std.specs.Cmp.{both_ways as same_test}
 use Rattle.lists.specs.Members.{◌∈◌}
 use Rattle.lists.specs.Select.{select, select_cong}
 use Rattle.lists.specs.Numbers.{up_to}
@@ -16,12 +18,6 @@ use Rattle.tree_theory.specs.Valid.{is_required, is_excluded}
 use Rattle.tours.specs.Degrees.{degree_agree}
 use Rattle.lifting.specs.Lifted.{touches, is_giver, is_taker, support, replacement, reduced_cost, replacement_cost, gather, rise_limits, fall_limits}
 use Rattle.lifting.specs.Lifted.{rises, falls, rise, fall, rise_by, fall_by, Choice, none, one, raised, lowered}
-
--- tests that pass alike are one
-pub same_test : (x y : Bool) → (x ≡ true → y ≡ true) → (y ≡ true → x ≡ true) → x ≡ y
-same_test true y h k = sym (h refl)
-same_test false true h k = k refl
-same_test false false h k = refl
 
 pub gather_cong : (f h : ℕ → List ℤ) (ks : List ℕ) → ((k : ℕ) → k ∈ ks → f k ≡ h k) → gather f ks ≡ gather h ks
 unfolding gather

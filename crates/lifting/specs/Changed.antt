@@ -1,9 +1,9 @@
 -- What a change of the multipliers at two vertices does to charges and bounds: a bound moves by each change times how far the vertex's
 -- degree is from 2. Assumes nothing.
-use Rattle.std.specs.Prelude.{◌≡◌, refl, ◌≢◌, Bool, false, ◌&&◌, ◌||◌, length, ℤ, negsuc, ◌+ℤ◌, ◌-ℤ◌, ◌*ℤ◌}
+use Rattle.std.specs.Prelude.{◌≡◌, refl, ◌≢◌, Bool, false, ◌||◌, length, ℤ, negsuc, ◌+ℤ◌, ◌-ℤ◌, ◌*ℤ◌}
 use Rattle.std.proofs.Math.Path.{sym, ap}
 use Rattle.std.proofs.Common.{◌∙◌, arith, mul-add}
-use Rattle.std.proofs.Math.Bool.{true, cond}
+use Rattle.std.proofs.Math.Bool.{true, cond, and_comm}
 use mathlib.Core.List.{List, [], ◌∷◌}
 use Prim.Native.Nat.{ℕ, zero, suc, ◌+◌, ◌*◌, ◌<◌, ◌≤◌}
 use Rattle.std.proofs.Math.Decide.{ℕ_discrete}
@@ -61,17 +61,11 @@ sum_times p x (k ∷ ks) = go (p k) (sum_times p x ks)
 
 -- ---- ends and degrees
 
-and_turn : (a b : Bool) → a && b ≡ b && a
-and_turn true true = refl
-and_turn true false = refl
-and_turn false true = refl
-and_turn false false = refl
-
 degree_is : (g : Network) (t : Edges) (v : ℕ) → length (select (touches g v) (select t (up_to g.m))) ≡ degree g t v
 unfolding degree
 degree_is g t v =
     ap length (select-select (touches g v) t (up_to g.m)
-    ∙ select_cong _ _ (up_to g.m) (λ k m. and_turn (touches g v k) (t k)))
+    ∙ select_cong _ _ (up_to g.m) (λ k m. and_comm (touches g v k) (t k)))
 
 -- a number stands once among those up to n
 above : (n i : ℕ) → n < i → length (select (λ u. eqb u i) (up_to n)) ≡ 0

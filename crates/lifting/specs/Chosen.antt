@@ -134,9 +134,6 @@ excluded_not free h = refl
 excluded_not required h = refl
 excluded_not excluded h = absurd (h refl)
 
-not-false : (b : Bool) → b ≡ false → not b ≡ true
-not-false b h = rw h
-
 module _ (g : Network) (t : Edges) (e k : ℕ) (m : k ∈ up_to g.m) where
   pub giver_test : is_giver g t e k ≡ true ↔ Giver g t e k
   unfolding is_giver

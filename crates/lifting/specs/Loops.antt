@@ -200,12 +200,6 @@ pub least_step : (none : ℕ) (test : ℕ → Bool) (key : ℕ → ℕ) (list : 
 unfolding least_to
 least_step none test key list j = rw add-one
 
--- a product of two that are small
-pub product : (x y a b : ℕ) → x ≤ a → y ≤ b → x * y ≤ a * b
-product x y a zero h k = let z : y ≡ 0 = omega (arith, k) in rw z (omega arith)
-product x zero a (suc b) h k = omega arith
-product x (suc y) a (suc b) h k = omega (arith, product x y a b h (omega (arith, k)))
-
 -- labels that can be climbed, and where a climb of `left` steps more stands
 abbrev pub Climbable : List ℕ → List ℕ → Type 0
 Climbable parent depth = Hangs (shape parent depth) × ((u : ℕ) → 1 ≤ get_or depth u 0 → 2 ≤ u)

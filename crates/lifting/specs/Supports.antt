@@ -3,12 +3,13 @@
 -- above the ceiling.
 use Rattle.std.specs.Prelude.{◌≡◌, ◌↔◌, true, false, ◌∷◌, ℕ, ℤ, pos, ◌+ℤ◌, ◌-ℤ◌, ◌*ℤ◌, ◌≤ℤ◌, ◌<ℤ◌}
 use Rattle.std.proofs.Common.{sym, ap, ◌∙◌, arith}
+use Rattle.std.specs.Int.Signed.{≤ℤ_refl}
 use Rattle.lists.specs.Members.{◌∈◌}
 use Rattle.lists.specs.Select.{select}
 use Rattle.lists.specs.Numbers.{up_to, distinct-up_to}
 use Rattle.lists.specs.Same.{Shuffle}
 use Rattle.lists.specs.Sets.{◌⊕◌, ◌⊖◌, minus_false, select_plus, select_minus}
-use Rattle.integers.specs.Parts.{add_parts, eq_of_parts, le_parts, parts_le, lt_parts, parts_lt}
+use Rattle.integers.specs.Parts.{add_parts, eq_of_parts, le_parts, lt_parts, parts_lt}
 use Rattle.integers.specs.Differences.{sub_parts}
 use Rattle.integers.specs.Sums.{sum_z, sum_shuffle}
 use Rattle.graph.specs.Network.{Network}
@@ -68,9 +69,6 @@ pub record Replacement (g : Network) (d : ℕ → ℤ) (t : Edges) (e r : ℕ) :
   pub may : MaySwap g t e r
   pub least : (f : ℕ) → f ∈ up_to g.m → t f ≡ false → MaySwap g t e f → charge g d r ≤ℤ charge g d f
 
-le_self : (z : ℤ) → z ≤ℤ z
-le_self z = parts_le z z (omega arith)
-
 -- z below b + (p − q), where q ≤ q' or p' ≤ p
 more-above : (z b p p' q q' : ℤ) → p ≤ℤ p' → q' ≤ℤ q → z <ℤ (b +ℤ (p -ℤ q)) → z <ℤ (b +ℤ (p' -ℤ q'))
 more-above z b p p' q q' h k l =
@@ -125,7 +123,7 @@ module _ (g : Network) (vg : Valid g) (d : ℕ → ℤ) (t : Edges) (l : Minimal
       let i = barred_charges te in (
         (λ b. i.0 b s p.listed p.inside p.may),
         λ h. i.1 (λ f mf tf may. more-above z (bound g d t) (charge g d e) (charge g d e) (charge g d s) (charge g d f)
-            (le_self (charge g d e)) (p.most f mf tf may) h),
+            (≤ℤ_refl (charge g d e)) (p.most f mf tf may) h),
       )
 
   -- FORCED, by the replacement
@@ -135,5 +133,5 @@ module _ (g : Network) (vg : Valid g) (d : ℕ → ℤ) (t : Edges) (l : Minimal
       let i = forced_charges te in (
         (λ b. i.0 b r p.listed p.outside p.may),
         λ h. i.1 (λ f mf tf may. more-above z (bound g d t) (charge g d r) (charge g d f) (charge g d e) (charge g d e)
-            (p.least f mf tf may) (le_self (charge g d e)) h),
+            (p.least f mf tf may) (≤ℤ_refl (charge g d e)) h),
       )

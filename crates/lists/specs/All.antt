@@ -1,12 +1,13 @@
 -- A test of every member of a list, and of some member. Assumes nothing.
-use Rattle.std.specs.Prelude.{◌≡◌, Bool, ◌&&◌}
+use Rattle.std.specs.Prelude.{◌≡◌, Bool, ◌&&◌, ℕ, zero, suc, ◌<◌, length, get_or}
+use Rattle.std.specs.List.{list_all}
 use Rattle.std.proofs.Math.Path.{refl, ap}
-use Rattle.std.proofs.Common.{sym, ◌∙◌, true≢false}
+use Rattle.std.proofs.Common.{sym, ◌∙◌, true≢false, arith}
 use Rattle.std.proofs.Math.Logic.{inl, inr}
 use Rattle.std.proofs.Math.Bool.{true, false}
 use Rattle.std.proofs.lemmas.Bool.{false≢true}
 use mathlib.Core.List.{List, [], ◌∷◌}
-use Rattle.lists.specs.Bools.{and_both}
+use Rattle.lists.specs.Bools.{and_both, and_no_right}
 use Rattle.lists.specs.Members.{◌∈◌}
 
 module _ {A : Type 0} where
@@ -60,3 +61,29 @@ module _ {A : Type 0} where
       go : (b : Bool) → some_of f xs ≡ true → (elim b as (λ z. Bool) [ true ↦ true | false ↦ some_of f xs ]) ≡ true
       go true i = refl
       go false i = i
+
+  -- std's word for a test of every member
+  pub every_is : (f : A → Bool) (xs : List A) → every_of f xs ≡ list_all f xs
+  unfolding every_of
+  every_is f [] = refl
+  every_is f (x ∷ xs) = ap (λ (b : Bool). f x && b) (every_is f xs)
+
+  -- ---- by places, z past the end
+
+  module _ (f : A → Bool) (z : A) where
+    pub each-passes : (l : List A) → ((k : ℕ) → k < length l → f (get_or l k z) ≡ true) → every_of f l ≡ true
+    unfolding every_of
+    each-passes [] h = refl
+    each-passes (x ∷ l) h = rw (h 0 (omega arith)) (each-passes l (λ k b. h (suc k) (omega arith)))
+
+    pub at-passes : (l : List A) (k : ℕ) → k < length l → every_of f l ≡ true → f (get_or l k z) ≡ true
+    unfolding every_of
+    at-passes [] k b h = absurd (omega arith)
+    at-passes (x ∷ l) zero b h = (and_both (f x) (every_of f l) h).0
+    at-passes (x ∷ l) (suc k) b h = at-passes l k (omega arith) (and_both (f x) (every_of f l) h).1
+
+    pub one_fails : (l : List A) (k : ℕ) → k < length l → f (get_or l k z) ≡ false → every_of f l ≡ false
+    unfolding every_of
+    one_fails [] k b h = absurd (omega arith)
+    one_fails (x ∷ l) zero b h = rw h
+    one_fails (x ∷ l) (suc k) b h = and_no_right (f x) (every_of f l) (one_fails l k (omega arith) h)

@@ -1,43 +1,17 @@
 -- Tests that are Booleans: how a proof goes by the cases of one, and what a conjunction or a disjunction tells. Assumes nothing.
-use Rattle.std.specs.Prelude.{◌≡◌, refl, Bool, true, false, not, cond, ◌&&◌, ◌||◌, ◌⊎◌, ℕ, ◌<◌, T}
-use Rattle.std.proofs.Common.{true≢false, inl, inr, arith}
+use Rattle.std.specs.Prelude.{◌≡◌, refl, Bool, true, false, not, cond, ◌&&◌, ℕ, ◌<◌, ◌≤◌, T}
+use Rattle.std.proofs.Common.{true≢false, arith}
 use Rattle.std.proofs.lemmas.Bool.{false≢true}
+-- what a conjunction and a disjunction tell: the library's lemmas, by the names that are used here
+pub use Rattle.std.proofs.lemmas.Bool.{and_parts as and_both, and_right as and_no_right, and_left as and_no_left, or_right, or_left, or_parts as or_none, or_cases as or_case}
 
 -- by the value of a test, which each case then knows
 pub by_cases : (t : Bool) {P : Type 0} → (t ≡ true → P) → (t ≡ false → P) → P
 by_cases true f g = f refl
 by_cases false f g = g refl
 
-pub and_both : (a b : Bool) → a && b ≡ true → (a ≡ true) × (b ≡ true)
-and_both true b h = (refl, h)
-and_both false b h = absurd (false≢true h)
-
 pub and_right : (a b : Bool) → a && b ≡ true → b ≡ true
 and_right a b h = (and_both a b h).1
-
-pub and_no_right : (a b : Bool) → b ≡ false → a && b ≡ false
-and_no_right true b h = h
-and_no_right false b h = refl
-
-pub and_no_left : (a b : Bool) → a ≡ false → a && b ≡ false
-and_no_left true b h = absurd (true≢false h)
-and_no_left false b h = refl
-
-pub or_right : (a b : Bool) → b ≡ true → a || b ≡ true
-or_right true b h = refl
-or_right false b h = h
-
-pub or_left : (a b : Bool) → a ≡ true → a || b ≡ true
-or_left true b h = refl
-or_left false b h = absurd (false≢true h)
-
-pub or_none : (a b : Bool) → a || b ≡ false → (a ≡ false) × (b ≡ false)
-or_none true b h = absurd (true≢false h)
-or_none false b h = (refl, h)
-
-pub or_case : (a b : Bool) → a || b ≡ true → (a ≡ true) ⊎ (b ≡ true)
-or_case true b h = inl refl
-or_case false b h = inr h
 
 pub not-not : (b : Bool) → not (not b) ≡ true → b ≡ true
 not-not true h = refl
@@ -56,6 +30,10 @@ true_T false h = absurd (false≢true h)
 abbrev pub bit : Bool → ℕ
 bit true = 1
 bit false = 0
+
+pub bit_most : (b : Bool) → bit b ≤ 1
+bit_most true = omega arith
+bit_most false = omega arith
 
 -- a fault's number, 0 where there is none: no number in front of it applied, and none behind it
 pub cond_zero : (t : Bool) (e x : ℕ) → 0 < e → cond t e x ≡ 0 → (t ≡ false) × (x ≡ 0)

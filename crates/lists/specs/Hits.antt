@@ -7,7 +7,7 @@ use Prim.Native.Nat.{ℕ, zero, suc, ◌+◌, ◌<◌, ◌≤◌}
 use native.Mathlib.Omega.{arith}
 use Rattle.std.proofs.Math.Numerals.{add-one}
 use Rattle.std.proofs.Math.Decide.{ℕ_discrete}
-use Rattle.lists.specs.Bools.{bit, Says}
+use Rattle.lists.specs.Bools.{bit, bit_most, Says}
 
 unfoldable pub hits : (ℕ → Bool) → ℕ → ℕ
 hits f zero = 0
@@ -16,10 +16,6 @@ hits f (suc k) = hits f k + bit (f k)
 -- the test holds at none of the first k places
 abbrev pub Nowhere : (ℕ → Bool) → ℕ → Type 0
 Nowhere f k = (j : ℕ) → j < k → f j ≡ false
-
-bit_most : (b : Bool) → bit b ≤ 1
-bit_most true = omega arith
-bit_most false = omega arith
 
 bit_none : (b : Bool) → bit b ≡ 0 → b ≡ false
 bit_none true e = absurd (omega arith)

@@ -24,7 +24,8 @@ use Rattle.machine.specs.Machine.{branch, concluded, passes}
 use Rattle.machine.specs.Branching.{first_free_lem}
 use Rattle.machine.specs.NodeTours.{applied-length, tree_agrees, ruled-requireds}
 use Rattle.machine.specs.Requireds.{requireds, requireds-set, requireds_most}
-use Rattle.machine.specs.Depth.{tree-size, Shallow}
+use Rattle.tree_theory.specs.Ranges.{tree-size}
+use Rattle.machine.specs.Depth.{Shallow}
 
 -- a node with no more required edges
 fewer : (n : ℕ) (x y : Marks) → requireds x ≤ requireds y → (out : Opened) → Shallow n y out → Shallow n x out

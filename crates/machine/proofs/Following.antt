@@ -1,17 +1,45 @@
 -- AN INTERFACE THAT FOLLOWS THE MACHINE MEETS DEMAND 3 (`follows_demand_3`): where each call, on the record of a state that keeps to Kept, leaves
 -- the record of the machine's next state and says what the machine says, whole lists do, and the machine's claims (Claim) are the interface's.
 -- Assumes nothing.
-use Rattle.std.specs.Prelude.{◌≡◌, refl}
+use Rattle.std.specs.Prelude.{◌≡◌, refl, ℕ}
 use Rattle.std.proofs.Common.{sym, ap, ◌∙◌, subst}
 use mathlib.Core.List.{List, [], ◌∷◌}
 use Rattle.machine.specs.Machine.{Opening, State, no_search}
-use Rattle.machine.specs.Calls.{Call, tell, show, Verdict, going_on, none, best, step, state_after, leaves}
+use Rattle.machine.specs.Calls.{Call, Answer, tell, show, Verdict, going_on, none, best, step, state_after, leaves}
 use Rattle.machine.specs.Kept.{KeptState}
 use Rattle.machine.proofs.Preserved.{step_kept}
-use Rattle.machine.specs.Demand3.{Finished, Otherwise, Interface, after, AsTheMachine, SaysAfter, ShowAlikeAfter, Demand3}
+use Rattle.machine.specs.Demand3.{Finished, Otherwise, Says, Interface, after, AsTheMachine, SaysAfter, ShowAlikeAfter, Demand3}
 use Rattle.machine.proofs.Claim.{machine_agrees, machine_ends}
 use Rattle.machine.specs.Claim as machine
 use Rattle.machine.specs.Following.{Follows}
+
+-- what the machine says after a list is said by whatever answers tell and show as the machine does
+module _ {A : Type 0} (f : Answer → A) (answer : Call → A) (list : Call → List ℕ) (cs : List Call)
+    (tells : answer tell ≡ f (step (leaves cs) tell).answer)
+    (shows : (l : List ℕ) → answer (show l) ≡ f (step (leaves cs) (show l)).answer)
+    (writes : (l : List ℕ) → list (show l) ≡ (step (leaves cs) (show l)).lent) where
+  pub said_as : (o : Opening) (v : Verdict) → machine.Says cs o v → Says f answer list o v
+  said_as o v x = record {
+    count = x.count;
+    told = tells ∙ ap f x.told;
+    exactly = x.exactly;
+    otherwise = go v x.otherwise;
+  }
+    where
+      go : (w : Verdict)
+          → Otherwise (λ a. a) (λ c. (step (leaves cs) c).answer) (λ c. (step (leaves cs) c).lent) o w
+          → Otherwise f answer list o w
+      go going_on y = y
+      go none y = y
+      go (best c) y = record {
+        tour = y.tour;
+        such = y.such;
+        exact = y.exact;
+        least = y.least;
+        first = y.first;
+        accepts = λ l e. shows l ∙ ap f (y.accepts l e);
+        writes = λ l e. writes l ∙ y.writes l e;
+      }
 
 module _ (i : Interface) (f : Follows i) where
   -- ---- a list of calls on the record of a state
@@ -52,27 +80,9 @@ module _ (i : Interface) (f : Follows i) where
     }
 
     says : (o : Opening) (v : Verdict) → machine.Says cs o v → SaysAfter i cs o v
-    says o v x = record {
-      count = x.count;
-      told = answer-next tell ∙ ap i.said x.told;
-      exactly = x.exactly;
-      otherwise = go v x.otherwise;
-    }
-      where
-        go : (w : Verdict)
-            → Otherwise (λ a. a) (λ c. (step (leaves cs) c).answer) (λ c. (step (leaves cs) c).lent) o w
-            → Otherwise i.said (i.answer (after i i.fresh cs)) (i.list (after i i.fresh cs)) o w
-        go going_on y = y
-        go none y = y
-        go (best c) y = record {
-          tour = y.tour;
-          such = y.such;
-          exact = y.exact;
-          least = y.least;
-          first = y.first;
-          accepts = λ l e. answer-next (show l) ∙ ap i.said (y.accepts l e);
-          writes = λ l e. list_next (show l) ∙ y.writes l e;
-        }
+    says =
+        said_as i.said (i.answer (after i i.fresh cs)) (i.list (after i i.fresh cs)) cs (answer-next tell) (λ l. answer-next (show l))
+        (λ l. list_next (show l))
 
   show_alike : (cs ds : List Call) → machine.ShowAlike cs ds → ShowAlikeAfter i cs ds
   show_alike cs ds h l = (

@@ -17,7 +17,7 @@ use Rattle.tours.specs.Tours.{degree}
 use Rattle.machine.specs.Machine.{gained}
 use Rattle.machine.specs.Kept.{FitFor}
 
-fit-first : (d : List ℤ) → multipliers_fit d ≡ true → multiplier d 1 ≡ pos 0
+pub fit-first : (d : List ℤ) → multipliers_fit d ≡ true → multiplier d 1 ≡ pos 0
 unfolding multipliers_fit
 fit-first d h =
     let r = within_range 0 (multiplier d 1) (and_right (every_of (within max_multiplier) d) (within 0 (multiplier d 1)) h) in

@@ -15,8 +15,8 @@ use Rattle.tree_theory.specs.Inputs.{multipliers_fit, ceiling_fits}
 use Rattle.tree_theory.specs.Accepted.{denominator_range}
 use Rattle.machine.specs.Outcomes.{Incumbent, no_tour, a_tour}
 use Rattle.machine.specs.Machine.{Node, marks_of}
-use Rattle.machine.specs.Machine.{Opening, trimmed, held, Progress, searching, begin}
-use Rattle.machine.specs.Calls.{fault, shown_by}
+use Rattle.machine.specs.Machine.{Opening, trimmed, held, Progress, State, no_search, searching, begin, finished}
+use Rattle.machine.specs.Calls.{fault, tell, show, shown_by, step}
 use Rattle.machine.specs.Trimmed.{trimmed_trim, trimmed-valid}
 use Rattle.machine.specs.Kept.{Accepted, Kept}
 
@@ -67,10 +67,20 @@ begin-kept o a = record {
   count = omega arith;
 }
 
--- show leaves the state as it is
+-- "Tell and show leave the state as it is"
+pub tell_leaves : (st : State) → (step st tell).state ≡ st
+unfolding step
+tell_leaves no_search = refl
+tell_leaves (searching p) = refl
+
 pub show_state : (s : Progress) (l : List ℕ) (b : Bool) (i : Incumbent (List Bool)) → (shown_by s l b i).state ≡ searching s
 unfolding shown_by
 show_state s l false i = refl
 show_state s l true no_tour = refl
 show_state s l true (a_tour r) =
     by_cases (eqb (length l) s.opening.graph.m) (λ e. rw e) (λ e. rw e)
+
+pub show_leaves : (st : State) (l : List ℕ) → (step st (show l)).state ≡ st
+unfolding step
+show_leaves no_search l = refl
+show_leaves (searching p) l = show_state p l (finished p) p.incumbent

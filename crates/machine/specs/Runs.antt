@@ -1,11 +1,10 @@
 -- The run loop, turn by turn: it opens the top node, or it stops because the stack is empty or the count is at its limit. Proofs about
 -- runs, of the machine and of code, go by these laws and never look into the loop. Assumes nothing.
 use Rattle.std.specs.Prelude.{◌≡◌, refl, Bool, true, false, not, ◌&&◌, ℕ, zero, suc, ◌≤◌, ◌<◌, ltb}
-use Rattle.std.proofs.Common.{ap, arith}
+use Rattle.std.proofs.Common.{ap, arith, le-ltb}
 use mathlib.Core.List.{List, [], ◌∷◌}
 use Rattle.std.proofs.Math.Decide.{dec_le}
-use borrow.Author.Tests.{lt-ltb, ltb-true}
-use Rattle.lists.specs.Bools.{by_cases}
+use borrow.Author.Tests.{lt-ltb}
 use Rattle.graph.specs.Limits.{max_count}
 use Rattle.machine.specs.Machine.{Node, Progress, open_top, is_empty, finished, ran}
 
@@ -21,9 +20,6 @@ turn s = go s.stack refl (dec_le (suc s.count) max_count)
     go [] e l = empty e
     go (x ∷ rest) e (yes l) = opens-top x rest e l
     go (x ∷ rest) e (no l) = full (omega arith)
-
-not-below : (n k : ℕ) → k ≤ n → ltb n k ≡ false
-not-below n k h = by_cases (ltb n k) (λ e. absurd (omega (arith, ltb-true n k e))) (λ e. e)
 
 module _ (budget : ℕ) (s : Progress) where
   pub ran-opens : (x : Node) (rest : List Node) → s.stack ≡ x ∷ rest → s.count < max_count
@@ -44,7 +40,7 @@ ran_full (suc budget) s h = go (is_empty s.stack)
     go : (b : Bool)
         → (elim (not b && ltb s.count max_count) as (λ z. Progress) [ true ↦ ran budget (open_top s s.stack) | false ↦ s ]) ≡ s
     go true = refl
-    go false = rw (not-below s.count max_count h)
+    go false = rw (le-ltb s.count max_count h)
 
 -- "On a finished hunt it changes nothing."
 pub ran-finished : (budget : ℕ) (s : Progress) → finished s ≡ true → ran budget s ≡ s

@@ -2,3 +2,5 @@
 pub mod Turns
 -- what the loops over a word's bits keep
 pub mod Loops
+-- laws that no proof cites today
+mod Further

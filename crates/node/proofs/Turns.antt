@@ -10,8 +10,8 @@ use Rattle.lists.specs.Fill.{fit, fit-size, fit_at}
 use Rattle.integers.specs.Range.{InRange}
 use Rattle.graph.specs.declared.Graph.{Graph}
 use Rattle.graph.specs.declared.refusals.Refusal.{Refusal}
-use Rattle.graph.specs.Refusals.{number, positive}
-use Rattle.graph.specs.Limits.{max_edges, max_multiplier, max_step}
+use Rattle.graph.specs.Refusals.{number, not-zero}
+use Rattle.graph.specs.Limits.{max_vertices, max_edges, max_multiplier, max_step}
 use Rattle.graph.specs.Network.{Network, network}
 use Rattle.graph.specs.Valid.{Valid}
 use Rattle.tree_theory.specs.Scaled.{scaled_by}
@@ -113,6 +113,7 @@ module _ (den : ℕ) (g : Graph) (valid : Valid g) (step : ℕ) (upper : ℤ) (o
 pub record Turned (g : Graph) (first : List ℤ) (settings : Settings) (left : ℕ) (d : List ℤ) (w degrees : List ℕ) (live : ℕ) : Type 0 where
   pub fine : fault (taken g first settings) ≡ 0
   pub some : 1 ≤ g.n
+  pub high : g.n ≤ max_vertices
   pub step : settings.step ≤ max_step
   pub ranged : (i : ℕ) → i < g.n → InRange max_multiplier (get_or d i (pos 0))
   pub last : left ≡ 0 → Pending g.m (outcome (taken g first settings)) w (places (fit g.n (pos 0) d))
@@ -131,7 +132,7 @@ module _ (g : Graph) (first : List ℤ) (settings : Settings) (padded : Padded g
   pub at_refused : (r : Refusal) (w : List ℕ) → VerdictIs (taken now d settings) (Err r) w → fault (taken g first settings) ≡ number r
   at_refused r w h =
       let v = verdict_at (Err r) w h in
-      turn_refused g first settings padded left now.mark d s (number r) v.0 (λ z. omega (arith, positive r, z))
+      turn_refused g first settings padded left now.mark d s (number r) v.0 (not-zero r)
 
   accepted : fault (taken (with_bytes g now.mark) d settings) ≡ 0
       → (fault (taken g first settings) ≡ 0) × AtPassOf g first settings left now.mark d
@@ -160,6 +161,7 @@ module _ (g : Graph) (first : List ℤ) (settings : Settings) (padded : Padded g
       record {
         fine = t.0;
         some = omega (arith, f.valid.low);
+        high = f.valid.high;
         step = f.step;
         ranged = λ i b.
             rw (← fit_at g.n (pos 0) d i b) (fit_ranged (fit g.n (pos 0) d) t.1.fits i (omega (arith, fit-size g.n (pos 0) d)));

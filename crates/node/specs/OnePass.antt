@@ -39,7 +39,8 @@ use Rattle.tours.specs.DegreeTest.{test_yes, test_no}
 use Rattle.node.specs.declared.passes.Verdict.{Verdict}
 use Rattle.node.specs.declared.passes.Verdict.TheVariants as verdict
 use Rattle.node.specs.Marks.{byte_of, bytes_of_tour, bytes_of}
-use Rattle.node.specs.Counting.{DegreesTo, degree_all, AllTwo, all_two, two-each}
+use Rattle.tours.specs.Counted.{DegreesTo, degree_all}
+use Rattle.node.specs.Counting.{AllTwo, all_two, two-each}
 use Rattle.node.specs.Marking.{mark_byte, mark_ruling}
 
 -- ---- what the code of a pass shows

@@ -2,7 +2,7 @@
 -- that are left packed into words, and the two nodes of a split, of one bit more each.
 use Rattle.std.specs.Prelude.{◌≡◌, refl, ◌≢◌, Bool, true, false, not, cond, ◌||◌, List, eqb, ℤ, length, set, replicate}
 use Rattle.std.proofs.Common.{sym, ap, ap₂, ◌∙◌, subst, true≢false, arith, length-set, pow_mono, pow_pos, get_or-set_same, get_or-set_other}
-use Prim.Native.Nat.{ℕ, suc, ◌+◌, ◌-◌, ◌*◌, ◌/◌, ◌%◌, ◌^◌, ◌≤◌, ◌<◌, min}
+use Prim.Native.Nat.{ℕ, zero, suc, ◌+◌, ◌-◌, ◌*◌, ◌/◌, ◌%◌, ◌^◌, ◌≤◌, ◌<◌, min}
 use Rattle.std.proofs.Math.Nat.{pow-succ'}
 use Rattle.std.proofs.Math.Decide.{dec_le, ℕ_discrete}
 use Rattle.std.specs.Int.Bits.{bit_and, bit_or}
@@ -11,11 +11,14 @@ use Rattle.std.specs.Int.Count.{count_trailing_zeros}
 use Rattle.std.proofs.Math.ListN.{get_or, get_or-eq_default}
 use borrow.Author.Tests.{lt-ltb, le-ltb}
 use Rattle.lists.specs.Bools.{bit}
+use Rattle.lists.specs.Fill.{replicate-at}
 use Rattle.lists.specs.Filling.{Filling}
 use Rattle.bits.specs.Digits.{bit_of, bit_past, zero_bit}
 use Rattle.bits.specs.Words.{or-bit, set-or, power_here, power_there, others-bit}
+use Rattle.graph.specs.declared.Graph.{Graph}
 use Rattle.graph.specs.Limits.{max_edges}
 use Rattle.graph.specs.Network.{Mark, free, required, excluded}
+use Rattle.graph.specs.Valid.{Valid}
 use Rattle.tree_theory.specs.OneTree.{Edges}
 use Rattle.tree_theory.specs.Valid.{is_required, is_excluded}
 use Rattle.machine.specs.Outcomes.{closes}
@@ -24,34 +27,37 @@ use Rattle.machine.specs.Branching.{free_is, first_is}
 use Rattle.mark_rows.specs.MarkRows.{row_words, node_words, mark_at, mark_bits, rows_of, marks_in_rows}
 use Rattle.mark_rows.specs.SixWords.{marks-length, mark_bits_lem, rows_is}
 use Rattle.mark_rows.proofs.SixWords.{rows_required, rows_excluded}
-use Rattle.compaction.specs.Ranks.{rank}
+use Rattle.compaction.specs.Ranks.{rank, rank_yes}
 use Rattle.node.specs.declared.Fate.TheVariants as fate
-use Rattle.node.specs.Marks.{byte_of, bytes_of, bytes-at}
-use Rattle.node.specs.Opened.{comes_to, opened_as, places, kept}
+use Rattle.node.specs.Marks.{byte_of, bytes_of, bytes-at, byte_mark, marks_in, marks-size, marks-at}
+use Rattle.node.specs.Opened.{comes_to, opened_as, places, no_rows, kept}
 use Rattle.node.specs.Compacting.{Listed, listed_none, listed_at, old, listed-old}
 use Rattle.node.specs.Expanding.{expanded_at}
 use Rattle.node.specs.Walking.{cut, Masked, Walk, walk_first, walk_more, last_clear, power, in_word, from, within, met, between}
 
 -- ---- words of edges by a test
 
--- the bits of word w that belong to m edges
+-- the bits that belong to m edges, of a word whose first edge stands at place low; and of word w
+abbrev pub full_from : ℕ → ℕ → ℕ
+full_from m low = 2 ^ min 64 (m - low) - 1
+
 abbrev pub full_of : ℕ → ℕ → ℕ
-full_of m w = 2 ^ min 64 (m - 64 * w) - 1
+full_of m w = full_from m (64 * w)
 
-pub full_none : (m w : ℕ) → m ≤ 64 * w → 0 ≡ full_of m w
-full_none m w h = let e : min 64 (m - 64 * w) ≡ 0 = omega arith in ap (λ (n : ℕ). 2 ^ n - 1) (sym e)
+pub full_none : (m low : ℕ) → m ≤ low → 0 ≡ full_from m low
+full_none m low h = let e : min 64 (m - low) ≡ 0 = omega arith in ap (λ (n : ℕ). 2 ^ n - 1) (sym e)
 
-pub full_all : (m w : ℕ) → 64 ≤ m - 64 * w → 18446744073709551615 ≡ full_of m w
-full_all m w h = let e : min 64 (m - 64 * w) ≡ 64 = omega arith in ap (λ (n : ℕ). 2 ^ n - 1) (sym e)
+pub full_all : (m low : ℕ) → 64 ≤ m - low → 18446744073709551615 ≡ full_from m low
+full_all m low h = let e : min 64 (m - low) ≡ 64 = omega arith in ap (λ (n : ℕ). 2 ^ n - 1) (sym e)
 
 -- a power of two as code shifts it
 pub shifted : (n : ℕ) → n < 64 → (1 * 2 ^ n) % 18446744073709551616 ≡ 2 ^ n
 shifted n h = omega (arith, pow-succ' 2 n, pow_pos n, pow_mono {i = suc n} {j = 64} h)
 
-pub full_some : (m w : ℕ) → m - 64 * w < 64 → (1 * 2 ^ (m - 64 * w)) % 18446744073709551616 - 1 ≡ full_of m w
-full_some m w h =
-    let e : min 64 (m - 64 * w) ≡ m - 64 * w = omega arith in
-    ap (λ (n : ℕ). n - 1) (shifted (m - 64 * w) h) ∙ ap (λ (n : ℕ). 2 ^ n - 1) (sym e)
+pub full_some : (m low : ℕ) → m - low < 64 → (1 * 2 ^ (m - low)) % 18446744073709551616 - 1 ≡ full_from m low
+full_some m low h =
+    let e : min 64 (m - low) ≡ m - low = omega arith in
+    ap (λ (n : ℕ). n - 1) (shifted (m - low) h) ∙ ap (λ (n : ℕ). 2 ^ n - 1) (sym e)
 
 -- those of the edges that x has not
 pub masked_others : (c : Edges) (x m w : ℕ) → ((j : ℕ) → j < 64 → 64 * w + j < m → not (bit_of x j) ≡ c (suc (64 * w + j)))
@@ -277,6 +283,30 @@ packed_rows m new l y long same p =
         (p.word w a).off j b h ∙ ap (λ (k : ℕ). eqb k 2) (same (64 * w + j) h) ∙ byte_excluded (get_or y (64 * w + j) free)
     off w j a b (no h) = (p.word w a).past₂ j (omega arith) ∙ sym (ap is_excluded (past (64 * w + j) (omega arith)))
 
+-- the byte of an edge that is left
+pub new-left : (m : ℕ) (rows marks : List ℕ) (k f : ℕ) → kept_in m rows (suc k) ≡ true → f ≡ rank (kept_in m rows) k
+    → new_byte m rows marks k ≡ get_or marks f 0
+new-left m rows marks k f y e = rw (y, e)
+
+-- AND OF A GRAPH'S OWN MARKS, packed where no edge is excluded before
+rank_all : (c : Edges) (m k : ℕ) → ((i : ℕ) → i < m → c (suc i) ≡ true) → k ≤ m → rank c k ≡ k
+unfolding rank
+rank_all c m zero h l = refl
+rank_all c m (suc k) h l = omega (arith, rank_yes c k (h k (omega arith)), rank_all c m k h (omega arith))
+
+pub own_rows : (g : Graph) → Valid g → (l : List ℕ) → Packed g.m (new_byte g.m no_rows g.mark) row_words l → l ≡ rows_of (marks_in g.m g.mark)
+own_rows g v l p =
+    packed_rows g.m (new_byte g.m no_rows g.mark) l (marks_in g.m g.mark) (marks-size g.m g.mark)
+    (λ k h. new-left g.m no_rows g.mark k k (all k h) (sym (rank_all (kept_in g.m no_rows) g.m k all (omega arith)))
+    ∙ sym (byte_mark (get_or g.mark k 0) (v.each k h).known)
+    ∙ ap byte_of (sym (marks-at g.m g.mark k h))) p
+  where
+    all : (i : ℕ) → i < g.m → kept_in g.m no_rows (suc i) ≡ true
+    all i h =
+        kept-bit g.m no_rows v.few i h
+        ∙ ap (λ (x : ℕ). not (bit_of x (i % 64))) (replicate-at node_words 0 (row_words + i / 64))
+        ∙ ap not (zero_bit (i % 64))
+
 -- ---- the loop that packs a word
 
 or_none : (b : Bool) → b || false ≡ b
@@ -433,11 +463,6 @@ pub packing_as : (c : Edges) (m w : ℕ) (new : ℕ → ℕ) (upto r q a b x y :
 packing_as c m w new upto r q a b x y e h p =
     subst (λ (i : ℕ). Packing c m w new upto (bit_or r i) (bit_or q y)) (sym e)
     (subst (λ (i : ℕ). Packing c m w new upto (bit_or r a) (bit_or q i)) (sym h) p)
-
--- the byte of an edge that is left
-pub new-left : (m : ℕ) (rows marks : List ℕ) (k f : ℕ) → kept_in m rows (suc k) ≡ true → f ≡ rank (kept_in m rows) k
-    → new_byte m rows marks k ≡ get_or marks f 0
-new-left m rows marks k f y e = rw (y, e)
 
 pub new_gone : (m : ℕ) (rows marks : List ℕ) (k : ℕ) → kept_in m rows (suc k) ≡ false → new_byte m rows marks k ≡ 2
 new_gone m rows marks k y = rw y

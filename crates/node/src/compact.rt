@@ -1,16 +1,17 @@
 // The edges that a node does not exclude, moved together, and bytes for them made bytes for all edges again.
 ghost use Rattle.std.specs.Prelude.{◌≡◌, ℕ, ◌≤◌, ◌<◌, pos, get_or, replicate};
+ghost use Rattle.graph.specs.Edgeless.{edgeless};
 ghost use Rattle.graph.specs.Limits.{max_edges};
 ghost use Rattle.node.specs.Opened.{left, marked};
 ghost use Rattle.node.specs.Compacting.{Listed, Gathered};
 ghost use Rattle.node.specs.Expanding.{Places, Placed};
 ghost use Rattle.node.specs.Words.{kept_in};
 
-use crate::NODE_WORDS;
-use crate::rows::list_left;
+use crate::rows::Rows;
 use graph::{Graph, MAX_EDGES};
 
-// The ends and costs of the edges at the places that are listed, as many as `left` has edges, into its blank arrays.
+// The ends and costs of the edges at the places that are listed, as many as `left` has edges, into its blank arrays. By number, here and below: place,
+// ends, cost and mark of the edge that is j-th among those left stand j-th in arrays of one length, and `left.m` counts them all.
 fn gather(place: &[u8; MAX_EDGES], g: &Graph, left: &mut Graph)
     requires few { left.old.m ≤ max_edges }
     requires places { (j : ℕ) → j < left.old.m → get_or place.now j 0 < max_edges }
@@ -30,21 +31,22 @@ fn gather(place: &[u8; MAX_EDGES], g: &Graph, left: &mut Graph)
 // The graph of the edges that the node with these words does not exclude, with its marks, and the place of each among all edges.
 pub(crate) fn without_excluded(
     g: &Graph,
-    rows: &[u64; NODE_WORDS],
+    rows: &Rows,
     place: &mut [u8; MAX_EDGES],
-) -> Graph
-    requires { g.now.m ≤ max_edges }
-    ensures graph { result ≡ left (marked g.now rows.now) }
-    ensures listed { Listed (kept_in g.now.m rows.now) g.now.m place.new }
+    into: &mut Graph,
+)
+    requires same { rows.now.m ≡ g.now.m }
+    requires blank { into.old ≡ edgeless g.now.n }
+    ensures graph { into.new ≡ left (marked g.now rows.now.words.now) }
+    ensures listed { Listed (kept_in g.now.m rows.now.words.now) g.now.m place.new }
 {
-    let mut left = Graph::edgeless(g.n);
-    let f = list_left(usize::from(g.m), rows, place, &mut left.mark);
-    left.m = f as u8;
-    gather(place, g, &mut left);
-    left
+    let f = rows.list_left(place, &mut into.mark);
+    into.m = f as u8;
+    gather(place, g, into);
 }
 
 // Bytes for all edges, from the marks of the edges that are left; zero for the others.
+#[tactic(auto, using(crate::specs::Expanding::placed_none, crate::specs::Expanding::placed_more, crate::specs::Expanding::placed_to))]
 pub(crate) fn expand(place: &[u8; MAX_EDGES], left: &Graph, tour: &mut [u8; MAX_EDGES])
     requires { Places left.now.m place.now }
     ensures { Placed left.now.m place.now left.now.mark (replicate max_edges 0) tour.new }

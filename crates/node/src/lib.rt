@@ -1,9 +1,11 @@
 // The opening of a node: document 01's passes, made on the edges that the node does not exclude. One call, `open`.
 #![tactic(auto)]
 
-ghost use Rattle.std.specs.Prelude.{◌≡◌, replicate};
-ghost use Rattle.graph.specs.Limits.{max_edges};
-ghost use Rattle.node.specs.Opened.{no_rows, no_multipliers, marked, taken, opened, opens};
+ghost use Rattle.std.specs.Prelude.{◌≡◌, ◌≤◌, length, replicate};
+ghost use Rattle.graph.specs.Limits.{max_vertices, max_edges};
+ghost use Rattle.graph.specs.Refusals.{fault_of};
+ghost use Rattle.node.specs.Faults.{settings_fault};
+ghost use Rattle.node.specs.Opened.{no_rows, no_multipliers, places, marked, taken, opened, opens};
 
 mod compact;
 mod passes;
@@ -12,17 +14,45 @@ mod rows;
 use compact::{expand, without_excluded};
 use graph::{Graph, MAX_EDGES, MAX_VERTICES, Refusal};
 use machine::Settings;
+use onetree::PassLists;
 use passes::{Ending, open_left};
-use rows::{close, pack, split};
+pub use rows::rows_of;
+use rows::{Rows, close, split};
 
 // Limits, as specs/Limits.antt of crate graph has them.
 pub const MAX_SWEEPS: u32 = 15;
 
 pub const MAX_STEP: u32 = 10_000;
 
-// The words of a node's marks: three for its required edges, then three for its excluded ones. Edge k is bit (k − 1) % 64 of word
-// (k − 1) / 64 of its row. One array, as the stack of a search stores them.
-pub const NODE_WORDS: usize = 6;
+// Refusal 14 where the sweeps or the step are above their limits.
+// Ruled out: 14 at either limit; none where the step alone is above its own.
+pub fn settings_fault(settings: Settings) -> Result<(), Refusal>
+    ensures { fault_of result ≡ settings_fault settings.sweeps settings.step }
+{
+    if settings.sweeps > MAX_SWEEPS || settings.step > MAX_STEP {
+        return Err(Refusal::Settings);
+    }
+    Ok(())
+}
+
+// The bits of a word, the words of a row, and those of a node's marks: a row for its required edges, then one for its excluded ones. Edge k is
+// bit (k − 1) % 64 of word (k − 1) / 64 of its row. One array, as the stack of a search stores them.
+pub const WORD_BITS: usize = 64;
+
+pub const ROW_WORDS: usize = 3;
+
+pub const NODE_WORDS: usize = 2 * ROW_WORDS;
+
+// Multipliers in an array's places, as many as it has, then zeros.
+// Ruled out: a multiplier left out, or one that another follows past the last.
+pub fn padded(multipliers: &[i32]) -> [i32; MAX_VERTICES]
+    ensures { result ≡ places multipliers.now }
+{
+    let n = multipliers.len().min(MAX_VERTICES);
+    let mut r = [0; MAX_VERTICES];
+    r[..n].copy_from_slice(&multipliers[..n]);
+    r
+}
 
 // A node's marks in `rows`, and what its opening leaves: of the two nodes of a split, the lower one in `rows`, with the edge excluded, and
 // the upper one in `top`, with the edge required; a found tour in `tour`, a byte for each edge; and in `last` the multipliers of both nodes,
@@ -60,7 +90,8 @@ pub enum Fate {
 
 // The node with the marks in `rows` is opened, on the graph of its edges that are not excluded: they are listed from the words, the loops of a
 // pass go over them alone, and what they come to is packed into words again. The graph's own marks count for nothing, and words that make no
-// marks are read as marks all the same. The ceiling of the settings is the upper bound.
+// marks are read as marks all the same. The ceiling of the settings is the upper bound. `lists` are for the passes to work in: whatever they
+// hold, the answers are the same, so a search makes them once for all its nodes.
 // Ruled out: an edge that the node excludes, and that a node below it does not; multipliers that gain after the last pass; a byte written
 // where the node is refused.
 pub fn open(
@@ -68,17 +99,23 @@ pub fn open(
     multipliers: &[i32; MAX_VERTICES],
     settings: Settings,
     node: &mut Workspace,
+    lists: &mut PassLists,
 ) -> Result<Fate, Refusal>
     ensures { opened result node.new
         ≡ opens (taken (marked g.now node.old.rows) multipliers.now settings) node.old }
 {
     let m = usize::from(g.m);
-    if usize::from(g.n) > MAX_VERTICES || m > MAX_EDGES {
+    if m > MAX_EDGES {
         return Err(Refusal::Graph);
     }
     let mut place = [0u8; MAX_EDGES];
-    let mut left = without_excluded(g, &node.rows, &mut place);
-    match open_left(&mut left, multipliers, settings, &mut node.last)? {
+    let mut left = Graph::edgeless(g.n);
+    let rows = Rows {
+        words: &node.rows,
+        m,
+    };
+    without_excluded(g, &rows, &mut place, &mut left);
+    match open_left(&mut left, multipliers, settings, &mut node.last, lists)? {
         Ending::Shut => Ok(close(node)),
         Ending::Found => {
             *node = Workspace::blank();
@@ -86,7 +123,7 @@ pub fn open(
             Ok(Fate::Finds)
         }
         Ending::Unclosed => {
-            pack(m, &left.mark, &mut node.rows);
+            node.rows = rows.pack(&left.mark);
             Ok(split(m, node))
         }
     }

@@ -1,35 +1,34 @@
 // The passes of a node. Arrays of an edge's byte have 190 places, zero past m.
-ghost use Rattle.std.specs.Prelude.{◌≡◌, ◌↔◌, IsTrue, ℕ, ◌<◌, ◌≤◌, get_or, pos, ◌+ℤ◌};
+ghost use Rattle.std.specs.Prelude.{◌≡◌, ◌↔◌, All, IsTrue, ℕ, ◌<◌, ◌≤◌, get_or, pos, ◌+ℤ◌};
 ghost use Rattle.lists.specs.Fill.{fit};
 ghost use Rattle.lists.specs.Filling.{Filling};
 ghost use Rattle.integers.specs.Range.{InRange, clamp};
-ghost use Rattle.graph.specs.Refusals.{number, fault_of};
+ghost use Rattle.graph.specs.Refusals.{number};
+ghost use Rattle.graph.specs.Valid.{Valid};
+ghost use Rattle.tours.specs.Counted.{DegreesTo};
 ghost use Rattle.graph.specs.Limits.{max_vertices, max_edges, max_multiplier, max_step};
-ghost use Rattle.node.specs.Marks.{marks_in, bytes_of, with_bytes, Padded};
+ghost use Rattle.onetree.specs.Answers.{byte_of, ruling_bytes};
+ghost use Rattle.node.specs.Marks.{with_bytes, Padded};
 ghost use Rattle.node.specs.Opened.{places, taken};
-ghost use Rattle.node.specs.Faults.{settings_fault, lastly};
-ghost use Rattle.node.specs.Counting.{Ends, DegreesTo, AllTwo};
+ghost use Rattle.node.specs.Faults.{lastly};
 ghost use Rattle.node.specs.Gains.{gain_of, max_gain, GainsTo};
 ghost use Rattle.node.specs.Marking.{mark_byte};
 ghost use Rattle.node.specs.OnePass.{VerdictIs};
 ghost use Rattle.node.specs.Passing.{TreeIs};
 ghost use Rattle.node.specs.Refusing.{EndsAs};
 
-use crate::{MAX_STEP, MAX_SWEEPS};
-use graph::{Graph, MAX_EDGES, MAX_VERTICES, Refusal};
+use crate::{padded, settings_fault};
+use graph::{Graph, MAX_EDGES, MAX_VERTICES, Refusal, VERTEX_PLACES};
 use machine::Settings;
 use onetree::{Found, MAX_MULTIPLIER, PassLists, Ruling};
 
-// A place for each vertex, counted from 1, and one for 0.
-const PLACES: usize = MAX_VERTICES + 1;
-
-// The degree of each vertex in the edges that are in, vertex v's at place v: one loop over the edges.
-fn count_degrees(g: &Graph, tree: &[u8; MAX_EDGES]) -> [u8; PLACES]
-    requires few { g.now.m ≤ max_edges }
-    requires ends { (k : ℕ) → k < g.now.m → Ends g.now k }
+// The degree of each vertex in the edges that are in, vertex v's at place v. By number, here and in the loops below: what an edge or a vertex has
+// stands in several arrays, as C lays a graph out.
+fn count_degrees(g: &Graph, tree: &[u8; MAX_EDGES]) -> [u8; VERTEX_PLACES]
+    requires { Valid g.now }
     ensures { DegreesTo g.now.m g.now tree.now result }
 {
-    let mut degrees = [0u8; PLACES];
+    let mut degrees = [0u8; VERTEX_PLACES];
     for k in 0..usize::from(g.m) {
         if tree[k] == 1 {
             degrees[usize::from(g.a[k])] += 1;
@@ -40,11 +39,10 @@ fn count_degrees(g: &Graph, tree: &[u8; MAX_EDGES]) -> [u8; PLACES]
 }
 
 // Is every degree 2? A 1-tree is then a tour.
-fn two_each(degrees: &[u8; PLACES], n: usize) -> bool
-    requires { n ≤ max_vertices }
-    ensures { IsTrue result ↔ AllTwo degrees.now n }
+fn two_each(degrees: &[u8]) -> bool
+    ensures { IsTrue result ↔ All (λ (d : ℕ). d ≡ 2) degrees.now }
 {
-    degrees[1..=n].iter().all(|&degree| degree == 2)
+    degrees.iter().all(|&degree| degree == 2)
 }
 
 // What a vertex of this degree gains.
@@ -65,8 +63,8 @@ fn gained(x: i32, gain: i32) -> i32
     (x + gain).clamp(-MAX_MULTIPLIER, MAX_MULTIPLIER)
 }
 
-// The next multipliers of n vertices: vertex 1 keeps its own.
-fn gains(degrees: &[u8; PLACES], n: usize, step: u32, d: &mut [i32; MAX_VERTICES])
+// The next multipliers of n vertices: vertex 1 keeps its own. By number, as `apply`.
+fn gains(degrees: &[u8; VERTEX_PLACES], n: usize, step: u32, d: &mut [i32; MAX_VERTICES])
     requires some { 1 ≤ n }
     requires few { n ≤ max_vertices }
     requires step { step ≤ max_step }
@@ -79,45 +77,29 @@ fn gains(degrees: &[u8; PLACES], n: usize, step: u32, d: &mut [i32; MAX_VERTICES
 }
 
 // The mark of an edge once its ruling is applied: keep, force and bar have the numbers of free, required and excluded, and what an edge was
-// before has its mark's number two higher. Bytes, as the lists that a pass is lent and a graph's marks are.
-fn mark_by(ruling: u8) -> u8
-    ensures { result ≡ mark_byte ruling }
+// before has its mark's number two higher. By the numbers, many edges at a time: a match takes four times as many instructions for 190 edges.
+fn mark_by(ruling: Ruling) -> u8
+    ensures { result ≡ mark_byte (byte_of ruling) }
 {
-    if ruling > Ruling::Bar as u8 {
-        ruling - Ruling::Bar as u8
+    let byte = u8::from(ruling);
+    if byte > Ruling::Bar as u8 {
+        byte - Ruling::Bar as u8
     } else {
-        ruling
+        byte
     }
 }
 
-// The marks of m edges, once the rulings are applied; zero past them before and after.
-fn apply(rulings: &[u8; MAX_EDGES], m: usize, marks: &mut [u8; MAX_EDGES])
-    requires few { m ≤ max_edges }
-    requires of_marks { marks.old ≡ bytes_of (marks_in m marks.old) }
-    ensures { Filling 0 max_edges m (λ k. mark_byte (get_or rulings.now k 0)) marks.new }
+// The marks of the edges, once the rulings are applied; zero past them before and after. By number: `iter_mut` with `zip` was tried, and after such
+// a loop nothing is known of the marks.
+fn apply(rulings: &[Ruling; MAX_EDGES], g: &mut Graph)
+    requires valid { Valid g.old }
+    requires padded { Padded g.old.m g.old.mark }
+    ensures marks { Filling 0 max_edges g.old.m (λ k. mark_byte (get_or (ruling_bytes rulings.now) k 0)) g.new.mark }
+    ensures marks_alone { g.new ≡ with_bytes g.old g.new.mark }
 {
-    for k in 0..m {
-        marks[k] = mark_by(rulings[k]);
+    for k in 0..usize::from(g.m) {
+        g.mark[k] = mark_by(rulings[k]);
     }
-}
-
-// The multipliers of n vertices, then zeros.
-fn hand_on(d: &[i32; MAX_VERTICES], n: usize, last: &mut [i32; MAX_VERTICES])
-    requires { n ≤ max_vertices }
-    ensures { last.new ≡ places (fit n (pos 0) d.now) }
-{
-    *last = [0; MAX_VERTICES];
-    last[..n].copy_from_slice(&d[..n]);
-}
-
-// Are sweeps and step in range?
-fn settings_fault(settings: Settings) -> Result<(), Refusal>
-    ensures { fault_of result ≡ settings_fault settings.sweeps settings.step }
-{
-    if settings.sweeps > MAX_SWEEPS || settings.step > MAX_STEP {
-        return Err(Refusal::Settings);
-    }
-    Ok(())
 }
 
 // What the tree part refuses comes first, but the denominator after the settings.
@@ -130,7 +112,8 @@ fn lastly(refusal: Refusal, settings: Settings) -> Refusal
     }
 }
 
-// The least 1-tree within the ceiling, and its rulings, or that there is none: one call of the tree part. The hint is for the tree part alone.
+// The least 1-tree within the ceiling, and its rulings, or that there is none: one call of the tree part, which refuses a graph of more vertices
+// than there are places. The hint is for the tree part alone.
 fn ask(
     g: &Graph,
     d: &[i32; MAX_VERTICES],
@@ -138,12 +121,11 @@ fn ask(
     hint: &[u8],
     lists: &mut PassLists,
 ) -> Result<Option<Found>, Refusal>
-    requires { g.now.n ≤ max_vertices }
-    ensures { TreeIs (taken g.now d.now settings) result lists.new.least.tree lists.new.rulings }
+    ensures { TreeIs (taken g.now d.now settings) result lists.new.least.tree (ruling_bytes lists.new.rulings) }
 {
     let answer = onetree::pass(
         g,
-        &d[..usize::from(g.n)],
+        &d[..usize::from(g.n).min(MAX_VERTICES)],
         settings.ceiling,
         settings.denominator,
         hint,
@@ -163,10 +145,14 @@ fn ask(
 pub(crate) enum Verdict {
     Shut,
     Found,
-    Ruled(usize, [u8; PLACES]),
+    Ruled {
+        live: usize,
+        degrees: [u8; VERTEX_PLACES],
+    },
 }
 
-// One pass on the graph's marks, which then are the tour or the marks after the rulings.
+// One pass on the graph's marks, which then are the tour or the marks after the rulings. Graph, multipliers and settings are no struct: the marks
+// are written, the multipliers read, the settings copied, and a contract about a struct of them would have to say of each what it keeps.
 fn judge(
     g: &mut Graph,
     d: &[i32; MAX_VERTICES],
@@ -174,9 +160,7 @@ fn judge(
     hint: &[u8],
     lists: &mut PassLists,
 ) -> Result<Verdict, Refusal>
-    requires vertices { g.old.n ≤ max_vertices }
-    requires edges { g.old.m ≤ max_edges }
-    requires padded { Padded g.old.m g.old.mark }
+    requires { Padded g.old.m g.old.mark }
     ensures verdict { VerdictIs (taken g.old d.now settings) result g.new.mark }
     ensures marks_alone { g.new ≡ with_bytes g.old g.new.mark }
 {
@@ -184,12 +168,15 @@ fn judge(
         return Ok(Verdict::Shut);
     };
     let degrees = count_degrees(g, &lists.least.tree);
-    if two_each(&degrees, usize::from(g.n)) {
+    if two_each(&degrees[1..=usize::from(g.n)]) {
         g.mark = lists.least.tree;
         return Ok(Verdict::Found);
     }
-    apply(&lists.rulings, usize::from(g.m), &mut g.mark);
-    Ok(Verdict::Ruled(found.live, degrees))
+    apply(&lists.rulings, g);
+    Ok(Verdict::Ruled {
+        live: found.live,
+        degrees,
+    })
 }
 
 // What the passes of a node come to: it is shut; a tour is found; or it is unclosed after the last of them.
@@ -201,29 +188,31 @@ pub(crate) enum Ending {
 }
 
 // The passes of the node with the graph's marks, on all edges given: 0 to `sweeps`, from the node's multipliers on. Then the graph's marks are
-// the tour that is found, or the marks after the last pass, of which `last` gets the multipliers.
+// the tour that is found, or the marks after the last pass, of which `last` gets the multipliers. The hint is the tree part's order, as an array, and
+// `live`, how much of it counts: both as the tree part hands them on.
 pub(crate) fn open_left(
     g: &mut Graph,
     multipliers: &[i32; MAX_VERTICES],
     settings: Settings,
     last: &mut [i32; MAX_VERTICES],
+    lists: &mut PassLists,
 ) -> Result<Ending, Refusal>
-    requires vertices { g.old.n ≤ max_vertices }
-    requires edges { g.old.m ≤ max_edges }
-    requires padded { Padded g.old.m g.old.mark }
+    requires { Padded g.old.m g.old.mark }
     ensures ending { EndsAs (taken g.old multipliers.now settings) result g.new.mark last.old last.new }
     ensures marks_alone { g.new ≡ with_bytes g.old g.new.mark }
 {
-    let n = usize::from(g.n);
+    let n = usize::from(g.n).min(MAX_VERTICES);
     let mut d = *multipliers;
-    let mut lists = PassLists::blank();
     let mut hint = [0u8; MAX_EDGES];
     let mut live = 0;
     for left in (0..=settings.sweeps).rev() {
-        match judge(g, &d, settings, &hint[..live], &mut lists)? {
+        match judge(g, &d, settings, &hint[..live], lists)? {
             Verdict::Shut => return Ok(Ending::Shut),
             Verdict::Found => return Ok(Ending::Found),
-            Verdict::Ruled(next, degrees) => {
+            Verdict::Ruled {
+                live: next,
+                degrees,
+            } => {
                 if left > 0 {
                     gains(&degrees, n, settings.step, &mut d);
                     hint = lists.least.order;
@@ -232,6 +221,6 @@ pub(crate) fn open_left(
             }
         }
     }
-    hand_on(&d, n, last);
+    *last = padded(&d[..n]);
     Ok(Ending::Unclosed)
 }

@@ -1,1 +1,3 @@
 pub mod Cases
+-- laws of before
+pub mod Further

@@ -1,7 +1,7 @@
 -- What the tree call and the rule call answer, and what they leave in the lent list, for every input: refusals first, in document 01's
 -- order, then by the least 1-tree. Multipliers and bounds count in q-ths of a minute, ceilings in minutes (document 02, C-17). The contracts cite
 -- these. Definitions only.
-use Rattle.std.specs.Prelude.{◌≡◌, not, cond, List, ℕ, zero, suc, leb, length, ℤ, Option, None, Some, Result, Ok, Err}
+use Rattle.std.specs.Prelude.{◌≡◌, ◌≤◌, map, not, cond, List, ℕ, zero, suc, leb, length, replicate, ℤ, Option, None, Some, Result, Ok, Err}
 use Rattle.std.specs.Int.Signed.{lt_z}
 use Rattle.lists.specs.Bools.{bit}
 use Rattle.lists.specs.Rows.{row}
@@ -17,7 +17,12 @@ use Rattle.tree_theory.specs.Inputs.{multiplier, ceiling_fits, denominator_fault
 use Rattle.tree_theory.specs.Arrays.{blank}
 use Rattle.tree_theory.specs.Enumeration.{Tree, no_tree, a_tree, least_tree, Ruling, keeps, forces, bars, was_required, was_excluded, ruling}
 use Rattle.greedy.specs.declared.Found.{Found}
+use Rattle.greedy.specs.declared.Lists.{Lists}
 use Rattle.greedy.specs.Hint.{Hinted}
+use Rattle.greedy.specs.Least.{Weighed}
+use Rattle.onetree.specs.declared.rulings.NoRuling.{NoRuling}
+use Rattle.onetree.specs.declared.rulings.Ruling as code
+use Rattle.onetree.specs.declared.rulings.Ruling.TheVariants as variant
 
 -- ---- the answers' meaning
 
@@ -96,6 +101,25 @@ ruling_byte bars = 2
 ruling_byte was_required = 3
 ruling_byte was_excluded = 4
 
+-- the same of the code's rulings, of a list of them, and back
+abbrev pub byte_of : code.Ruling → ℕ
+byte_of variant.Keep = 0
+byte_of variant.Force = 1
+byte_of variant.Bar = 2
+byte_of variant.WasRequired = 3
+byte_of variant.WasExcluded = 4
+
+abbrev pub ruling_bytes : List code.Ruling → List ℕ
+ruling_bytes l = map byte_of l
+
+abbrev pub RulingOf : ℕ → Result code.Ruling NoRuling → Type 0
+RulingOf byte (Ok r) = (byte_of r ≡ byte)
+RulingOf byte (Err n) = (5 ≤ byte) × (n.0 ≡ byte)
+
+-- 'keep' at every place
+abbrev pub all_keep : List code.Ruling
+all_keep = replicate max_edges variant.Keep
+
 -- "the lent list is then unchanged. Otherwise it gives the bound, and one ruling per leg in a lent list"
 abbrev pub rule_writes : ℕ → ℤ → List ℕ → (ℕ → Ruling) → Tree → List ℕ
 rule_writes m ceiling out rulings no_tree = out
@@ -145,3 +169,8 @@ abbrev pub HintAfter : Result (Option Found) Refusal → List ℕ → ℕ → Li
 HintAfter (Err r) marks m out order = (order ≡ out)
 HintAfter (Ok None) marks m out order = (order ≡ blank)
 HintAfter (Ok (Some found)) marks m out order = Hinted marks m order found.live
+
+-- and in the charges and the labels: each edge's charge and each vertex's label, by whatever tree
+abbrev pub WeighedAfter : ℕ → Graph → List ℤ → Lists → Result (Option Found) Refusal → Lists → Type 0
+WeighedAfter q g d before (Err r) after = (after.charges ≡ before.charges) × (after.labels ≡ before.labels)
+WeighedAfter q g d before (Ok found) after = Weighed q g d after

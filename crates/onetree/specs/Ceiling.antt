@@ -1,28 +1,29 @@
 -- The least 1-tree against a ceiling: what is known once the rulings are worked out. Multipliers, bounds and the ceiling count in parts of a minute, by
 -- the denominator den. Assumes nothing.
-use Rattle.std.specs.Prelude.{◌≡◌, refl, true, false, not, cond, List, ℕ, suc, ◌<◌, ◌≤◌, length, get_or, ℤ, Option, None, Some, Result, Ok, Err}
-use Rattle.std.proofs.Common.{◌∙◌, sym, ap, subst}
+use Rattle.std.specs.Prelude.{◌≡◌, refl, Bool, true, false, not, cond, List, ℕ, suc, ◌<◌, ◌≤◌, length, get_or, ℤ, Option, None, Some, Result, Ok, Err}
+use Rattle.std.proofs.Common.{◌∙◌, sym, ap, subst, arith}
 use Rattle.std.specs.Int.Signed.{lt_z, mag}
 use Rattle.lists.specs.Bools.{bit}
 use Rattle.integers.specs.Parts.{up, dn}
 use Rattle.integers.specs.Multiples.{◌times◌}
+use Rattle.integers.specs.Range.{InRange, within, within_range}
 use Rattle.graph.specs.declared.Graph.{Graph}
 use Rattle.graph.specs.declared.refusals.Refusal.{Refusal}
 use Rattle.graph.specs.Refusals.{fault_of}
-use Rattle.graph.specs.Limits.{max_edges}
+use Rattle.graph.specs.Limits.{max_edges, max_ceiling, max_denominator}
 use Rattle.graph.specs.Network.{network}
 use Rattle.tree_theory.specs.OneTree.{Edges}
 use Rattle.tree_theory.specs.Scaled.{scaled_by}
-use Rattle.tree_theory.specs.Inputs.{multiplier, ceiling_fits, denominator_fault, or_else, input_fault}
-use Rattle.tree_theory.specs.Accepted.{else_test}
+use Rattle.tree_theory.specs.Inputs.{multiplier, ceiling_fits, denominator_fault}
+use Rattle.tree_theory.specs.Accepted.{passed, denominator_range}
 use Rattle.tree_theory.specs.Enumeration.{Tree, no_tree, a_tree, least_tree, ruling}
 use Rattle.tree_theory.specs.LeastTree.{tree_found, tree_missing}
-use Rattle.onetree.specs.Answers.{ruling_byte, rule_fault}
+use Rattle.onetree.specs.Answers.{ruling_byte, ruling_bytes, all_keep}
 use Rattle.tree_theory.specs.Arrays.{blank, bytes, in_edge}
 use Rattle.greedy.specs.Charged.{high_bound, low_bound, max_slack}
 use Rattle.greedy.specs.declared.Found.{Found}
 use Rattle.greedy.specs.declared.Lists.{Lists}
-use Rattle.greedy.specs.Least.{TreeFound, NoTree}
+use Rattle.greedy.specs.Least.{Weighed, TreeFound, NoTree}
 use Rattle.greedy.specs.Hint.{Hinted}
 use Rattle.onetree.specs.declared.PassLists.{PassLists}
 use Rattle.onetree.specs.TreeCall.{byte_is}
@@ -55,39 +56,57 @@ pub record NoneWithin (den : ℕ) (g : Graph) (d : List ℤ) (ceiling : ℤ) (af
   pub over : Over ceiling (least_tree (scaled_by den (network g)) (multiplier d))
   pub tree : after.least.tree ≡ blank
   pub order : after.least.order ≡ blank
-  pub rulings : after.rulings ≡ blank
+  pub rulings : after.rulings ≡ all_keep
 
--- what the lists are by the answer: a refusal leaves those of the answer and the hint as they were
+-- what the lists are by the answer: a refusal leaves them as they were
 abbrev pub AgainstCeiling : ℕ → Graph → List ℤ → ℤ → PassLists → Result (Option Found) Refusal → PassLists → Type 0
-AgainstCeiling den g d ceiling before (Err fault) after =
-    (after.least.tree ≡ before.least.tree) × (after.least.order ≡ before.least.order) × (after.rulings ≡ before.rulings)
-AgainstCeiling den g d ceiling before (Ok None) after = NoneWithin den g d ceiling after
+AgainstCeiling den g d ceiling before (Err fault) after = after ≡ before
+AgainstCeiling den g d ceiling before (Ok None) after = NoneWithin den g d ceiling after × Weighed den g d after.least
 AgainstCeiling den g d ceiling before (Ok (Some r)) after =
-    Within den g d ceiling r.bound after.least.tree after.rulings × Hinted g.mark g.m after.least.order r.live
+    Within den g d ceiling r.bound after.least.tree (ruling_bytes after.rulings) × Hinted g.mark g.m after.least.order r.live
+    × Weighed den g d after.least
 
--- and which answer it is; a ceiling in minutes is compared as that many times the denominator
-pub record RuledOrRefused (den : ℕ) (g : Graph) (d : List ℤ) (ceiling : ℤ) (lent : ℕ) (before : PassLists) (r : Result (Option Found) Refusal)
+-- and which answer it is, of a graph and multipliers without a fault; a ceiling in minutes is compared as that many times the denominator
+pub record RuledOrRefused (den : ℕ) (g : Graph) (d : List ℤ) (ceiling : ℤ) (before : PassLists) (r : Result (Option Found) Refusal)
     (after : PassLists) : Type 0 where
-  pub fault : fault_of r ≡ rule_fault g d ceiling den lent
+  pub fault : fault_of r ≡ cond (not (ceiling_fits ceiling)) 13 (denominator_fault den)
   pub leaves : AgainstCeiling den g d (den times ceiling) before r after
 
--- the fault of the ceiling comes before that of the denominator
-pub first_fault : (g : Graph) (d : List ℤ) (ceiling : ℤ) (den lent later : ℕ) → later ≡ cond (not (ceiling_fits ceiling)) 13 0
-    → input_fault g d lent (or_else later (denominator_fault den)) ≡ rule_fault g d ceiling den lent
-unfolding rule_fault
-first_fault g d ceiling den lent later e =
-    rw e (ap (input_fault g d lent) (else_test (ceiling_fits ceiling) 12 (denominator_fault den)))
+-- ---- the fault of the ceiling comes before that of the denominator
+
+pub ceiling_first : (ceiling : ℤ) (den n : ℕ) → n ≡ cond (not (ceiling_fits ceiling)) 13 0 → 1 ≤ n
+    → n ≡ cond (not (ceiling_fits ceiling)) 13 (denominator_fault den)
+ceiling_first ceiling den n h p = first (ceiling_fits ceiling) h
+  where
+    first : (t : Bool) → n ≡ cond (not t) 13 0 → n ≡ cond (not t) 13 (denominator_fault den)
+    first true e = absurd (omega arith)
+    first false e = e
+
+pub ceiling_next : (ceiling : ℤ) (den n : ℕ) → ◌≡◌ {A = ℕ} 0 (cond (not (ceiling_fits ceiling)) 13 0) → n ≡ denominator_fault den
+    → n ≡ cond (not (ceiling_fits ceiling)) 13 (denominator_fault den)
+ceiling_next ceiling den n h e = rw (passed (ceiling_fits ceiling) 13 0 (omega arith) (sym h)).0 e
+
+pub ceiling_ranges : (ceiling : ℤ) (den : ℕ) → ◌≡◌ {A = ℕ} 0 (cond (not (ceiling_fits ceiling)) 13 0) → 0 ≡ denominator_fault den
+    → InRange max_ceiling ceiling × (den ≤ max_denominator)
+unfolding ceiling_fits
+ceiling_ranges ceiling den h e =
+    (within_range max_ceiling ceiling (passed (within max_ceiling ceiling) 13 0 (omega arith) (sym h)).0, (denominator_range den (sym e)).1)
 
 -- ---- what was found, beside the ceiling
 
 pub ceiling_missing : (den : ℕ) (g : Graph) (d : List ℤ) (ceiling : ℤ) (found : Lists) → NoTree den g d found
-    → NoneWithin den g d ceiling (record { least = found; rulings = blank })
+    → NoneWithin den g d ceiling (record { least = found; rulings = all_keep })
 ceiling_missing den g d ceiling found n = record {
   over = rw (tree_missing (scaled_by den (network g)) (multiplier d) n.none) tt;
   tree = n.tree;
   order = n.order;
   rulings = refl;
 }
+
+-- charges and labels don't depend on the tree and the order
+pub weighed_blank : (den : ℕ) (g : Graph) (d : List ℤ) (found : Lists) → Weighed den g d found
+    → Weighed den g d (record found { tree = blank; order = blank })
+weighed_blank den g d found w = record { charged = w.charged; rest = w.rest; long = w.long; merges = w.merges }
 
 module _ (den : ℕ) (g : Graph) (d : List ℤ) (ceiling : ℤ) (r : Found) (found : Lists) (t : TreeFound den g d r found) where
   edges : (x : Edges) × (least_tree (scaled_by den (network g)) (multiplier d) ≡ a_tree r.bound x) ×
@@ -101,7 +120,7 @@ module _ (den : ℕ) (g : Graph) (d : List ℤ) (ceiling : ℤ) (r : Found) (fou
 
   -- the least one is above the ceiling
   pub ceiling_over : lt_z ceiling r.bound ≡ true
-      → NoneWithin den g d ceiling (record { least = record found { tree = blank; order = blank }; rulings = blank })
+      → NoneWithin den g d ceiling (record { least = record found { tree = blank; order = blank }; rulings = all_keep })
   ceiling_over l = record { over = rw edges.1 l; tree = refl; order = refl; rulings = refl }
 
   -- it is within it

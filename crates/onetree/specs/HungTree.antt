@@ -1,24 +1,36 @@
 -- The least 1-tree, hung, as the code has it: the queue has the labels below the root, and each edge above one its own place. Assumes nothing.
-use Rattle.std.specs.Prelude.{◌≡◌, List, ℕ, ◌≤◌, replicate}
+use Rattle.std.specs.Prelude.{◌≡◌, List, [], ℕ, ◌≤◌, length, replicate}
 use Rattle.std.proofs.Common.{arith}
 use Rattle.graph.specs.declared.Graph.{Graph}
 use Rattle.tree_theory.specs.Spans.{Spans}
 use Rattle.tree_theory.specs.Merges.{Merges}
 use Rattle.swaps.specs.TreeTable.{Ends, Lists}
-use Rattle.swaps.specs.Visiting.{Rooting, Rows, Hung, Complete, Lined}
+use Rattle.swaps.specs.Visiting.{Rooting, rooting, Rows, Hung, Complete, Lined}
 use Rattle.swaps.specs.RootedTree as tree
 use Rattle.swaps.specs.RootedTree.{Labelled, RootedIn, two_ends, walkable}
 use Rattle.swaps.specs.Swaps.{Below}
+use Rattle.onetree.specs.declared.rooted.Rooting as code
 use Rattle.onetree.specs.Candidates.{BelowRoot, queue_below, below_queue}
 use Rattle.onetree.specs.Forcing.{OneEach, one_each_as}
 use Rattle.onetree.specs.Ruled.{one_each}
 
+-- the tree that the code's arrays are
+abbrev pub rooting_of : code.Rooting → Rooting
+rooting_of h = rooting h.parent h.depth h.edge
+
+-- its labels in the order of hanging, and how many they are
+abbrev pub queue_of : code.Rooting → List ℕ
+queue_of h = h.queue.items
+
+abbrev pub count_of : code.Rooting → ℕ
+count_of h = length h.queue.items
+
 -- nothing hangs yet
-pub record Unhung (p d e q : List ℕ) : Type 0 where
-  pub parent : p ≡ replicate 21 0
-  pub depth : d ≡ replicate 21 0
-  pub edge : e ≡ replicate 21 0
-  pub queue : q ≡ replicate 21 0
+pub record Unhung (h : code.Rooting) : Type 0 where
+  pub parent : h.parent ≡ replicate 21 0
+  pub depth : h.depth ≡ replicate 21 0
+  pub edge : h.edge ≡ replicate 21 0
+  pub queue : h.queue.items ≡ []
 
 pub record HungTree (g : Graph) (w rep : List ℕ) (r : Rooting) (queue : List ℕ) (count : ℕ) : Type 0 where
   pub rooted : RootedIn g w rep r

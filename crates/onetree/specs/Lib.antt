@@ -9,6 +9,7 @@ pub mod Forcing
 pub mod Ruled
 -- the least 1-tree, hung
 pub mod HungTree
+pub mod ReadyToJudge
 -- the calls, case by case
 pub mod TreeCall
 pub mod Ceiling

@@ -13,11 +13,12 @@ use Rattle.graph.specs.Limits.{max_edges, max_ceiling, max_denominator}
 use Rattle.graph.specs.Network.{network}
 use Rattle.tree_theory.specs.OneTree.{Edges}
 use Rattle.tree_theory.specs.Scaled.{scaled_by}
-use Rattle.tree_theory.specs.Inputs.{multiplier, ceiling_fits, denominator_fault}
+use Rattle.tree_theory.specs.Inputs.{multiplier, ceiling_fits, denominator_fault, input_fault}
 use Rattle.tree_theory.specs.Enumeration.{Tree, no_tree, a_tree, least_tree, Ruling, ruling}
 use Rattle.onetree.specs.Answers.{Reply, refused, none, bounded, rule_fault, rule_reply, rule_leaves, rule_says, rule_writes, ruling_byte, padded, pass_writes, pass_tree, pass_rulings}
 use Rattle.tree_theory.specs.Arrays.{blank, entry}
 use Rattle.tree_theory.specs.Accepted.{Accepted, passed, no_fault, denominator_range}
+use Rattle.greedy.proofs.Faults.{fault_first, fault_next}
 use Rattle.onetree.specs.TreeCall.{fault-replies, fault-leaves}
 use Rattle.onetree.specs.Ceiling.{Over, Within}
 
@@ -28,6 +29,16 @@ rule_no_fault g d ceiling den len h =
     let p = no_fault g d len (cond (not (ceiling_fits ceiling)) 13 (denominator_fault den)) h in
     let c = passed (within max_ceiling ceiling) 13 (denominator_fault den) (omega arith) p.1 in
     (p.0, within_range max_ceiling ceiling c.0, (denominator_range den c.1).1)
+
+-- a fault of the graph or its multipliers is the first; without one the call's is what is left
+pub rule_first : (g : Graph) (d : List ℤ) (ceiling : ℤ) (den len n : ℕ) → n ≡ input_fault g d len 0 → 1 ≤ n → n ≡ rule_fault g d ceiling den len
+unfolding rule_fault
+rule_first g d ceiling den len n h p = fault_first g d len _ n h p
+
+pub rule_next : (g : Graph) (d : List ℤ) (ceiling : ℤ) (den len n : ℕ) → n ≡ cond (not (ceiling_fits ceiling)) 13 (denominator_fault den)
+    → 0 ≡ input_fault g d len 0 → n ≡ rule_fault g d ceiling den len
+unfolding rule_fault
+rule_next g d ceiling den len n h e = h ∙ sym (fault_next g d len _ (sym e))
 
 -- ---- no 1-tree is within the ceiling
 

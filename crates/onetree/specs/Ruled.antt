@@ -16,8 +16,8 @@ use Rattle.tree_theory.specs.Enumeration.{ruling}
 use Rattle.tree_theory.specs.Rulings.{rules_required, rules_excluded}
 use Rattle.tree_theory.specs.Scaled.{scaled_by}
 use Rattle.tree_theory.specs.Inputs.{multiplier}
-use Rattle.onetree.specs.Answers.{ruling_byte}
-use Rattle.tree_theory.specs.Arrays.{bytes, of_edge, mark_required, mark_excluded}
+use Rattle.onetree.specs.Answers.{ruling_byte, ruling_bytes, all_keep}
+use Rattle.tree_theory.specs.Arrays.{blank, bytes, of_edge, mark_required, mark_excluded}
 use Rattle.swaps.specs.Extremes.{Least}
 use Rattle.lists.specs.FilledFrom.{Updated}
 use Rattle.swaps.specs.Visiting.{Rooting, edge_at}
@@ -28,6 +28,10 @@ use Rattle.onetree.specs.Verdicts.{charge_at, Comes, force_byte, Judgement, out_
 use Rattle.onetree.specs.Candidates.{near_comes, far_comes}
 use Rattle.onetree.specs.Outside.{Ready, RuledOutside, Barring}
 use Rattle.onetree.specs.Forcing.{OneEach, Forcing}
+
+-- 'keep' is 0
+pub keep_bytes : ruling_bytes all_keep ≡ blank
+keep_bytes = refl
 
 -- "3 already required, 4 already struck"; else what stands there
 unfoldable pub ruling_of : ℕ → ℕ → ℕ

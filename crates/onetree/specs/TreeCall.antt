@@ -12,12 +12,13 @@ use Rattle.graph.specs.declared.Graph.{Graph}
 use Rattle.graph.specs.Network.{network}
 use Rattle.tree_theory.specs.OneTree.{Edges, bound}
 use Rattle.tree_theory.specs.Scaled.{scaled_by}
-use Rattle.tree_theory.specs.Inputs.{multiplier, denominator_fault}
+use Rattle.tree_theory.specs.Inputs.{multiplier, denominator_fault, input_fault}
 use Rattle.tree_theory.specs.Enumeration.{Tree, no_tree, a_tree, least_tree}
 use Rattle.tree_theory.specs.LeastTree.{tree_found, tree_missing}
 use Rattle.onetree.specs.Answers.{Reply, refused, none, bounded, tree_fault, tree_reply, tree_leaves, tree_says, tree_writes, unless_fault, leaves}
 use Rattle.tree_theory.specs.Arrays.{entry, bytes, in_edge}
 use Rattle.tree_theory.specs.Accepted.{no_fault}
+use Rattle.greedy.proofs.Faults.{fault_first, fault_next}
 use Rattle.greedy.specs.declared.Lists.{Lists}
 use Rattle.greedy.specs.declared.Found.{Found}
 use Rattle.greedy.specs.Least.{TreeFound, NoTree}
@@ -31,6 +32,15 @@ fault-replies (suc f) r n = refl
 pub fault-leaves : (f : ℕ) (out after : List ℕ) → f ≢ 0 → leaves f out after ≡ out
 fault-leaves zero out after n = absurd (n refl)
 fault-leaves (suc f) out after n = refl
+
+-- a fault of the graph or its multipliers is the first; without one the tree call's is the denominator's
+pub tree_first : (g : Graph) (d : List ℤ) (den len n : ℕ) → n ≡ input_fault g d len 0 → 1 ≤ n → n ≡ tree_fault g d den len
+unfolding tree_fault
+tree_first g d den len n h p = fault_first g d len _ n h p
+
+pub tree_next : (g : Graph) (d : List ℤ) (den len n : ℕ) → n ≡ denominator_fault den → 0 ≡ input_fault g d len 0 → n ≡ tree_fault g d den len
+unfolding tree_fault
+tree_next g d den len n h e = h ∙ sym (fault_next g d len _ (sym e))
 
 -- the first bytes of a list are what stands there
 pub row_front : (l : List ℕ) (n : ℕ) → n ≤ length l → take n l ≡ row n (entry l)

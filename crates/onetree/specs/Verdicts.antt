@@ -23,8 +23,6 @@ use Rattle.tree_theory.specs.Scaled.{scaled_by}
 use Rattle.tree_theory.specs.Scaling.{valid_scaled, tree_scaled, swap_scaled}
 use Rattle.tree_theory.specs.Inputs.{multiplier}
 use Rattle.onetree.specs.Answers.{ruling_byte}
-use Rattle.onetree.specs.declared.rulings.Ruling.{Ruling}
-use Rattle.onetree.specs.declared.rulings.Ruling.TheVariants as code
 use Rattle.tree_theory.specs.Arrays.{entry, bytes, edge_of, of_edge, mark_free, network-valid}
 use Rattle.greedy.specs.Charged.{Charged, offset, max_slack, no_charge, offs}
 use Rattle.greedy.specs.Fits.{none_exceeds}
@@ -44,14 +42,6 @@ Gives g w rep r k i = (get_or w i 0 ≡ 1) × Swaps g rep r i k
 -- the edge at place i may come in for the one at place k, in the tree
 abbrev pub Comes : Graph → List ℕ → List ℕ → Rooting → ℕ → ℕ → Type 0
 Comes g w rep r k i = (get_or w i 0 ≢ 1) × Swaps g rep r k i
-
--- the byte of a ruling, as the code has it
-abbrev pub byte_of : Ruling → ℕ
-byte_of code.Keep = 0
-byte_of code.Force = 1
-byte_of code.Bar = 2
-byte_of code.WasRequired = 3
-byte_of code.WasExcluded = 4
 
 -- an edge at charge c is barred if nothing may give way, or if even the dearest leaves it above the slack
 unfoldable pub bar_byte : ℕ → ℕ → ℕ → ℕ

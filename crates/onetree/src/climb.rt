@@ -5,7 +5,7 @@ ghost use Rattle.swaps.specs.RootedTree.{shape};
 ghost use Rattle.swaps.specs.Climbing.{Climbed};
 
 use crate::rooted::Rooting;
-use greedy::MAX_LABELS;
+use graph::VERTEX_PLACES;
 use std::mem::swap;
 
 impl Rooting {
@@ -14,7 +14,7 @@ impl Rooting {
     // Ruled out: an edge above the meeting counted, or one below it left out.
     pub(crate) fn climb(
         &self,
-        cheapest: &mut [u64; MAX_LABELS],
+        cheapest: &mut [u64; VERTEX_PLACES],
         from: usize,
         to: usize,
         c: u64,
@@ -28,15 +28,19 @@ impl Rooting {
         let mut top: u64 = 0;
         let mut x = from;
         let mut y = to;
-        while x != y {
-            if self.depth[x] < self.depth[y] {
-                swap(&mut x, &mut y);
-                // not on into the climb: the two would be exchanged without a branch, which takes twice the time
-                continue;
+        'walk: loop {
+            loop {
+                if x == y {
+                    break 'walk;
+                }
+                if self.depth[x] < self.depth[y] {
+                    break;
+                }
+                top = top.max(self.weight[x]);
+                cheapest[x] = cheapest[x].min(c);
+                x = usize::from(self.parent[x]);
             }
-            top = top.max(self.weight[x]);
-            cheapest[x] = cheapest[x].min(c);
-            x = usize::from(self.parent[x]);
+            swap(&mut x, &mut y);
         }
         top
     }

@@ -4,7 +4,8 @@
 
 ghost use Rattle.std.specs.Prelude.{◌≡◌, length};
 ghost use Rattle.tree_theory.specs.Arrays.{blank};
-ghost use Rattle.onetree.specs.Answers.{meaning, pass_meaning, HintAfter, tree_reply, tree_leaves, rule_reply, rule_leaves, pass_tree, pass_rulings};
+ghost use Rattle.greedy.specs.Least.{blank_lists};
+ghost use Rattle.onetree.specs.Answers.{all_keep, ruling_bytes, meaning, pass_meaning, HintAfter, WeighedAfter, tree_reply, tree_leaves, rule_reply, rule_leaves, pass_tree, pass_rulings};
 
 mod climb;
 mod judge;
@@ -12,27 +13,28 @@ mod rooted;
 mod rulings;
 
 use graph::{Graph, MAX_EDGES, Refusal};
+use greedy::Checked;
 pub use greedy::{
-    Found, Lists, MAX_CEILING, MAX_DENOMINATOR, MAX_MULTIPLIER, ceiling_fits, denominator_fault,
-    denominator_fits, multipliers_fit,
+    Found, Lists, MAX_CEILING, MAX_DENOMINATOR, MAX_MULTIPLIER, ceiling_fault, ceiling_fits,
+    denominator_fault, denominator_fits, input_fault, multipliers_fault, multipliers_fit,
 };
-pub use rulings::Ruling;
+pub use rulings::{NoRuling, Ruling};
 
-// What a pass is lent: the lists of the least 1-tree, and a byte for each edge's ruling.
-#[derive(Clone, Copy)]
+// What a pass is lent: the lists of the least 1-tree, and each edge's ruling.
+#[derive(Clone, Copy, Debug, PartialEq, Eq)]
 pub struct PassLists {
     pub least: Lists,
-    pub rulings: [u8; MAX_EDGES],
+    pub rulings: [Ruling; MAX_EDGES],
 }
 
 impl PassLists {
-    // Ruled out: a byte that is not 0.
+    // Ruled out: a byte that is not 0; a ruling that is not 'keep'.
     pub fn blank() -> PassLists
-        ensures { (result.least.tree ≡ blank) × (result.least.order ≡ blank) × (result.rulings ≡ blank) }
+        ensures { result ≡ record { least = blank_lists; rulings = all_keep } }
     {
         PassLists {
             least: Lists::blank(),
-            rulings: [0; MAX_EDGES],
+            rulings: [Ruling::Keep; MAX_EDGES],
         }
     }
 }
@@ -49,16 +51,8 @@ pub fn tree(
     ensures left { out.new ≡ tree_leaves g.now multipliers.now denominator out.old }
 {
     let mut lists = Lists::blank();
-    let Some(found) = greedy::least(
-        g,
-        multipliers,
-        denominator,
-        out.len(),
-        Ok(()),
-        &[],
-        &mut lists,
-    )?
-    else {
+    let checked = Checked::new(g, multipliers, out.len())?;
+    let Some(found) = checked.least(denominator, &[], &mut lists)? else {
         return Ok(None);
     };
     out.copy_from_slice(&lists.tree[..out.len()]);
@@ -79,25 +73,18 @@ pub fn rule(
     ensures left { out.new ≡ rule_leaves g.now multipliers.now ceiling denominator out.old }
 {
     let mut lists = PassLists::blank();
-    let Some(found) = judge::judge(
-        g,
-        multipliers,
-        ceiling,
-        denominator,
-        out.len(),
-        &[],
-        &mut lists,
-    )?
-    else {
+    let checked = Checked::new(g, multipliers, out.len())?;
+    let Some(found) = judge::judge(&checked, ceiling, denominator, &[], &mut lists)? else {
         return Ok(None);
     };
-    out.copy_from_slice(&lists.rulings[..out.len()]);
+    rulings::write(&lists.rulings, out);
     Ok(Some(found.bound))
 }
 
 // What the tree call and the rule call say, from one tree, for a search that lends the lists: a byte for each edge and 0 past them in the
 // tree and the rulings, all 0 where no 1-tree is within the ceiling. hint: an order to start sorting from; whatever it holds, the answers
-// are the same. The order then has such a hint for the next pass, in as many bytes as are `live`.
+// are the same. The order then has such a hint for the next pass, in as many bytes as are `live`. Charges and labels are those of the edges and
+// the vertices, whether there is such a 1-tree or not.
 // Ruled out: a byte of either list where no 1-tree is within the ceiling, or past the edges; a refusal that changes a byte.
 pub fn pass(
     g: &Graph,
@@ -109,16 +96,10 @@ pub fn pass(
 ) -> Result<Option<Found>, Refusal>
     ensures reply { pass_meaning result ≡ rule_reply g.now multipliers.now ceiling denominator g.now.m }
     ensures tree { lists.new.least.tree ≡ pass_tree g.now multipliers.now ceiling denominator lists.old.least.tree }
-    ensures rulings { lists.new.rulings ≡ pass_rulings g.now multipliers.now ceiling denominator lists.old.rulings }
+    ensures rulings { ruling_bytes lists.new.rulings ≡ pass_rulings g.now multipliers.now ceiling denominator (ruling_bytes lists.old.rulings) }
     ensures hint { HintAfter result g.now.mark g.now.m lists.old.least.order lists.new.least.order }
+    ensures weighed { WeighedAfter denominator g.now multipliers.now lists.old.least result lists.new.least }
 {
-    judge::judge(
-        g,
-        multipliers,
-        ceiling,
-        denominator,
-        usize::from(g.m),
-        hint,
-        lists,
-    )
+    let checked = Checked::new(g, multipliers, usize::from(g.m))?;
+    judge::judge(&checked, ceiling, denominator, hint, lists)
 }

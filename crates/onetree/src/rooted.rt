@@ -8,16 +8,27 @@ ghost use Rattle.tree_theory.specs.Merges.{Merges};
 ghost use Rattle.swaps.specs.RootedTree.{Labelled};
 ghost use Rattle.swaps.specs.TreeTable as table;
 ghost use Rattle.swaps.specs.TreeTable.{Ends, pushed, longer, empty_table};
-ghost use Rattle.swaps.specs.Visiting.{rooting, row_of, Hung, Complete, Lined, Leaving, NeighboursHung, Rows};
+ghost use Rattle.swaps.specs.Visiting.{row_of, Hung, Complete, Lined, Leaving, NeighboursHung, Rows};
 ghost use Rattle.swaps.specs.Swaps.{Below};
 ghost use Rattle.onetree.specs.Candidates.{AfterRoot, BelowRoot, Weighed};
 ghost use Rattle.onetree.specs.Forcing.{OneEach};
-ghost use Rattle.onetree.specs.HungTree.{HungTree, Unhung};
+ghost use Rattle.onetree.specs.HungTree.{HungTree, Unhung, rooting_of, queue_of, count_of};
 
-use graph::{Graph, MAX_EDGES, MAX_VERTICES};
-use greedy::{Lists, MAX_LABELS};
+use arrayvec::ArrayVec;
+use graph::{Graph, MAX_EDGES, MAX_VERTICES, VERTEX_PLACES};
+use greedy::Lists;
 
-// The labels of each edge's two ends.
+// A 1-tree in its graph, as a pass finds it. That it is one (`Spans`) and what its labels are (`Merges`) stand in contracts: both have walks, of which
+// there may be two, and a ghost field must be a proposition.
+#[derive(Clone, Copy)]
+pub(crate) struct LeastTree<'a> {
+    pub graph: &'a Graph,
+    pub lists: &'a Lists,
+    pub ghost valid: { Valid graph.now },
+}
+
+// The labels of each edge's two ends. Two arrays, as a graph's a and b are, of which the laws speak: pairs are as fast to the instruction, and each law would
+// be told of two maps.
 #[derive(Drop)]
 pub(crate) struct EndLabels {
     pub from: [u8; MAX_EDGES],
@@ -35,10 +46,13 @@ impl EndLabels {
         }
     }
 
-    pub(crate) fn fill(&mut self, g: &Graph, labels: &[u8; MAX_LABELS])
-        requires { Valid g.now × (length self.old.from ≡ max_edges) × (length self.old.to ≡ max_edges) }
-        ensures { Labelled g.now labels.now self.new.from self.new.to }
+    // By place: of values after `zip`, as after any adapter of `iter_mut`, no proof knows.
+    pub(crate) fn fill(&mut self, tree: &LeastTree)
+        requires { (length self.old.from ≡ max_edges) × (length self.old.to ≡ max_edges) }
+        ensures { Labelled tree.now.graph.now tree.now.lists.now.labels self.new.from self.new.to }
     {
+        let g = tree.graph;
+        let labels = &tree.lists.labels;
         for k in 0..usize::from(g.m) {
             self.from[k] = labels[usize::from(g.a[k])];
             self.to[k] = labels[usize::from(g.b[k])];
@@ -57,11 +71,11 @@ fn swappable(a: u8, mark: u8, w: u8) -> bool
 }
 
 // The tree's free edges at each label, and how many they are: row x - 1 lists those at x, each as one more than its place, and has zeros
-// after them, so that a walk of a row needs no count. Edges at vertex 1 have no part in it.
+// after them, so that a walk of a row needs no count: document 01's 20 by 20 array. Edges at vertex 1 have no part in it.
 #[derive(Drop)]
 pub(crate) struct Listed {
     pub rows: [[u8; MAX_VERTICES]; MAX_VERTICES],
-    pub count: [u8; MAX_LABELS],
+    pub count: [u8; VERTEX_PLACES],
 }
 
 impl Listed {
@@ -70,11 +84,12 @@ impl Listed {
     {
         Listed {
             rows: [[0; MAX_VERTICES]; MAX_VERTICES],
-            count: [0; MAX_LABELS],
+            count: [0; VERTEX_PLACES],
         }
     }
 
     // At the end of the list of x.
+    #[tactic(auto, unfolding(swaps::specs::Grid::put))]
     fn push(&mut self, x: usize, e: u8)
         requires { (1 ≤ x) × (x ≤ max_vertices) × (get_or self.old.count x 0 < max_vertices) }
         ensures { (self.new.rows ≡ pushed self.old.rows self.old.count x e) × (self.new.count ≡ longer self.old.count x) }
@@ -85,13 +100,15 @@ impl Listed {
     }
 
     // Each edge of the tree that may give way to another, at both its ends.
-    fn fill(&mut self, g: &Graph, tree: &[u8; MAX_EDGES], ends: &EndLabels)
-        requires { Spans g.now tree.now × Ends g.now tree.now ends.now.from ends.now.to
+    // By place: five arrays are read at each, and as many zips would be no plainer.
+    fn fill(&mut self, tree: &LeastTree, ends: &EndLabels)
+        requires { Spans tree.now.graph.now tree.now.lists.now.tree × Ends tree.now.graph.now tree.now.lists.now.tree ends.now.from ends.now.to
             × (self.old.rows ≡ empty_table) × (self.old.count ≡ replicate 21 0) }
-        ensures { table.Lists g.now tree.now ends.now.from ends.now.to self.new.rows }
+        ensures { table.Lists tree.now.graph.now tree.now.lists.now.tree ends.now.from ends.now.to self.new.rows }
     {
+        let g = tree.graph;
         for k in 0..usize::from(g.m) {
-            if swappable(g.a[k], g.mark[k], tree[k]) {
+            if swappable(g.a[k], g.mark[k], tree.lists.tree[k]) {
                 let e = (k + 1) as u8;
                 self.push(usize::from(ends.from[k]), e);
                 self.push(usize::from(ends.to[k]), e);
@@ -100,54 +117,51 @@ impl Listed {
     }
 }
 
-// The label above each label, how deep each hangs, the place of the edge to the label above, and what that edge is charged. The first `count` of the
-// queue are the labels that hang, in the order of hanging. A depth of 0 is nowhere, and no Option, since a climb compares depths at each step.
+// The label above each label, how deep each hangs, the place of the edge to the label above, and what that edge is charged; and the labels that hang, in the
+// order of hanging. Arrays, and no array of structs: with one, climbs took 1.19 times the instructions, and hanging 1.14 times. A depth of 0 is nowhere, as in the
+// laws of depths (`Hangs`): an Option is as fast in a climb, and no plainer, since one more than a depth would unwrap it and every law would have two cases.
 #[derive(Drop)]
 pub(crate) struct Rooting {
-    pub parent: [u8; MAX_LABELS],
-    pub depth: [u8; MAX_LABELS],
-    pub edge: [u8; MAX_LABELS],
-    pub weight: [u64; MAX_LABELS],
-    pub queue: [u8; MAX_LABELS],
-    pub count: usize,
+    pub parent: [u8; VERTEX_PLACES],
+    pub depth: [u8; VERTEX_PLACES],
+    pub edge: [u8; VERTEX_PLACES],
+    pub weight: [u64; VERTEX_PLACES],
+    pub queue: ArrayVec<u8, VERTEX_PLACES>,
 }
 
 impl Rooting {
     pub(crate) fn blank() -> Rooting
-        ensures { Unhung result.parent result.depth result.edge result.queue }
+        ensures { Unhung result }
     {
         Rooting {
-            parent: [0; MAX_LABELS],
-            depth: [0; MAX_LABELS],
-            edge: [0; MAX_LABELS],
-            weight: [0; MAX_LABELS],
-            queue: [0; MAX_LABELS],
-            count: 0,
+            parent: [0; VERTEX_PLACES],
+            depth: [0; VERTEX_PLACES],
+            edge: [0; VERTEX_PLACES],
+            weight: [0; VERTEX_PLACES],
+            queue: ArrayVec::new(),
         }
     }
 
     // Every neighbour of x that hangs nowhere yet is hung on x, and put at the end of the queue.
     fn visit(&mut self, ends: &EndLabels, listed: &Listed, x: usize)
-        requires { Leaving ends.now.from ends.now.to (row_of listed.now.rows x) x (rooting self.old.parent self.old.depth self.old.edge)
-            self.old.queue self.old.count }
+        requires { Leaving ends.now.from ends.now.to (row_of listed.now.rows x) x (rooting_of self.old)
+            (queue_of self.old) (count_of self.old) }
         ensures { NeighboursHung ends.now.from ends.now.to (row_of listed.now.rows x) x
-            (rooting self.old.parent self.old.depth self.old.edge) self.old.queue self.old.count
-            (rooting self.new.parent self.new.depth self.new.edge) self.new.queue self.new.count }
+            (rooting_of self.old) (queue_of self.old) (count_of self.old)
+            (rooting_of self.new) (queue_of self.new) (count_of self.new) }
     {
         let d = self.depth[x] + 1;
-        for i in 0..MAX_VERTICES {
-            let e = listed.rows[x - 1][i];
-            if e == 0 {
+        for e in &listed.rows[x - 1] {
+            if *e == 0 {
                 break;
             }
-            let k = usize::from(e) - 1;
+            let k = usize::from(*e) - 1;
             let y = usize::from(ends.from[k]) + usize::from(ends.to[k]) - x;
             if self.depth[y] == 0 {
                 self.parent[y] = x as u8;
                 self.depth[y] = d;
                 self.edge[y] = k as u8;
-                self.queue[self.count] = y as u8;
-                self.count += 1;
+                self.queue.push(y as u8);
             }
         }
     }
@@ -155,21 +169,20 @@ impl Rooting {
     // Vertex 2 hangs; from each label in the order of hanging its neighbours are hung.
     fn walk(&mut self, ends: &EndLabels, listed: &Listed)
         requires { ((n : ℕ) × (2 ≤ n) × (n ≤ max_vertices) × Rows ends.now.from ends.now.to n listed.now.rows)
-            × Unhung self.old.parent self.old.depth self.old.edge self.old.queue }
+            × Unhung self.old }
         ensures { ((n : ℕ) → 2 ≤ n → Rows ends.now.from ends.now.to n listed.now.rows
             → Hung ends.now.from ends.now.to listed.now.rows n
-            (rooting self.new.parent self.new.depth self.new.edge))
+            (rooting_of self.new))
             × Complete ends.now.from ends.now.to listed.now.rows
-            (rooting self.new.parent self.new.depth self.new.edge)
-            × Lined self.new.depth self.new.queue self.new.count }
+            (rooting_of self.new)
+            × Lined self.new.depth (queue_of self.new) (count_of self.new) }
     {
         self.depth[2] = 1;
-        self.queue[0] = 2;
-        self.count = 1;
+        self.queue.push(2);
         let mut i = 0;
         // no `for`: the queue grows while it is walked
-        while i < self.count {
-            let x = usize::from(self.queue[i]);
+        while i < self.queue.len() {
+            let x = usize::from(self.queue.as_slice()[i]);
             self.visit(ends, listed, x);
             i += 1;
         }
@@ -177,35 +190,35 @@ impl Rooting {
 
     // The labels of the queue but the first, which is the root.
     pub(crate) fn below_root(&self) -> &[u8]
-        requires { (1 ≤ self.now.count) × (self.now.count ≤ 21) }
-        ensures { AfterRoot self.now.queue self.now.count result.now }
+        requires { 1 ≤ count_of self.now }
+        ensures { AfterRoot (queue_of self.now) (count_of self.now) result.now }
     {
-        &self.queue[1..self.count]
+        &self.queue.as_slice()[1..]
     }
 
     // What the edge above each label is charged: there is none above the first of the queue, the root.
     fn weigh(&mut self, charges: &[u64; MAX_EDGES])
-        requires { (1 ≤ self.old.count) × (self.old.count ≤ 21) × OneEach (BelowRoot self.old.queue self.old.count) self.old.edge }
-        ensures { Weighed (BelowRoot self.old.queue self.old.count) charges.now self.old.edge self.new.weight
+        requires { (1 ≤ count_of self.old) × OneEach (BelowRoot (queue_of self.old) (count_of self.old)) self.old.edge }
+        ensures { Weighed (BelowRoot (queue_of self.old) (count_of self.old)) charges.now self.old.edge self.new.weight
             × (self.new ≡ record self.old { weight = self.new.weight }) }
     {
-        // by place, and not over `below_root`, which lends the record that is written
-        for i in 1..self.count {
-            let v = usize::from(self.queue[i]);
+        // by place: over the queue itself no proof is to be had, since a field is written beside one that is lent
+        for i in 1..self.queue.len() {
+            let v = usize::from(self.queue.as_slice()[i]);
             self.weight[v] = charges[usize::from(self.edge[v])];
         }
     }
 
     // The least 1-tree, hung, where the ends of its edges have these labels.
-    pub(crate) fn hang(&mut self, g: &Graph, lists: &Lists, ends: &EndLabels)
-        requires { Spans g.now lists.now.tree × Merges g.now lists.now.labels × Labelled g.now lists.now.labels ends.now.from ends.now.to
-            × Unhung self.old.parent self.old.depth self.old.edge self.old.queue }
-        ensures { HungTree g.now lists.now.tree lists.now.labels (rooting self.new.parent self.new.depth self.new.edge) self.new.queue self.new.count
-            × Weighed (Below (rooting self.new.parent self.new.depth self.new.edge)) lists.now.charges self.new.edge self.new.weight }
+    pub(crate) fn hang(&mut self, tree: &LeastTree, ends: &EndLabels)
+        requires { Spans tree.now.graph.now tree.now.lists.now.tree × Merges tree.now.graph.now tree.now.lists.now.labels
+            × Labelled tree.now.graph.now tree.now.lists.now.labels ends.now.from ends.now.to × Unhung self.old }
+        ensures { HungTree tree.now.graph.now tree.now.lists.now.tree tree.now.lists.now.labels (rooting_of self.new) (queue_of self.new) (count_of self.new)
+            × Weighed (Below (rooting_of self.new)) tree.now.lists.now.charges self.new.edge self.new.weight }
     {
         let mut listed = Listed::blank();
-        listed.fill(g, &lists.tree, ends);
+        listed.fill(tree, ends);
         self.walk(ends, &listed);
-        self.weigh(&lists.charges);
+        self.weigh(&tree.lists.charges);
     }
 }

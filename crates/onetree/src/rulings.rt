@@ -1,42 +1,38 @@
 // Rulings by swaps with the least 1-tree: one tree, never a second one. Outside the tree an edge is judged against the dearest edge that
 // may give way to it, inside it against the cheapest that may come in for it. A required edge never gives way, so vertices that required
 // edges join stand for one.
-ghost use Rattle.std.specs.Prelude.{◌≡◌, ◌≤◌, length, replicate};
+ghost use Rattle.std.specs.Prelude.{◌≡◌, ◌≤◌, length};
+ghost use Rattle.lists.specs.Rows.{row};
 ghost use Rattle.graph.specs.Limits.{max_edges};
-ghost use Rattle.tree_theory.specs.Arrays.{blank};
+ghost use Rattle.tree_theory.specs.Arrays.{entry};
 ghost use Rattle.tree_theory.specs.Spans.{Spans};
 ghost use Rattle.tree_theory.specs.Merges.{Merges};
-ghost use Rattle.lists.specs.FilledFrom.{Updated};
-ghost use Rattle.swaps.specs.Visiting.{rooting};
-ghost use Rattle.swaps.specs.RootedTree.{Labelled};
-ghost use Rattle.greedy.specs.Charged.{no_charge};
-ghost use Rattle.onetree.specs.Verdicts.{byte_of, bar_byte, force_byte};
-ghost use Rattle.onetree.specs.Candidates.{BelowRoot, NearIs};
-ghost use Rattle.onetree.specs.Outside.{Ready, near_byte, RuledOutside};
-ghost use Rattle.onetree.specs.Forcing.{OneEach, Forcing};
-ghost use Rattle.onetree.specs.Ruled.{ruling_of, final_at, RuledBy};
+ghost use Rattle.onetree.specs.Answers.{byte_of, ruling_bytes, all_keep};
+ghost use Rattle.onetree.specs.Verdicts.{bar_byte, force_byte};
+ghost use Rattle.onetree.specs.Candidates.{NearIs};
+ghost use Rattle.onetree.specs.Outside.{near_byte};
+ghost use Rattle.onetree.specs.Ruled.{ruling_of, RuledBy};
 
-use crate::rooted::{EndLabels, Rooting};
-use graph::{EXCLUDED, FREE, Graph, MAX_COST, MAX_EDGES, MAX_VERTICES, REQUIRED};
-use greedy::{Lists, MAX_CEILING, MAX_DENOMINATOR, MAX_LABELS, MAX_MULTIPLIER};
+use crate::rooted::{EndLabels, LeastTree, Rooting};
+use graph::{EXCLUDED, FREE, Graph, MAX_EDGES, MAX_VERTICES, REQUIRED, VERTEX_PLACES};
+use greedy::{Lists, MAX_CEILING, MAX_DENOMINATOR, MAX_MULTIPLIER, MAX_SCALED};
 
 // The largest charge, and how far a bound lies below a ceiling at most, in units of the multipliers.
-const MAX_SCALED: u64 = MAX_DENOMINATOR * MAX_COST as u64;
-
 const MAX_CHARGE: u64 = 2 * (MAX_SCALED + 2 * MAX_MULTIPLIER as u64) + 1;
 
 const MAX_SLACK: u64 = MAX_DENOMINATOR * MAX_CEILING as u64
     + (MAX_SCALED + 1 + 4 * MAX_MULTIPLIER as u64) * MAX_VERTICES as u64;
 
-// Where there is no edge. No Option, since a cheapest and a dearest edge are then looked for without a branch: more than any charge and any slack
-// together, and 0, less than any charge.
+// Where there is no edge: more than any charge and any slack together, and 0, less than any charge. No Options: of the dearest alone they took 1.11 times the
+// instructions of all climbs, of both 1.25 times.
 const NONE: u64 = MAX_CHARGE + MAX_SLACK + 1;
 
 const NO_TOP: u64 = 0;
 
-// A ruling. The lists that C lends have its byte.
-#[derive(Clone, Copy, Debug, PartialEq, Eq)]
+// A ruling. Its byte is what the lists have that C lends.
+#[derive(Clone, Copy, Debug, Default, PartialEq, Eq)]
 pub enum Ruling {
+    #[default]
     Keep = 0,
     Force = 1,
     Bar = 2,
@@ -44,11 +40,49 @@ pub enum Ruling {
     WasExcluded = 4,
 }
 
-impl Ruling {
-    fn byte(self) -> u8
-        ensures { result ≡ byte_of self }
-    {
-        self as u8
+// Ruled out: the byte of 'required' for a forced edge; that of 'keep' for a barred one.
+impl From<Ruling> for u8 {
+    ghost use Rattle.std.specs.Prelude.{◌≡◌};
+    ghost use Rattle.onetree.specs.Answers.{byte_of};
+
+    ghost from_gives = { λ ruling byte. byte ≡ byte_of ruling };
+
+    fn from(ruling: Ruling) -> u8 {
+        ruling as u8
+    }
+}
+
+// A byte that is no ruling's.
+#[derive(Clone, Copy, Debug, PartialEq, Eq)]
+pub struct NoRuling(pub u8);
+
+// Ruled out: a ruling for 5; 'keep' for the byte of 'required'.
+impl TryFrom<u8> for Ruling {
+    type Error = NoRuling;
+
+    ghost use Rattle.onetree.specs.Answers.{RulingOf};
+
+    ghost try_from_gives = { RulingOf };
+
+    fn try_from(byte: u8) -> Result<Ruling, NoRuling> {
+        match byte {
+            0 => Ok(Ruling::Keep),
+            1 => Ok(Ruling::Force),
+            2 => Ok(Ruling::Bar),
+            3 => Ok(Ruling::WasRequired),
+            4 => Ok(Ruling::WasExcluded),
+            _ => Err(NoRuling(byte)),
+        }
+    }
+}
+
+// The bytes of rulings, into a list that C lends. By place: of values after `zip`, as after any adapter of `iter_mut`, no proof knows.
+pub(crate) fn write(rulings: &[Ruling; MAX_EDGES], out: &mut [u8])
+    requires { length out.old ≤ max_edges }
+    ensures { out.new ≡ row (length out.old) (entry (ruling_bytes rulings.now)) }
+{
+    for k in 0..out.len() {
+        out[k] = u8::from(rulings[k]);
     }
 }
 
@@ -84,18 +118,20 @@ struct Near {
 }
 
 impl Near {
-    fn of(g: &Graph, lists: &Lists) -> Near
-        requires { g.now.m ≤ max_edges }
-        ensures { NearIs g.now.a g.now.mark lists.now.tree lists.now.charges result.dearest result.cheapest g.now.m }
+    // By place: four arrays are read at each, and as many zips would be no plainer.
+    fn of(tree: &LeastTree) -> Near
+        ensures { NearIs tree.now.graph.now.a tree.now.graph.now.mark tree.now.lists.now.tree tree.now.lists.now.charges result.dearest
+            result.cheapest tree.now.graph.now.m }
     {
+        let g = tree.graph;
         let mut near = Near {
             dearest: NO_TOP,
             cheapest: NONE,
         };
         for k in 0..usize::from(g.m) {
             if g.a[k] == 1 && g.mark[k] == FREE {
-                let c = lists.charges[k];
-                if lists.tree[k] == 1 {
+                let c = tree.lists.charges[k];
+                if tree.lists.tree[k] == 1 {
                     near.dearest = near.dearest.max(c);
                 } else {
                     near.cheapest = near.cheapest.min(c);
@@ -118,94 +154,114 @@ impl Near {
     }
 }
 
-// Every free edge at vertex 1 or outside the tree, its ruling into res: elsewhere than at vertex 1 against the dearest on its circle, from
-// the label of one end to that of the other. And for each label the cheapest edge that can take the place of the one above it.
-fn judge_outside(
-    g: &Graph,
-    lists: &Lists,
-    ends: &EndLabels,
-    r: &Rooting,
-    near: Near,
-    slack: u64,
-    res: &mut [u8; MAX_EDGES],
-    cheapest: &mut [u64; MAX_LABELS],
-)
-    requires { Ready g.now lists.now.tree lists.now.charges lists.now.labels (rooting r.now.parent r.now.depth r.now.edge)
-        r.now.weight near.dearest near.cheapest
-        × Labelled g.now lists.now.labels ends.now.from ends.now.to × (res.old ≡ blank)
-        × (cheapest.old ≡ replicate 21 no_charge) }
-    ensures { RuledOutside g.now lists.now.tree lists.now.charges lists.now.labels (rooting r.now.parent r.now.depth r.now.edge)
-        near.cheapest slack res.new cheapest.new g.now.m }
-{
-    for k in 0..usize::from(g.m) {
-        if g.mark[k] == FREE {
-            let c = lists.charges[k];
-            if g.a[k] == 1 {
-                res[k] = near.ruling(lists.tree[k], c, slack).byte();
-            } else if lists.tree[k] != 1 {
-                let from = usize::from(ends.from[k]);
-                let to = usize::from(ends.to[k]);
-                let top = r.climb(cheapest, from, to, c);
-                res[k] = bar(top, c, slack).byte();
-            }
-        }
-    }
-}
-
-// The edge above each label of the queue but the root, its ruling into res: it is free and in the tree.
-fn judge_inside(
-    charges: &[u64; MAX_EDGES],
-    r: &Rooting,
-    cheapest: &[u64; MAX_LABELS],
-    slack: u64,
-    res: &mut [u8; MAX_EDGES],
-)
-    requires { (1 ≤ r.now.count) × (r.now.count ≤ 21) × OneEach (BelowRoot r.now.queue r.now.count) r.now.edge × (length res.old ≡ max_edges) }
-    ensures { Forcing (BelowRoot r.now.queue r.now.count) charges.now r.now.edge cheapest.now slack
-        res.old res.new }
-{
-    for v in r.below_root() {
-        let v = usize::from(*v);
-        let k = usize::from(r.edge[v]);
-        res[k] = force(cheapest[v], charges[k], slack).byte();
-    }
-}
-
 #[tactic(auto, unfolding(crate::specs::Ruled::ruling_of))]
-fn ruling_of(mark: u8, old: u8) -> u8
-    ensures { result ≡ ruling_of mark old }
+fn ruling_of(mark: u8, old: Ruling) -> Ruling
+    ensures { byte_of result ≡ ruling_of mark (byte_of old) }
 {
     match mark {
-        REQUIRED => Ruling::WasRequired.byte(),
-        EXCLUDED => Ruling::WasExcluded.byte(),
+        REQUIRED => Ruling::WasRequired,
+        EXCLUDED => Ruling::WasExcluded,
         _ => old,
     }
 }
 
-// Edge by edge, in res: what its mark says, or for a free edge what was found.
-fn finish(g: &Graph, res: &mut [u8; MAX_EDGES])
-    requires { (g.now.m ≤ max_edges) × (length res.old ≡ max_edges) }
-    ensures { Updated (final_at g.now.mark res.old) res.old res.new g.now.m }
-{
-    for k in 0..usize::from(g.m) {
-        res[k] = ruling_of(g.mark[k], res[k]);
+// What edges are judged by: the least 1-tree, hung on the labels of its edges' ends; at vertex 1 the dearest and the cheapest; and how far it lies below
+// the ceiling.
+#[derive(Clone, Copy)]
+struct Judging<'a> {
+    tree: LeastTree<'a>,
+    ends: &'a EndLabels,
+    hung: &'a Rooting,
+    near: Near,
+    slack: u64,
+}
+
+// Each loop goes by place: what it writes stands in another order than what it reads, or no proof knows of it after `zip`.
+impl<'a> Judging<'a> {
+    ghost use Rattle.std.specs.Prelude.{◌≡◌, length, replicate};
+    ghost use Rattle.graph.specs.Limits.{max_edges};
+    ghost use Rattle.lists.specs.FilledFrom.{Updated};
+    ghost use Rattle.greedy.specs.Charged.{no_charge};
+    ghost use Rattle.onetree.specs.Answers.{ruling_bytes, all_keep};
+    ghost use Rattle.onetree.specs.Candidates.{BelowRoot};
+    ghost use Rattle.onetree.specs.Forcing.{Forcing};
+    ghost use Rattle.onetree.specs.HungTree.{rooting_of, queue_of, count_of};
+    ghost use Rattle.onetree.specs.Outside.{RuledOutside};
+    ghost use Rattle.onetree.specs.Ruled.{final_at};
+    ghost use Rattle.onetree.specs.ReadyToJudge.{ReadyToJudge};
+
+    // Every free edge at vertex 1 or outside the tree, its ruling into res: elsewhere than at vertex 1 against the dearest on its circle, from
+    // the label of one end to that of the other. And for each label the cheapest edge that can take the place of the one above it.
+    fn outside(&self, res: &mut [Ruling; MAX_EDGES], cheapest: &mut [u64; VERTEX_PLACES])
+        requires { ReadyToJudge self.now × (res.old ≡ all_keep) × (cheapest.old ≡ replicate 21 no_charge) }
+        ensures { RuledOutside self.now.tree.graph.now self.now.tree.lists.now.tree self.now.tree.lists.now.charges self.now.tree.lists.now.labels
+            (rooting_of self.now.hung.now) self.now.near.cheapest self.now.slack (ruling_bytes res.new) cheapest.new self.now.tree.graph.now.m }
+    {
+        let g = self.tree.graph;
+        let lists = self.tree.lists;
+        for k in 0..usize::from(g.m) {
+            if g.mark[k] == FREE {
+                let c = lists.charges[k];
+                if g.a[k] == 1 {
+                    res[k] = self.near.ruling(lists.tree[k], c, self.slack);
+                } else if lists.tree[k] != 1 {
+                    let from = usize::from(self.ends.from[k]);
+                    let to = usize::from(self.ends.to[k]);
+                    let top = self.hung.climb(cheapest, from, to, c);
+                    res[k] = bar(top, c, self.slack);
+                }
+            }
+        }
+    }
+
+    // The edge above each label of the queue but the root, its ruling into res: it is free and in the tree.
+    fn inside(&self, cheapest: &[u64; VERTEX_PLACES], res: &mut [Ruling; MAX_EDGES])
+        requires { ReadyToJudge self.now × (length res.old ≡ max_edges) }
+        ensures { Forcing (BelowRoot (queue_of self.now.hung.now) (count_of self.now.hung.now)) self.now.tree.lists.now.charges self.now.hung.now.edge cheapest.now
+            self.now.slack (ruling_bytes res.old) (ruling_bytes res.new) }
+    {
+        for v in self.hung.below_root() {
+            let v = usize::from(*v);
+            let k = usize::from(self.hung.edge[v]);
+            res[k] = force(cheapest[v], self.tree.lists.charges[k], self.slack);
+        }
+    }
+
+    // Edge by edge, in res: what its mark says, or for a free edge what was found.
+    fn finish(&self, res: &mut [Ruling; MAX_EDGES])
+        requires { length res.old ≡ max_edges }
+        ensures { Updated (final_at self.now.tree.graph.now.mark (ruling_bytes res.old)) (ruling_bytes res.old) (ruling_bytes res.new)
+            self.now.tree.graph.now.m }
+    {
+        let g = self.tree.graph;
+        for k in 0..usize::from(g.m) {
+            res[k] = ruling_of(g.mark[k], res[k]);
+        }
     }
 }
 
-// The ruling of every edge into res, blank before, from the least 1-tree, its charges, the labels that required edges give its vertices and
+// The ruling of every edge into res, 'keep' before, from the least 1-tree, its charges, the labels that required edges give its vertices and
 // how far it lies below the ceiling.
 // Ruled out: a required edge swapped out or ruled FORCE; a BAR at a bound that equals the ceiling.
-pub(crate) fn rulings(g: &Graph, lists: &Lists, slack: u64, res: &mut [u8; MAX_EDGES])
-    requires { Spans g.now lists.now.tree × Merges g.now lists.now.labels × (res.old ≡ blank) }
-    ensures { RuledBy g.now lists.now.tree lists.now.charges slack res.new × (length res.new ≡ max_edges) }
+pub(crate) fn rulings(g: &Graph, lists: &Lists, slack: u64, res: &mut [Ruling; MAX_EDGES])
+    requires { Spans g.now lists.now.tree × Merges g.now lists.now.labels × (res.old ≡ all_keep) }
+    ensures { RuledBy g.now lists.now.tree lists.now.charges slack (ruling_bytes res.new) × (length res.new ≡ max_edges) }
 {
+    let tree = LeastTree { graph: g, lists };
     let mut ends = EndLabels::blank();
-    ends.fill(g, &lists.labels);
-    let mut r = Rooting::blank();
-    r.hang(g, lists, &ends);
-    let near = Near::of(g, lists);
-    let mut cheapest = [NONE; MAX_LABELS];
-    judge_outside(g, lists, &ends, &r, near, slack, res, &mut cheapest);
-    judge_inside(&lists.charges, &r, &cheapest, slack, res);
-    finish(g, res);
+    ends.fill(&tree);
+    let mut hung = Rooting::blank();
+    hung.hang(&tree, &ends);
+    let near = Near::of(&tree);
+    let judging = Judging {
+        tree,
+        ends: &ends,
+        hung: &hung,
+        near,
+        slack,
+    };
+    let mut cheapest = [NONE; VERTEX_PLACES];
+    judging.outside(res, &mut cheapest);
+    judging.inside(&cheapest, res);
+    judging.finish(res);
 }

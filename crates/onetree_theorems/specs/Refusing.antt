@@ -17,6 +17,7 @@ use Rattle.tree_theory.specs.Multipliers.{fit_ranged, ranged_fit, multiplier_ran
 use Rattle.onetree.specs.Answers.{tree_fault, rule_fault}
 use Rattle.machine.specs.Machine.{Opening}
 use Rattle.machine.specs.Calls.{fault}
+use Rattle.machine.specs.Gained.{fit-first}
 use Rattle.onetree_theorems.specs.Calls.{Asked, First, Fine, LengthsFit, MultipliersFit, DenominatorFits, tree_asks, rule_asks, opening_asks}
 
 -- ---- tests in order
@@ -77,17 +78,11 @@ lengths g d len =
     record { multipliers = eqb-true (length d) g.n b.0; lent = eqb-true len g.m b.1 })
     (λ f. rw (eq-eqb (length d) g.n f.multipliers, eq-eqb len g.m f.lent))
 
-first_zero : (d : List ℤ) → multipliers_fit d ≡ true → multiplier d 1 ≡ pos 0
-unfolding multipliers_fit
-first_zero d h =
-    let r = within_range 0 (multiplier d 1) (and_both (every_of (within max_multiplier) d) (within 0 (multiplier d 1)) h).1 in
-    eq_of_parts (multiplier d 1) (pos 0) (omega (arith, r.high, r.low))
-
 pub multipliers : (d : List ℤ) → Says (multipliers_fit d) (MultipliersFit d)
 unfolding multiplier
 multipliers d =
     decides (multipliers_fit d)
-    (λ e. record { range = multiplier_range d (fit_ranged d e); first = first_zero d e })
+    (λ e. record { range = multiplier_range d (fit_ranged d e); first = fit-first d e })
     (λ f. ranged_fit d (λ k l. f.range (suc k) (omega arith) l) f.first)
 
 ceilings : (z : ℤ) → Says (ceiling_fits z) (InRange max_ceiling z)

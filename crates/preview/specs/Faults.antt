@@ -1,110 +1,87 @@
--- The fault of a preview, test by test, as its code goes; and what is known where there is none. Assumes nothing.
-use Rattle.std.specs.Prelude.{◌≡◌, Bool, true, false, ◌&&◌, ◌||◌, List, eqb, leb, length, ℤ}
-use Rattle.std.proofs.Math.Path.{refl}
-use Rattle.std.proofs.Common.{sym, ◌∙◌, arith, leb-true, eqb-true}
-use Prim.Native.Nat.{ℕ, zero, suc, ◌≤◌, ◌<◌}
-use Rattle.lists.specs.Bools.{by_cases}
+-- The fault of a preview, test by test, as its code goes; and the reply and the lent list by it. Assumes nothing.
+use Rattle.std.specs.Prelude.{◌≡◌, refl, ◌≢◌, Bool, true, false, not, cond, ◌&&◌, ◌||◌, List, ℕ, ◌≤◌, eqb, leb, length, ℤ}
+use Rattle.std.proofs.Common.{sym, ◌∙◌, true≢false, arith}
+use Rattle.std.proofs.lemmas.Bool.{false≢true}
 use Rattle.graph.specs.declared.Graph.{Graph}
-use Rattle.graph.specs.Valid.{Valid, valid}
-use Rattle.graph.specs.Meaning.{valid_true}
-use Rattle.tree_theory.specs.Inputs.{multipliers_fit, denominator_fits}
-use Rattle.onetree.specs.Answers.{refused, unless_fault, leaves, tree_reply, tree_leaves}
+use Rattle.tree_theory.specs.Inputs.{denominator_fits, denominator_fault, input_fault}
+use Rattle.greedy.proofs.Faults.{fault_first, fault_next}
+use Rattle.onetree.specs.Answers.{refused, tree_reply, tree_leaves}
+use Rattle.onetree.specs.TreeCall.{fault-replies, fault-leaves}
 use Rattle.preview.specs.Preview.{remarked, can_be_marked, is_free_edge, preview_fault, preview_reply, preview_leaves}
 
+-- what a test passed leaves, and what it refuses by its number
+after : (t : Bool) (e x : ℕ) → t ≡ true → cond (not t) e x ≡ x
+after true e x h = refl
+after false e x h = absurd (false≢true h)
+
+told : (t : Bool) (e x : ℕ) → t ≡ false → cond (not t) e x ≡ e
+told false e x h = refl
+told true e x h = absurd (true≢false h)
+
+-- a mark without a fault is 1 or 2
+pub marked_fits : (mark : ℕ) → ◌≡◌ {A = ℕ} 0 (cond (eqb mark 1 || eqb mark 2) 0 30) → (eqb mark 1 || eqb mark 2) ≡ true
+marked_fits mark h = go (eqb mark 1 || eqb mark 2) h
+  where
+    go : (t : Bool) → ◌≡◌ {A = ℕ} 0 (cond t 0 30) → t ≡ true
+    go true h = refl
+    go false h = absurd (omega arith)
+
 module _ (g : Graph) (d : List ℤ) (q k mark len : ℕ) where
-  pub fault-graph : valid g ≡ false → preview_fault g d q k mark len ≡ 15
+  pub of_input : (n : ℕ) → n ≡ input_fault g d len 0 → 1 ≤ n → n ≡ preview_fault g d q k mark len
   unfolding preview_fault
-  fault-graph v = rw v
+  of_input n h p = fault_first g d len _ n h p
 
-  pub fault-length : valid g ≡ true → (eqb (length d) g.n && eqb len g.m) ≡ false → preview_fault g d q k mark len ≡ 11
-  unfolding preview_fault
-  fault-length v l = rw (v, l)
+  module _ (input : ◌≡◌ {A = ℕ} 0 (input_fault g d len 0)) where
+    pub of_denominator : (n : ℕ) → n ≡ denominator_fault q → 1 ≤ n → n ≡ preview_fault g d q k mark len
+    unfolding preview_fault denominator_fault
+    of_denominator n h p = go (denominator_fits q) h ∙ sym (fault_next g d len _ (sym input))
+      where
+        go : (t : Bool) → n ≡ cond (not t) 32 0 → n ≡ cond (not t) 32 (cond (not (can_be_marked g k mark)) 30 (cond (not (is_free_edge g k)) 31 0))
+        go true h = absurd (omega arith)
+        go false h = h
 
-  pub fault_multipliers : valid g ≡ true → (eqb (length d) g.n && eqb len g.m) ≡ true → multipliers_fit d ≡ false
-      → preview_fault g d q k mark len ≡ 12
-  unfolding preview_fault
-  fault_multipliers v l f = rw (v, l, f)
+    module _ (denominator : ◌≡◌ {A = ℕ} 0 (denominator_fault q)) where
+      left : ◌≡◌ {A = ℕ} (cond (not (can_be_marked g k mark)) 30 (cond (not (is_free_edge g k)) 31 0)) (preview_fault g d q k mark len)
+      unfolding preview_fault denominator_fault
+      left = go (denominator_fits q) denominator ∙ sym (fault_next g d len _ (sym input))
+        where
+          go : (t : Bool) → ◌≡◌ {A = ℕ} 0 (cond (not t) 32 0)
+              → ◌≡◌ {A = ℕ} (cond (not (can_be_marked g k mark)) 30 (cond (not (is_free_edge g k)) 31 0))
+              (cond (not t) 32 (cond (not (can_be_marked g k mark)) 30 (cond (not (is_free_edge g k)) 31 0)))
+          go true h = refl
+          go false h = absurd (omega arith)
 
-  pub fault_denominator : valid g ≡ true → (eqb (length d) g.n && eqb len g.m) ≡ true → multipliers_fit d ≡ true
-      → denominator_fits q ≡ false → preview_fault g d q k mark len ≡ 32
-  unfolding preview_fault
-  fault_denominator v l f n = rw (v, l, f, n)
+      pub of_edge : (leb 1 k && leb k g.m) ≡ false → 30 ≡ preview_fault g d q k mark len
+      of_edge e = sym (told (can_be_marked g k mark) 30 _ (rw e refl)) ∙ left
 
-  pub fault_mark : valid g ≡ true → (eqb (length d) g.n && eqb len g.m) ≡ true → multipliers_fit d ≡ true
-      → denominator_fits q ≡ true → can_be_marked g k mark ≡ false
-      → preview_fault g d q k mark len ≡ 30
-  unfolding preview_fault
-  fault_mark v l f n c = rw (v, l, f, n, c)
+      pub of_mark : (n : ℕ) → n ≡ cond (eqb mark 1 || eqb mark 2) 0 30 → 1 ≤ n → n ≡ preview_fault g d q k mark len
+      of_mark n h p = go (eqb mark 1 || eqb mark 2) refl h
+        where
+          no_right : (b : Bool) → b && false ≡ false
+          no_right true = refl
+          no_right false = refl
 
-  pub fault_free : valid g ≡ true → (eqb (length d) g.n && eqb len g.m) ≡ true → multipliers_fit d ≡ true
-      → denominator_fits q ≡ true → can_be_marked g k mark ≡ true
-      → is_free_edge g k ≡ false → preview_fault g d q k mark len ≡ 31
-  unfolding preview_fault
-  fault_free v l f n c e = rw (v, l, f, n, c, e)
+          go : (t : Bool) → (eqb mark 1 || eqb mark 2) ≡ t → n ≡ cond t 0 30 → n ≡ preview_fault g d q k mark len
+          go true e h = absurd (omega arith)
+          go false e h = h ∙ sym (told (can_be_marked g k mark) 30 _ (rw e (no_right (leb 1 k && leb k g.m)))) ∙ left
 
-  pub fault_none : valid g ≡ true → (eqb (length d) g.n && eqb len g.m) ≡ true → multipliers_fit d ≡ true
-      → denominator_fits q ≡ true → can_be_marked g k mark ≡ true
-      → is_free_edge g k ≡ true → preview_fault g d q k mark len ≡ 0
-  unfolding preview_fault
-  fault_none v l f n c e = rw (v, l, f, n, c, e)
+      module _ (edge : (leb 1 k && leb k g.m) ≡ true) (fits : (eqb mark 1 || eqb mark 2) ≡ true) where
+        pub of_free : is_free_edge g k ≡ false → 31 ≡ preview_fault g d q k mark len
+        of_free e = sym (after (can_be_marked g k mark) 30 _ (rw (edge, fits) refl) ∙ told (is_free_edge g k) 31 0 e) ∙ left
 
--- an edge that can be marked is one, and the mark is 1 or 2
-pub marked_fits : (g : Graph) (k mark : ℕ) → can_be_marked g k mark ≡ true → (1 ≤ k) × (k ≤ g.m) × (mark ≤ 2)
-marked_fits g k mark c = go (leb 1 k) (leb k g.m) (eqb mark 1) (eqb mark 2) refl refl refl refl c
-  where
-    no : false ≡ true → ⊥
-    no e = let z : ◌≡◌ {A = ℕ} 0 1 = cc in omega arith
-
-    go : (p q r s : Bool) → leb 1 k ≡ p → leb k g.m ≡ q → eqb mark 1 ≡ r → eqb mark 2 ≡ s → ((p && q) && (r || s)) ≡ true
-        → (1 ≤ k) × (k ≤ g.m) × (mark ≤ 2)
-    go true true true s e f h i c = (leb-true 1 k e, leb-true k g.m f, omega (arith, eqb-true mark 1 h))
-    go true true false true e f h i c = (leb-true 1 k e, leb-true k g.m f, omega (arith, eqb-true mark 2 i))
-    go true true false false e f h i c = absurd (no c)
-    go true false r s e f h i c = absurd (no c)
-    go false q r s e f h i c = absurd (no c)
-
--- what is known where there is no fault
-pub record Faultless (g : Graph) (k mark : ℕ) : Type 0 where
-  pub is_valid : Valid g
-  pub least : 1 ≤ k
-  pub most : k ≤ g.m
-  pub is_mark : mark ≤ 2
-
-pub no_fault : (g : Graph) (d : List ℤ) (q k mark len : ℕ) → preview_fault g d q k mark len ≡ 0 → Faultless g k mark
-no_fault g d q k mark len e =
-    by_cases (valid g)
-    (λ v. by_cases (eqb (length d) g.n && eqb len g.m)
-    (λ l. by_cases (multipliers_fit d)
-    (λ f. by_cases (denominator_fits q)
-    (λ n. by_cases (can_be_marked g k mark)
-    (λ c. let r = marked_fits g k mark c in record { is_valid = valid_true g v; least = r.0; most = r.1; is_mark = r.2 })
-    (λ c. absurd (differ 30 (fault_mark g d q k mark len v l f n c) (omega arith))))
-    (λ n. absurd (differ 32 (fault_denominator g d q k mark len v l f n) (omega arith))))
-    (λ f. absurd (differ 12 (fault_multipliers g d q k mark len v l f) (omega arith))))
-    (λ l. absurd (differ 11 (fault-length g d q k mark len v l) (omega arith))))
-    (λ v. absurd (differ 15 (fault-graph g d q k mark len v) (omega arith)))
-  where
-    differ : (x : ℕ) → preview_fault g d q k mark len ≡ x → 0 < x → ⊥
-    differ x f h = let z : 0 ≡ x = sym e ∙ f in let w : 0 < x = h in omega arith
+        pub of_none : is_free_edge g k ≡ true → 0 ≡ preview_fault g d q k mark len
+        of_none e = sym (after (can_be_marked g k mark) 30 _ (rw (edge, fits) refl) ∙ after (is_free_edge g k) 31 0 e) ∙ left
 
 -- ---- the reply and the lent list, by the fault
 
 module _ (g : Graph) (d : List ℤ) (q k mark : ℕ) where
-  pub preview_refused : (len f : ℕ) → preview_fault g d q k mark len ≡ f → ¬ (f ≡ 0) → preview_reply g d q k mark len ≡ refused f 0
+  pub preview_refused : (len f : ℕ) → f ≡ preview_fault g d q k mark len → f ≢ 0 → refused f 0 ≡ preview_reply g d q k mark len
   unfolding preview_reply
-  preview_refused len f e h = rw e (go f h)
-    where
-      go : (f : ℕ) → ¬ (f ≡ 0) → unless_fault f (tree_reply (remarked g k mark) d q len) ≡ refused f 0
-      go zero h = absurd (h refl)
-      go (suc f) h = refl
+  preview_refused len f e h = rw (← e) (sym (fault-replies f _ h))
 
-  pub refused-leaves : (out : List ℕ) (f : ℕ) → preview_fault g d q k mark (length out) ≡ f → ¬ (f ≡ 0) → preview_leaves g d q k mark out ≡ out
+  pub refused-leaves : (out : List ℕ) (f : ℕ) → f ≡ preview_fault g d q k mark (length out) → f ≢ 0 → out ≡ preview_leaves g d q k mark out
   unfolding preview_leaves
-  refused-leaves out f e h = rw e (go f h)
-    where
-      go : (f : ℕ) → ¬ (f ≡ 0) → leaves f out (tree_leaves (remarked g k mark) d q out) ≡ out
-      go zero h = absurd (h refl)
-      go (suc f) h = refl
+  refused-leaves out f e h = rw (← e) (sym (fault-leaves f out _ h))
 
   pub preview_tree : (len : ℕ) → preview_fault g d q k mark len ≡ 0 → preview_reply g d q k mark len ≡ tree_reply (remarked g k mark) d q len
   unfolding preview_reply

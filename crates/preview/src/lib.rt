@@ -1,51 +1,56 @@
 // Document 02's C-11: what requiring or excluding one free edge would do to the least 1-tree. (Its words: leg for edge, struck for excluded.)
 #![tactic(auto)]
 
-ghost use Rattle.std.specs.Prelude.{◌≡◌, length};
+ghost use Rattle.std.specs.Prelude.{◌≡◌, ◌+◌, ◌≤◌, ◌&&◌, ◌||◌, IfOk, cond, eqb, leb, length};
 ghost use Rattle.graph.specs.Refusals.{fault_of};
+ghost use Rattle.graph.specs.Limits.{max_edges};
 ghost use Rattle.onetree.specs.Answers.{meaning};
-ghost use Rattle.preview.specs.Preview.{can_be_marked, preview_fault, preview_reply, preview_leaves};
+ghost use Rattle.preview.specs.Preview.{preview_fault, preview_reply, preview_leaves};
 
-use graph::{FREE, Graph, Refusal};
+use graph::{EXCLUDED, FREE, Graph, REQUIRED, Refusal};
+use onetree::{denominator_fault, input_fault};
 
-// Is there such an edge, and is the mark 1 or 2?
-fn can_be_marked(g: &Graph, edge: usize, mark: u32) -> bool
-    ensures { result ≡ can_be_marked g.now edge mark }
+// Is there such an edge?
+fn is_edge(g: &Graph, edge: usize) -> bool
+    ensures { result ≡ leb 1 edge && leb edge g.now.m }
 {
-    1 <= edge && edge <= usize::from(g.m) && (mark == 1 || mark == 2)
+    (1..=usize::from(g.m)).contains(&edge)
 }
 
-// The first fault of a preview, in document 02's order.
-#[tactic(auto, unfolding(crate::specs::Preview::preview_fault, tree_theory::specs::Inputs::input_fault))]
-fn fault(
+// A new mark as a graph has it: 1 or 2.
+fn new_mark(mark: u32) -> Result<u8, Refusal>
+    ensures fault { fault_of result ≡ cond (eqb mark 1 || eqb mark 2) 0 30 }
+    ensures same { IfOk result (λ m. m ≡ mark) }
+{
+    match mark {
+        1 => Ok(REQUIRED),
+        2 => Ok(EXCLUDED),
+        _ => Err(Refusal::NoSuchEdge),
+    }
+}
+
+// The first fault of a preview, in document 02's order; or the place of the edge and its new mark.
+fn asked(
     g: &Graph,
     multipliers: &[i32],
     denominator: u64,
     edge: usize,
     mark: u32,
-    len: usize,
-) -> Result<(), Refusal>
-    ensures { fault_of result ≡ preview_fault g.now multipliers.now denominator edge mark len }
+    lent: usize,
+) -> Result<(usize, u8), Refusal>
+    ensures fault { fault_of result ≡ preview_fault g.now multipliers.now denominator edge mark lent }
+    ensures place { IfOk result (λ p. (p.0 + 1 ≡ edge) × (p.0 + 1 ≤ max_edges) × (p.1 ≡ mark)) }
 {
-    if !g.check() {
-        return Err(Refusal::Graph);
-    }
-    if multipliers.len() != usize::from(g.n) || len != usize::from(g.m) {
-        return Err(Refusal::Length);
-    }
-    if !onetree::multipliers_fit(multipliers) {
-        return Err(Refusal::Multiplier);
-    }
-    if !onetree::denominator_fits(denominator) {
-        return Err(Refusal::Denominator);
-    }
-    if !can_be_marked(g, edge, mark) {
+    input_fault(g, multipliers, lent)?;
+    denominator_fault(denominator)?;
+    if !is_edge(g, edge) {
         return Err(Refusal::NoSuchEdge);
     }
+    let mark = new_mark(mark)?;
     if g.mark[edge - 1] != FREE {
         return Err(Refusal::NotFree);
     }
-    Ok(())
+    Ok((edge - 1, mark))
 }
 
 // The least 1-tree of a copy of the graph in which this free edge has this mark, as the tree call answers; the graph is untouched.
@@ -61,8 +66,8 @@ pub fn preview(
     ensures reply { meaning result ≡ preview_reply g.now multipliers.now denominator edge mark (length out.old) }
     ensures left { out.new ≡ preview_leaves g.now multipliers.now denominator edge mark out.old }
 {
-    fault(g, multipliers, denominator, edge, mark, out.len())?;
+    let (place, mark) = asked(g, multipliers, denominator, edge, mark, out.len())?;
     let mut h = *g;
-    h.mark[edge - 1] = mark as u8;
+    h.mark[place] = mark;
     onetree::tree(&h, multipliers, denominator, out)
 }

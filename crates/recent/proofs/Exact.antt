@@ -12,6 +12,7 @@ use Rattle.std.proofs.Math.Seq.{get_or-set_other, append_snoc}
 use Rattle.lists.specs.Members.{◌∈◌}
 use Rattle.lists.specs.Fill.{fill, fill-size, fill-at, fill_is}
 use Rattle.graph.specs.Limits.{max_edges}
+use Rattle.recent.specs.Remainders.{next_remainder}
 use Rattle.recent.specs.Places.{take_in}
 use Rattle.recent.specs.Costs.{Entry, times_of, latest, greatest_or, recent_cost, recent_costs}
 use Rattle.recent.specs.Answers.{max_window}
@@ -41,9 +42,16 @@ module _ (w : ℕ) (low : 1 ≤ w) (high : w ≤ max_window) (cost : List ℤ) w
     other : (j : ℕ) → e ≢ j → times_of (suc j) (log ++ new ∷ []) ≡ times_of (suc j) log
     other j q = times_other (suc j) log new (λ z. q (omega arith))
 
-    one_more : now.count ≡ length (times_of (suc e) (log ++ new ∷ []))
+    one_more : length (times_of (suc e) (log ++ new ∷ [])) ≡ length (times_of (suc e) log) + 1
+    one_more = omega (arith, ap length same, length-append (times_of (suc e) log) (t ∷ []))
+
+    next_place : now.next ≡ length (times_of (suc e) (log ++ new ∷ [])) % w
     unfolding stored
-    one_more = omega (arith, p.counted e here, ap length same, length-append (times_of (suc e) log) (t ∷ []))
+    next_place = rw (p.next e here, one_more) (next_remainder w (length (times_of (suc e) log)) low)
+
+    as_many : now.held ≡ min (length (times_of (suc e) (log ++ new ∷ []))) w
+    unfolding stored
+    as_many = omega (arith, p.held e here, one_more)
 
     -- the edge's own ring, and those of the others
     own : ring_of (set x.rings e now) e ≡ now
@@ -52,20 +60,25 @@ module _ (w : ℕ) (low : 1 ≤ w) (high : w ≤ max_window) (cost : List ℤ) w
     apart : (j : ℕ) → e ≢ j → ring_of (set x.rings e now) j ≡ ring_of x.rings j
     apart j q = get_or-set_other x.rings e j now _ (λ z. q (sym z))
 
-    counted : (j : ℕ) → j < max_edges → Dec (e ≡ j) → (ring_of (set x.rings e now) j).count ≡ length (times_of (suc j) (log ++ new ∷ []))
-    counted j h (yes q) = rw (← q, own) one_more
-    counted j h (no q) = rw (apart j q, other j q) (p.counted j h)
+    next : (j : ℕ) → j < max_edges → Dec (e ≡ j) → (ring_of (set x.rings e now) j).next ≡ length (times_of (suc j) (log ++ new ∷ [])) % w
+    next j h (yes q) = rw (← q, own) next_place
+    next j h (no q) = rw (apart j q, other j q) (p.next j h)
+
+    holds : (j : ℕ) → j < max_edges → Dec (e ≡ j)
+        → (ring_of (set x.rings e now) j).held ≡ min (length (times_of (suc j) (log ++ new ∷ []))) w
+    holds j h (yes q) = rw (← q, own) as_many
+    holds j h (no q) = rw (apart j q, other j q) (p.held j h)
 
     ring_size : (j : ℕ) → j < max_edges → Dec (e ≡ j) → length (ring_of (set x.rings e now) j).times ≡ max_window
     unfolding stored
-    ring_size j h (yes q) = rw (← q, own) (length-set old.times (old.count % w) t ∙ p.ring e here)
+    ring_size j h (yes q) = rw (← q, own) (length-set old.times old.next t ∙ p.ring e here)
     ring_size j h (no q) = rw (apart j q) (p.ring j h)
 
     kept-now : (i : ℕ) → i < length (times_of (suc e) (log ++ new ∷ [])) → length (times_of (suc e) (log ++ new ∷ [])) ≤ i + w
         → get_or now.times (i % w) (pos 0) ≡ get_or (times_of (suc e) (log ++ new ∷ [])) i (pos 0)
     unfolding stored
     kept-now =
-        rw (same, p.counted e here) (ring_next w old.times (times_of (suc e) log) t low
+        rw (same, p.next e here) (ring_next w old.times (times_of (suc e) log) t low
         (omega (arith, within (length (times_of (suc e) log)), p.ring e here)) (p.kept e here))
 
     kept : (j : ℕ) → j < max_edges → Dec (e ≡ j) → (i : ℕ) → i < length (times_of (suc j) (log ++ new ∷ []))
@@ -76,15 +89,15 @@ module _ (w : ℕ) (low : 1 ≤ w) (high : w ≤ max_window) (cost : List ℤ) w
 
     -- the cost of that edge, and of the others
     abbrev top : ℤ
-    top = greatest_or (pos 0) (held w now)
+    top = greatest_or (pos 0) (held now)
 
     top_is : top ≡ recent_cost w (get_or cost e (pos 0)) (log ++ new ∷ []) (suc e)
     unfolding recent_cost held
     top_is =
-        ap (λ (n : ℕ). greatest_or (pos 0) (take (min n w) now.times)) one_more
+        ap (λ (n : ℕ). greatest_or (pos 0) (take n now.times)) as_many
         ∙ held-greatest w low now.times (times_of (suc e) (log ++ new ∷ []))
-        (unfold stored in omega (arith, length-set old.times (old.count % w) t, p.ring e here))
-        kept-now (get_or cost e (pos 0)) (unfold stored in omega (arith, one_more))
+        (unfold stored in omega (arith, length-set old.times old.next t, p.ring e here))
+        kept-now (get_or cost e (pos 0)) (omega (arith, one_more))
 
     still : (j : ℕ) → e ≢ j → recent_cost w (get_or cost j (pos 0)) (log ++ new ∷ []) (suc j) ≡ recent_cost w (get_or cost j (pos 0)) log (suc j)
     unfolding recent_cost
@@ -118,7 +131,8 @@ module _ (w : ℕ) (low : 1 ≤ w) (high : w ≤ max_window) (cost : List ℤ) w
       size = length-set x.rings e now ∙ p.size;
       ring = λ j h. ring_size j h (ℕ_discrete e j);
       room = p.room;
-      counted = λ j h. counted j h (ℕ_discrete e j);
+      next = λ j h. next j h (ℕ_discrete e j);
+      held = λ j h. holds j h (ℕ_discrete e j);
       kept = λ j h. kept j h (ℕ_discrete e j);
       priced = priced;
     }

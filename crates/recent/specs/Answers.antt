@@ -1,5 +1,6 @@
 -- What the call answers and which graph it gives, for every input. Definitions only.
 use Rattle.std.specs.Prelude.{Bool, cond, not, ◌&&◌, List, [], ◌∷◌, ℕ, zero, suc, eqb, leb, length, ℤ, Result, Ok, Err}
+use Rattle.std.specs.Option.{unwrap_or}
 use Rattle.integers.specs.Range.{within}
 use Rattle.graph.specs.declared.Graph.{Graph}
 use Rattle.graph.specs.Limits.{max_cost}
@@ -17,16 +18,21 @@ pub data Reply : Type 0 where
   made : Reply
   refused : ℕ → ℕ → Reply
 
+-- "otherwise 0" is the place
 unfoldable pub meaning : Result (Unit {0}) Refused → Reply
 meaning (Ok _) = made
-meaning (Err r) = refused (number r.refusal) r.place
+meaning (Err r) = refused (number r.refusal) (unwrap_or r.place 0)
+
+-- "38 when w is out of range"
+abbrev pub window_fault : ℕ → ℕ
+window_fault w = cond (not (leb 1 w && leb w max_window)) 38 0
 
 -- what is refused before the log is read, of lists that are so long; 0 where nothing is
 unfoldable pub first_fault : Graph → ℕ → ℕ → ℕ → ℕ
 first_fault g w edges times =
     cond (not (valid g)) 15
     (cond (not (eqb edges times)) 11
-    (cond (not (leb 1 w && leb w max_window)) 38 0))
+    (window_fault w))
 
 -- the entry names an edge, 1 to m, and a time in the cost range
 unfoldable pub entry_ok : ℕ → Entry → Bool

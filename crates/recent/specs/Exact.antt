@@ -6,7 +6,7 @@ use Rattle.std.proofs.Common.{◌∙◌, arith, length-append, length-take-le, g
 use mathlib.Core.List.{List, [], ◌∷◌, ◌++◌, append-nil}
 use Prim.Native.Nat.{ℕ, suc, ◌+◌, ◌-◌, ◌%◌, ◌<◌, ◌≤◌, min}
 use Rattle.std.proofs.Math.Decide.{ℕ_discrete}
-use Rattle.std.proofs.Math.Nat.{mod-lt, mod-le}
+use Rattle.std.proofs.Math.Nat.{mod-lt, mod-le, zero-mod}
 use Rattle.std.proofs.Math.ListN.{length, get_or, set, take, get_or-append}
 use Rattle.std.proofs.lemmas.List.{length-replicate, get_or-replicate}
 use Rattle.std.proofs.Math.Seq.{drop-nil, get_or-set_other, get_or-append_seam}
@@ -52,8 +52,9 @@ pub record Keeps (w : ℕ) (cost : List ℤ) (x : Window) (log : List Entry) : T
   pub size : length x.rings ≡ max_edges
   pub ring : (j : ℕ) → j < max_edges → length (ring_of x.rings j).times ≡ max_window
   pub room : length cost ≡ max_edges
-  -- of the edge at place j the number of its times, and each of the last w of them
-  pub counted : (j : ℕ) → j < max_edges → (ring_of x.rings j).count ≡ length (times_of (suc j) log)
+  -- of the edge at place j the place of its next time, how many it holds, and each of the last w of them
+  pub next : (j : ℕ) → j < max_edges → (ring_of x.rings j).next ≡ length (times_of (suc j) log) % w
+  pub held : (j : ℕ) → j < max_edges → (ring_of x.rings j).held ≡ min (length (times_of (suc j) log)) w
   pub kept : (j : ℕ) → j < max_edges → (i : ℕ) → i < length (times_of (suc j) log) → length (times_of (suc j) log) ≤ i + w
       → get_or (ring_of x.rings j).times (i % w) (pos 0) ≡ get_or (times_of (suc j) log) i (pos 0)
   pub priced : x.costs ≡ recent_costs w cost log
@@ -67,7 +68,8 @@ keeps_none w cost room = record {
   size = length-replicate max_edges no_times;
   ring = λ j h. ap (λ (r : Ring). length r.times) (none_at j h) ∙ length-replicate max_window (pos 0);
   room = room;
-  counted = λ j h. ap (λ (r : Ring). r.count) (none_at j h);
+  next = λ j h. ap (λ (r : Ring). r.next) (none_at j h) ∙ sym (zero-mod w);
+  held = λ j h. ap (λ (r : Ring). r.held) (none_at j h) ∙ omega arith;
   kept = λ j h i l k. absurd (omega arith);
   priced =
       sym (fill_is (length cost) (λ i. recent_cost w (get_or cost i (pos 0)) [] (suc i)) cost (pos 0) refl

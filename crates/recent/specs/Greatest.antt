@@ -1,11 +1,10 @@
 -- The greatest of some times: as a statement, by membership and order; that the definition is it; and as a search through a list finds it. Assumes nothing.
 use Rattle.std.specs.Prelude.{◌≡◌, refl, ◌⊎◌, List, [], ◌∷◌, ◌≤◌, length, ℤ, ◌≤ℤ◌}
 use Rattle.std.proofs.Common.{◌∙◌, inl, inr, arith}
-use Rattle.std.specs.Int.Signed.{lt_z}
+use Rattle.std.specs.Int.Signed.{lt_z, ≤ℤ_refl}
 use Rattle.lists.specs.Bools.{by_cases}
 use Rattle.lists.specs.Members.{◌∈◌}
 use Rattle.std.specs.List.{All, Contains}
-use Rattle.integers.specs.Parts.{parts_le}
 use Rattle.integers.specs.Order.{le_trans, le_antisym, lt-le, test_lt, test_not_lt}
 use Rattle.recent.specs.Costs.{larger, greatest, greatest_or}
 use Rattle.recent.specs.Places.{at_in, in_at}
@@ -22,16 +21,13 @@ greatest-one l k z y to from g h = le_antisym z y (h.most z (to z g.member)) (g.
 
 -- ---- the larger of two
 
-pub le_self : (x : ℤ) → x ≤ℤ x
-le_self x = parts_le x x (omega arith)
-
 pub larger-left : (x y : ℤ) → x ≤ℤ larger x y
 unfolding larger
-larger-left x y = by_cases (lt_z x y) (λ t. rw t (lt-le x y (test_lt x y t))) (λ t. rw t (le_self x))
+larger-left x y = by_cases (lt_z x y) (λ t. rw t (lt-le x y (test_lt x y t))) (λ t. rw t (≤ℤ_refl x))
 
 pub larger_right : (x y : ℤ) → y ≤ℤ larger x y
 unfolding larger
-larger_right x y = by_cases (lt_z x y) (λ t. rw t (le_self y)) (λ t. rw t (test_not_lt x y t))
+larger_right x y = by_cases (lt_z x y) (λ t. rw t (≤ℤ_refl y)) (λ t. rw t (test_not_lt x y t))
 
 larger_is : (x y : ℤ) → (larger x y ≡ x) ⊎ (larger x y ≡ y)
 unfolding larger
@@ -44,7 +40,7 @@ unfolding greatest
 greatest_is x [] = record { member = inl refl; most = λ y m. only y m }
   where
     only : (y : ℤ) → (y ≡ x) ⊎ ⊥ → y ≤ℤ x
-    only y (inl e) = rw e (le_self x)
+    only y (inl e) = rw e (≤ℤ_refl x)
     only y (inr e) = absurd e
 greatest_is x (y ∷ l) = go (greatest_is (larger x y) l)
   where

@@ -1,19 +1,19 @@
 -- The loop over the log: what holds before entry i, one entry more, and what it promises where it stops. Assumes nothing.
-use Rattle.std.specs.Prelude.{◌≡◌, refl, Bool, true, false, ◌&&◌, ℕ, zero, suc, ◌+◌, ◌-◌, ◌<◌, ◌≤◌, eqb, leb, get_or, drop, ℤ, pos}
+use Rattle.std.specs.Prelude.{◌≡◌, refl, true, false, ◌&&◌, ℕ, zero, suc, ◌+◌, ◌-◌, ◌<◌, ◌≤◌, leb, get_or, drop, ℤ, pos}
 use Rattle.std.proofs.Math.Path.{sym, ap}
-use Rattle.std.proofs.Common.{◌∙◌, arith, length-take-le, take-suc, drop-cons, leb-true}
+use Rattle.std.proofs.Common.{◌∙◌, arith, take-suc, drop-cons, leb-true}
 use mathlib.Core.List.{List, [], ◌∷◌, ◌++◌}
+use Rattle.std.proofs.Math.Nat.{mod-lt}
 use Rattle.std.proofs.Math.Numerals.{add-one}
 use Rattle.std.proofs.Math.ListN.{length, take}
 use Rattle.std.proofs.Math.Seq.{take-length, drop-length}
 use Rattle.lists.specs.Bools.{and_both}
-use Rattle.lists.specs.Select.{keep}
 use Rattle.integers.specs.Range.{within}
 use Rattle.graph.specs.Limits.{max_edges, max_cost}
 use Rattle.recent.specs.Costs.{Entry, log_of, times_of}
 use Rattle.recent.specs.Answers.{max_window, made, refused, entry_ok, bad_from, unless_bad}
 use Rattle.recent.specs.declared.Window.{Window}
-use Rattle.recent.specs.Windows.{unused, ring_of, entered, entered_all, max_counted, CanEnter, Replayed}
+use Rattle.recent.specs.Windows.{unused, entered, entered_all, CanEnter, Replayed}
 use Rattle.recent.specs.Exact.{Keeps, keeps_none}
 
 -- ---- the log of two lists
@@ -78,29 +78,15 @@ replaying_none w m cost log low high few room x e = rw e (record {
   good = refl;
 })
 
--- no edge has more times than there are entries
-times_most : (k : ℕ) (log : List Entry) → length (times_of k log) ≤ length log
-unfolding times_of
-times_most k [] = omega arith
-times_most k (e ∷ log) = go (eqb e.edge k) (times_most k log)
-  where
-    go : (b : Bool) → length (times_of k log) ≤ length log → length (keep b e.time (times_of k log)) ≤ suc (length log)
-    go true h = omega arith
-    go false h = omega arith
-
 module _ (w m : ℕ) (cost : List ℤ) (log : List Entry) (i : ℕ) (x : Window) (r : Replaying w m cost log i x) where
-  count_most : (k : ℕ) → k < max_edges → (ring_of x.rings k).count ≤ i
-  count_most k h = omega (arith, r.keeps.counted k h, times_most (suc k) (take i log), length-take-le i log r.at_most)
-
-  pub can_enter : (e : Entry) → entry_ok m e ≡ true → i < max_counted → CanEnter w (e.edge - 1) x
-  can_enter e ok h =
+  pub can_enter : (e : Entry) → entry_ok m e ≡ true → CanEnter w (e.edge - 1) x
+  can_enter e ok =
       let p = ok_edge m e ok in
       let k : e.edge - 1 < max_edges = omega (arith, p.0, p.1, r.few) in
       record {
-        low = r.low;
-        high = r.high;
         edge = k;
-        room = omega (arith, count_most (e.edge - 1) k);
+        next = omega (arith, r.keeps.next (e.edge - 1) k, mod-lt (length (times_of (suc (e.edge - 1)) (take i log))) r.low);
+        held = omega (arith, r.keeps.held (e.edge - 1) k);
       }
 
   module _ (e : Entry) (h : i < length log) (at : get_or log i e ≡ e) where

@@ -1,7 +1,7 @@
--- What the loop keeps of the log so far: for each edge a ring of 32 places, of which the first w are used, how many times were entered, and the
--- cost. An entry is stored at the count's remainder by w, so that it takes the place of the oldest of w. Nothing here grows with the log.
+-- What the loop keeps of the log so far: for each edge a ring of 32 places, of which the first w are used, the place of the oldest of w, how many
+-- times it holds, and the cost. An entry takes the place of the oldest of w. Nothing here grows with the log.
 -- Definitions only.
-use Rattle.std.specs.Prelude.{◌≡◌, List, [], ◌∷◌, ℕ, zero, suc, ◌+◌, ◌-◌, ◌%◌, ◌<◌, ◌≤◌, min, get_or, set, take, replicate, ℤ, pos}
+use Rattle.std.specs.Prelude.{◌≡◌, List, [], ◌∷◌, ℕ, zero, suc, ◌+◌, ◌-◌, ◌<◌, ◌≤◌, cond, ltb, min, get_or, set, take, replicate, ℤ, pos}
 use Rattle.graph.specs.Limits.{max_edges}
 use Rattle.recent.specs.Costs.{Entry, greatest_or, recent_costs}
 use Rattle.recent.specs.Answers.{max_window, Reply, bad_from, unless_bad}
@@ -13,13 +13,13 @@ entry_of edge time = record { edge = edge; time = time }
 
 -- one edge's ring: nothing entered; one time more; and the last w times that it holds
 unfoldable pub no_times : Ring
-no_times = record { times = replicate max_window (pos 0); count = 0 }
+no_times = record { times = replicate max_window (pos 0); next = 0; held = 0 }
 
 unfoldable pub stored : ℕ → Ring → ℤ → Ring
-stored w r t = record { times = set r.times (r.count % w) t; count = r.count + 1 }
+stored w r t = record { times = set r.times r.next t; next = cond (ltb (r.next + 1) w) (r.next + 1) 0; held = min (r.held + 1) w }
 
-unfoldable pub held : ℕ → Ring → List ℤ
-held w r = take (min r.count w) r.times
+unfoldable pub held : Ring → List ℤ
+held r = take r.held r.times
 
 -- nothing entered, and the graph's costs
 unfoldable pub unused : List ℤ → Window
@@ -28,7 +28,7 @@ unused cost = record { rings = replicate max_edges no_times; costs = cost }
 
 -- the ring of the edge at place k
 abbrev pub ring_of : List Ring → ℕ → Ring
-ring_of rings k = get_or rings k (record { times = []; count = 0 })
+ring_of rings k = get_or rings k (record { times = []; next = 0; held = 0 })
 
 -- one entry, of the edge at place k
 unfoldable pub entered_at : ℕ → Window → ℕ → ℤ → Window
@@ -36,21 +36,17 @@ unfolding stored held greatest_or
 entered_at w x k t =
     record {
       rings = set x.rings k (stored w (ring_of x.rings k) t);
-      costs = set x.costs k (greatest_or (pos 0) (held w (stored w (ring_of x.rings k) t)));
+      costs = set x.costs k (greatest_or (pos 0) (held (stored w (ring_of x.rings k) t)));
     }
 
 abbrev pub entered : ℕ → Window → Entry → Window
 entered w x e = entered_at w x (e.edge - 1) e.time
 
--- what one entry asks: a window of w places, an edge's place, and that its count can grow
-abbrev pub max_counted : ℕ
-max_counted = 18446744073709551615
-
+-- what one entry asks: an edge's place, whose ring goes through w places
 pub record CanEnter (w k : ℕ) (x : Window) : Type 0 where
-  pub low : 1 ≤ w
-  pub high : w ≤ max_window
   pub edge : k < max_edges
-  pub room : (ring_of x.rings k).count < max_counted
+  pub next : (ring_of x.rings k).next < w
+  pub held : (ring_of x.rings k).held ≤ w
 
 -- the entries of a log, one after the other
 unfoldable pub entered_all : ℕ → Window → List Entry → Window

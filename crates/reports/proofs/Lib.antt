@@ -2,3 +2,5 @@ mod Pieces
 mod Ceiling
 mod Whole
 mod Zeros
+-- laws that no proof cites today
+mod Further

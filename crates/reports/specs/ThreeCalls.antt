@@ -1,14 +1,12 @@
 -- Calls on a fresh record answer as the machine does: crate search's theorem of one call, at the three calls of program 'hunt'. Assumes nothing.
-use Rattle.std.specs.Prelude.{◌≡◌, refl, true, false, Ok}
+use Rattle.std.specs.Prelude.{◌≡◌, true, false}
 use Rattle.std.proofs.Common.{◌∙◌, ap}
 use Rattle.machine.specs.Machine.{Opening, State, no_search}
 use Rattle.machine.specs.Calls.{Call, opens, run, tell, step, is_accepted}
 use Rattle.machine.specs.Kept.{KeptState}
 use Rattle.machine.proofs.Preserved.{step_kept}
 use Rattle.search.specs.Record.{fresh, encode}
-use Rattle.search.specs.Replies.{means, Outcome, reply}
-use Rattle.search.specs.declared.Said.{Said}
-use Rattle.search.specs.declared.Said.TheVariants.{Accepted, GoingOn, Finished, Searching, NoTour, Best}
+use Rattle.search.specs.Replies.{Outcome, reply}
 use Rattle.search.specs.Theorem.{reply_is}
 use Rattle.reports.specs.Searching.{budget, last_answer}
 
@@ -44,12 +42,3 @@ module _ (o : Opening) where
       → (reply (reply (reply fresh (opens o)).search (run budget)).search tell).answer ≡ last_answer o
   unfolding last_answer
   answer-told h = third_answer (opens o) (run budget) tell ∙ rw (rw (first-answer (opens o)) at h)
-
--- what is no refusal is accepted
-pub accepted-ok : (x : Said) → is_accepted (means (Ok x)) ≡ true
-accepted-ok Accepted = refl
-accepted-ok (GoingOn count) = refl
-accepted-ok (Finished count) = refl
-accepted-ok (Searching count) = refl
-accepted-ok (NoTour count) = refl
-accepted-ok (Best c count) = refl

@@ -1,10 +1,13 @@
 // What both programs read: a ceiling and then a chart.
 ghost use Rattle.graph.specs.Valid.{Valid};
 
-use graph::{Graph, Refusal, Refused};
+use graph::{Graph, MAX_VERTICES, Refusal, Refused};
 
 // The bytes of the ceiling.
 const CEILING_SIZE: usize = 8;
+
+// The multipliers of both programs.
+static NO_MULTIPLIERS: [i32; MAX_VERTICES] = [0; MAX_VERTICES];
 
 // What a program reads: one byte more than the longest input.
 pub const INPUT_SIZE: usize = CEILING_SIZE + charts::MAX_SIZE + 1;
@@ -22,6 +25,7 @@ impl Input {
     ghost use Rattle.graph.specs.declared.Graph.{Graph};
     ghost use Rattle.reports.specs.Input.{printed};
     ghost use Rattle.reports.specs.Reading.{printed_of};
+    ghost use Rattle.reports.specs.Rulings.{zero_multipliers};
 
     // Ruled out: a refusal of the ceiling beside a fault of the chart.
     pub(crate) fn read(bytes: &[u8]) -> Result<Input, Refused>
@@ -35,5 +39,12 @@ impl Input {
             ceiling: i64::from_le_bytes(*ceiling),
             graph,
         })
+    }
+
+    // A multiplier of zero for each vertex.
+    pub(crate) fn multipliers(&self) -> &'static [i32]
+        ensures { result.now ≡ zero_multipliers self.now.graph }
+    {
+        &NO_MULTIPLIERS[..usize::from(self.graph.n)]
     }
 }

@@ -1,108 +1,111 @@
-// The lines that the programs print.
+// The lines that the programs print, each in a string of fixed capacity, so that its size is its type's. std's `write!` is not used: its contract
+// says what was written where it answers Ok, and never that it does.
 ghost use Rattle.std.specs.Prelude.{◌≡◌, ◌++◌, ◌+◌, ◌≤◌, length};
+ghost use Rattle.std.specs.Option.{unwrap_or};
+ghost use Rattle.arrayvec.specs.ArrayString.{array_string_len};
 ghost use Rattle.graph.specs.Refusals.{number};
 ghost use Rattle.machine.specs.Calls.{best};
-ghost use Rattle.reports.specs.Text.{buffer_size, refused_line, dead_line, bound_line, ruling_word, edge_line, verdict_line, nodes_line};
+ghost use Rattle.reports.specs.Text.{refused_line, bound_line, ruling_word, edge_line, verdict_line, nodes_line};
 
-use crate::text::Text;
+use arrayvec::ArrayString;
 use graph::Refused;
+use itoa::{Buffer, Integer};
 use onetree::Ruling;
 
-// Rulings, as lists have them: bytes, since C lends the lists.
-const KEEP: u8 = Ruling::Keep as u8;
+// Two numbers of 64 bits, and the words about them: the longest line.
+const LINE_SIZE: usize = 56;
 
-const FORCE: u8 = Ruling::Force as u8;
+// Three numbers of a byte, and a ruling's word.
+const EDGE_LINE_SIZE: usize = 21;
 
-const BAR: u8 = Ruling::Bar as u8;
+pub(crate) type Line = ArrayString<LINE_SIZE>;
 
-const WAS_REQUIRED: u8 = Ruling::WasRequired as u8;
+pub(crate) type EdgeLine = ArrayString<EDGE_LINE_SIZE>;
 
+// The word of a ruling's byte, as the list has it that the rule call is lent.
 #[tactic(auto, unfolding(crate::specs::Text::ruling_word))]
-fn word_of(ruling: u8) -> &'static [u8]
-    ensures word { result.now ≡ ruling_word ruling }
+fn word_of(byte: u8) -> &'static str
+    ensures word { result.now ≡ ruling_word byte }
     ensures len { length result.now ≤ 8 }
 {
-    match ruling {
-        KEEP => b"keep",
-        FORCE => b"force",
-        BAR => b"bar",
-        WAS_REQUIRED => b"required",
-        _ => b"struck",
+    match Ruling::try_from(byte) {
+        Ok(Ruling::Keep) => "keep",
+        Ok(Ruling::Force) => "force",
+        Ok(Ruling::Bar) => "bar",
+        Ok(Ruling::WasRequired) => "required",
+        Ok(Ruling::WasExcluded) | Err(_) => "struck",
     }
 }
 
-impl Text {
-    // 'refused N at P'
-    pub(crate) fn put_refused(&mut self, refused: Refused)
-        requires { length self.old + 56 ≤ buffer_size }
-        ensures text { self.new ≡ self.old ++ refused_line (number refused.refusal) refused.place }
-        ensures len { length self.new ≤ length self.old + 56 }
-    {
-        self.put(b"refused ");
-        self.put_number(refused.refusal.number());
-        self.put(b" at ");
-        self.put_number(refused.place);
-        self.put(b"\n");
-    }
+// The digits of a number, with '-' before a negative one and no zero in front.
+fn push_number<const N: usize, I: Integer>(line: &mut ArrayString<N>, n: I)
+    requires { array_string_len line.old + I.MAX_STR_LEN ≤ N }
+    ensures text { line.new.bytes ≡ line.old.bytes ++ I.text n }
+    ensures len { array_string_len line.new ≤ array_string_len line.old + I.MAX_STR_LEN }
+{
+    line.push_str(Buffer::new().format(n));
+}
 
-    // 'dead'
-    #[tactic(auto, unfolding(crate::specs::Text::dead_line))]
-    pub(crate) fn put_dead(&mut self)
-        requires { length self.old + 56 ≤ buffer_size }
-        ensures text { self.new ≡ self.old ++ dead_line }
-        ensures len { length self.new ≤ length self.old + 56 }
-    {
-        self.put(b"dead\n");
-    }
+// 'refused N at P'
+pub(crate) fn refused(refused: Refused) -> Line
+    ensures { result.bytes ≡ refused_line (number refused.refusal) (unwrap_or refused.place 0) }
+{
+    let mut line = Line::new();
+    line.push_str("refused ");
+    push_number(&mut line, u32::from(refused.refusal));
+    line.push_str(" at ");
+    push_number(&mut line, refused.place.unwrap_or(0));
+    line.push_str("\n");
+    line
+}
 
-    // The first line: the bound and the ceiling.
-    pub(crate) fn put_bound(&mut self, bound: i64, ceiling: i64)
-        requires { length self.old + 56 ≤ buffer_size }
-        ensures text { self.new ≡ self.old ++ bound_line bound ceiling }
-        ensures len { length self.new ≤ length self.old + 56 }
-    {
-        self.put(b"bound ");
-        self.put_number(bound);
-        self.put(b" ceiling ");
-        self.put_number(ceiling);
-        self.put(b"\n");
-    }
+// The first line: the bound and the ceiling.
+pub(crate) fn bound(bound: i64, ceiling: i64) -> Line
+    ensures { result.bytes ≡ bound_line bound ceiling }
+{
+    let mut line = Line::new();
+    line.push_str("bound ");
+    push_number(&mut line, bound);
+    line.push_str(" ceiling ");
+    push_number(&mut line, ceiling);
+    line.push_str("\n");
+    line
+}
 
-    // The line of edge k, which joins a and b.
-    pub(crate) fn put_edge(&mut self, k: u8, a: u8, b: u8, ruling: u8)
-        requires { length self.old + 21 ≤ buffer_size }
-        ensures text { self.new ≡ self.old ++ edge_line k a b ruling }
-        ensures len { length self.new ≤ length self.old + 21 }
-    {
-        self.put_number(k);
-        self.put(b" ");
-        self.put_number(a);
-        self.put(b"-");
-        self.put_number(b);
-        self.put(b" ");
-        self.put(word_of(ruling));
-        self.put(b"\n");
-    }
+// The line of edge k, which joins a and b.
+pub(crate) fn edge(k: u8, a: u8, b: u8, ruling: u8) -> EdgeLine
+    ensures { result.bytes ≡ edge_line k a b ruling }
+{
+    let mut line = EdgeLine::new();
+    push_number(&mut line, k);
+    line.push_str(" ");
+    push_number(&mut line, a);
+    line.push_str("-");
+    push_number(&mut line, b);
+    line.push_str(" ");
+    line.push_str(word_of(ruling));
+    line.push_str("\n");
+    line
+}
 
-    // 'cost C'
-    pub(crate) fn put_cost(&mut self, cost: i64)
-        requires { length self.old + 56 ≤ buffer_size }
-        ensures text { self.new ≡ self.old ++ verdict_line (best cost) }
-        ensures len { length self.new ≤ length self.old + 56 }
-    {
-        self.put(b"cost ");
-        self.put_number(cost);
-        self.put(b"\n");
-    }
+// 'cost C'
+pub(crate) fn cost(cost: i64) -> Line
+    ensures { result.bytes ≡ verdict_line (best cost) }
+{
+    let mut line = Line::new();
+    line.push_str("cost ");
+    push_number(&mut line, cost);
+    line.push_str("\n");
+    line
+}
 
-    // 'nodes K'
-    pub(crate) fn put_nodes(&mut self, count: u64)
-        requires { length self.old + 56 ≤ buffer_size }
-        ensures text { self.new ≡ self.old ++ nodes_line count }
-        ensures len { length self.new ≤ length self.old + 56 }
-    {
-        self.put(b"nodes ");
-        self.put_number(count);
-        self.put(b"\n");
-    }
+// 'nodes K'
+pub(crate) fn nodes(count: u64) -> Line
+    ensures { result.bytes ≡ nodes_line count }
+{
+    let mut line = Line::new();
+    line.push_str("nodes ");
+    push_number(&mut line, count);
+    line.push_str("\n");
+    line
 }

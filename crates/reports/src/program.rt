@@ -1,12 +1,20 @@
-// What the two programs share: what is read, what is printed of a refusal, and how a reader's bytes come in.
-ghost use Rattle.std.specs.Prelude.{◌≡◌, ◌≤◌, IfOk, IfSome, length};
+// What the two programs share: what is read, what is printed of a refusal, and how bytes come in and go out.
+ghost use Rattle.std.specs.Prelude.{◌≡◌, ◌≤◌, IfOk, IfSome, OnOk, length};
+ghost use Rattle.std.specs.Io.KnownBytes.{Appends};
 ghost use Rattle.reports.specs.Input.{printed};
 ghost use Rattle.reports.specs.Longest.{enough};
 
-use crate::input::Input;
-use crate::text::Text;
+use crate::input::{INPUT_SIZE, Input};
+use crate::lines;
+use arrayvec::ArrayString;
 use std::io;
-use std::io::Read;
+use std::io::{Read, Write};
+
+// The longest text.
+pub const BUFFER_SIZE: usize = 4096;
+
+// All that a program prints, in fixed memory.
+pub type Text = ArrayString<BUFFER_SIZE>;
 
 // What a program has of its own: what it prints of a ceiling and a graph. Each is a type, so that what they share is one function.
 pub trait Program {
@@ -16,18 +24,19 @@ pub trait Program {
     ghost says: { ℤ → Graph → List ℕ };
 
     fn text(input: &Input) -> Text
-        ensures { result ≡ says input.now.ceiling input.now.graph };
+        ensures { result.bytes ≡ says input.now.ceiling input.now.graph };
 }
 
 // All that a program prints of an input.
-pub(crate) fn printed<P: Program>(input: &[u8]) -> Text
-    ensures { result ≡ printed P.says input.now }
+// Ruled out: a refusal of the ceiling beside a fault of the chart; a byte after the line of a refusal.
+pub fn printed<P: Program>(input: &[u8]) -> Text
+    ensures { result.bytes ≡ printed P.says input.now }
 {
     match Input::read(input) {
         Ok(read) => P::text(&read),
         Err(refused) => {
             let mut text = Text::new();
-            text.put_refused(refused);
+            text.push_str(lines::refused(refused).as_str());
             text
         }
     }
@@ -38,8 +47,18 @@ pub(crate) fn printed<P: Program>(input: &[u8]) -> Text
 // Ruled out: an input cut short; a byte that lay in the room before.
 pub fn report<P: Program, R: Read>(from: &mut R, room: &mut [u8]) -> io::Result<Text>
     ensures { enough ≤ length room.old
-        → IfOk result (λ t. IfSome (R.remaining from.old) (λ all. t ≡ printed P.says all)) }
+        → IfOk result (λ t. IfSome (R.remaining from.old) (λ all. t.bytes ≡ printed P.says all)) }
 {
     let n = intake::read_full(from, room)?;
     Ok(printed::<P>(&room[..n]))
+}
+
+// The whole of a program: reads all, with room for the longest input and a byte more, and writes all that it prints of it.
+// Ruled out: room for less than the longest input; a text written in part, or with a byte more.
+pub fn run<P: Program, R: Read, W: Write>(from: &mut R, to: &mut W) -> io::Result<()>
+    ensures { OnOk result (IfSome (R.remaining from.old)
+        (λ all. Appends (W.contents to.old) (W.contents to.new) (printed P.says all))) }
+{
+    let text = report::<P, R>(from, &mut [0; INPUT_SIZE])?;
+    to.write_all(text.as_str().as_bytes())
 }

@@ -1,25 +1,22 @@
 // What program 'hunt' prints.
 ghost use Rattle.std.specs.Prelude.{◌≡◌};
-ghost use Rattle.search.specs.Replies.{means};
-ghost use Rattle.reports.specs.Searching.{plain_opening, last_answer, search_program_text};
+ghost use Rattle.search.specs.Replies.{tell_means};
+ghost use Rattle.reports.specs.Searching.{plain_opening, last_answer};
 
-use crate::PLAIN_DENOMINATOR;
 use crate::input::Input;
-use crate::program::{Program, printed};
-use crate::text::Text;
-use graph::{MAX_VERTICES, Refused};
+use crate::program::{Program, Text};
+use crate::{PLAIN_DENOMINATOR, lines};
+use graph::{Refusal, Refused};
 use machine::Settings;
-use search::{Answer, Said, Search};
+use search::{Search, Verdict};
 
 // The budget of the one run.
 const BUDGET: u64 = 1_000_000;
 
 // The answer to print, with zero multipliers: a refused opening's, or what tell gives after one run.
-fn last_answer(input: &Input) -> Answer
-    ensures { means result ≡ last_answer (plain_opening input.now.ceiling input.now.graph) }
+fn last_answer(input: &Input) -> Result<Verdict, Refusal>
+    ensures { tell_means result ≡ last_answer (plain_opening input.now.ceiling input.now.graph) }
 {
-    let g = &input.graph;
-    let multipliers = [0; MAX_VERTICES];
     let settings = Settings {
         ceiling: input.ceiling,
         sweeps: 0,
@@ -27,7 +24,7 @@ fn last_answer(input: &Input) -> Answer
         denominator: PLAIN_DENOMINATOR,
     };
     let mut search = Search::fresh();
-    search.open(g, &multipliers[..usize::from(g.n)], settings)?;
+    search.open(&input.graph, input.multipliers(), settings)?;
     let _ = search.run(BUDGET);
     search.tell()
 }
@@ -44,29 +41,20 @@ impl Program for Hunt {
     fn text(input: &Input) -> Text {
         let mut text = Text::new();
         match last_answer(input) {
-            Ok(Said::Searching(count)) => {
-                text.put(b"going on\n");
-                text.put_nodes(count);
+            Ok(Verdict::Searching(count)) => {
+                text.push_str("going on\n");
+                text.push_str(lines::nodes(count).as_str());
             }
-            Ok(Said::NoTour(count)) => {
-                text.put(b"none\n");
-                text.put_nodes(count);
+            Ok(Verdict::NoTour(count)) => {
+                text.push_str("none\n");
+                text.push_str(lines::nodes(count).as_str());
             }
-            Ok(Said::Best(cost, count)) => {
-                text.put_cost(cost);
-                text.put_nodes(count);
+            Ok(Verdict::Best { cost, count }) => {
+                text.push_str(lines::cost(cost).as_str());
+                text.push_str(lines::nodes(count).as_str());
             }
-            Ok(Said::Accepted | Said::GoingOn(_) | Said::Finished(_)) => {}
-            Err(refusal) => text.put_refused(Refused::from(refusal)),
+            Err(refusal) => text.push_str(lines::refused(Refused::from(refusal)).as_str()),
         }
         text
     }
-}
-
-// All that program 'hunt' prints of an input.
-// Ruled out: a verdict beside a refusal; the count of another run.
-pub fn search_text(input: &[u8]) -> Text
-    ensures { result ≡ search_program_text input.now }
-{
-    printed::<Hunt>(input)
 }

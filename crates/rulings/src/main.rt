@@ -1,22 +1,10 @@
-// Program 'rulings': reads a ceiling and a chart from standard input, and prints the rulings with zero multipliers. What it prints is
-// computed by crate reports; here stand only the calls that read and write.
+// Program 'rulings': reads a ceiling and a chart from standard input, and prints the rulings with zero multipliers. What it reads and prints is
+// crate reports'; here stand only where from and where to.
 #![tactic(auto)]
 
-ghost use Rattle.std.specs.Prelude.{◌≡◌, IfOk, IfSome};
-ghost use Rattle.reports.specs.Rulings.{rulings_text};
-
-use reports::{INPUT_SIZE, Rulings, Text};
+use reports::Rulings;
 use std::io;
-use std::io::Read;
-
-// All that is printed of what a reader has.
-fn text<R: Read>(from: &mut R) -> io::Result<Text>
-    ensures { IfOk result (λ t. IfSome (R.remaining from.old) (λ all. t ≡ rulings_text all)) }
-{
-    reports::report::<Rulings, R>(from, &mut [0; INPUT_SIZE])
-}
 
 fn main(rt: HostRuntime) -> io::Result<()> {
-    let text = text(&mut rt.stdin())?;
-    rt.write_all(text.as_bytes())
+    reports::run::<Rulings, _, _>(&mut rt.stdin(), &mut rt.stdout())
 }

@@ -4,7 +4,7 @@ use Rattle.std.proofs.Math.Path.{refl}
 use Rattle.std.proofs.Common.{◌∙◌, arith}
 use Rattle.lists.specs.Bools.{by_cases}
 use Rattle.graph.specs.declared.refusals.Refusal.{Refusal}
-use Rattle.graph.specs.Refusals.{number, positive}
+use Rattle.graph.specs.Refusals.{number, not-zero}
 use Rattle.machine.specs.Calls.{Call, lent_by}
 use Rattle.search.specs.Record.{is_open}
 use Rattle.search.specs.Check.{check}
@@ -17,6 +17,6 @@ pub closed-refused : (s : Search) → (check s ≡ true → Typed s) → (c : Ca
     → (reply s c ≡ refuses s (number r)) × (lent s c ≡ lent_by c)
 closed-refused s t c n r e = by_cases (check s)
     (λ h. by_cases (is_open s)
-    (λ o. absurd (let z : number r ≡ 0 = e ∙ rw (h, o) refl in omega (arith, positive r)))
+    (λ o. absurd (not-zero r (e ∙ rw (h, o) refl)))
     (λ o. let z : number r ≡ 20 = e ∙ rw (h, o) refl in rw z (reply_20 s (t h) h o c n, lent_20 s (t h) h o c n)))
     (λ h. let z : number r ≡ 24 = e ∙ rw h refl in rw z (reply_24 s c h, lent_24 s c h))

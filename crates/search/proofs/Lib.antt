@@ -1,2 +1,4 @@
 -- what is refused before all input
 pub mod Closed
+-- laws that no proof cites today
+mod Further

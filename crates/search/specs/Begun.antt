@@ -1,31 +1,35 @@
 -- The record that an accepted opening leaves, from what its code makes: the trimmed graph, the padded multipliers, and one node in the
 -- stack's words. Assumes nothing.
-use Rattle.std.specs.Prelude.{◌≡◌, ℕ, zero, suc, ◌+◌, ◌/◌, ◌%◌, ◌^◌, ◌≤◌, ◌<◌, length, get_or, set, ℤ, pos}
+use Rattle.std.specs.Prelude.{◌≡◌, ℕ, length, get_or, ℤ, pos}
 use Rattle.std.proofs.Math.Path.{refl}
-use Rattle.std.proofs.Common.{sym, ap, ◌∙◌, subst, arith, get_or-set_same}
+use Rattle.std.proofs.Common.{sym, ap, ◌∙◌, subst}
 use mathlib.Core.List.{List, [], ◌∷◌}
 use Rattle.std.proofs.Math.ListN.{replicate}
 use Rattle.lists.specs.Rows.{row, row-size, row_at}
 use Rattle.lists.specs.Fill.{fit, fill_is}
 use Rattle.graph.specs.declared.Graph.{Graph}
 use Rattle.graph.specs.Limits.{max_vertices, max_edges}
-use Rattle.graph.specs.Network.{Mark, free, required, excluded, mark_of, network}
+use Rattle.graph.specs.Network.{free, mark_of, network}
 use Rattle.graph.specs.Places.{network_mark}
 use Rattle.graph.specs.Valid.{Valid}
+use Rattle.tree_theory.specs.Multipliers.{Ranged, fit_ranged}
 use Rattle.machine.specs.Machine.{Node, node_of, marks_of, Opening, Progress, trimmed, held, begin}
 use Rattle.machine.specs.Outcomes.{no_tour}
 use Rattle.machine.specs.Calls.{fault}
 use Rattle.machine.specs.Trimmed.{valid-trimmed}
 use Rattle.machine.specs.Preserved.{accepts-held}
-use Rattle.mark_rows.specs.MarkRows.{row_words, node_words, rows_of}
-use Rattle.mark_rows.specs.SixWords.{rows_size, rows_small, with_edge}
-use Rattle.mark_rows.specs.Building.{partly}
-use Rattle.mark_rows.proofs.Building.{no_bits, partly_free, partly_required, partly_excluded}
+use Rattle.mark_rows.specs.MarkRows.{node_words, rows_of}
+use Rattle.mark_rows.proofs.Building.{no_bits}
 use Rattle.node.specs.Marks.{marks_in}
 use Rattle.search.specs.Record.{stack_size, carried_size, word_at, multiplier_at, stack_words, carried_of, has_incumbent, best_bytes, opening_of, record_of}
 use Rattle.search.specs.Cells.{rows_places, carried_places, cells_empty}
 use Rattle.search.specs.Pushing.{PutRows, PutCarried, pushed, carried_pushed}
 use Rattle.search.specs.declared.Search.{Search}
+use Rattle.search.specs.declared.opening.Opening as arguments
+
+-- what the arguments of an opening are in the machine
+abbrev pub asked : arguments.Opening → Opening
+asked o = opening_of o.g.now o.multipliers.now o.settings
 
 -- ---- sizes
 
@@ -34,64 +38,20 @@ module _ (o : Opening) (h : fault o ≡ 0) where
   unfolding held
   begun_valid = valid-trimmed o.graph (accepts-held o h).valid
 
-  -- and so it has after it is trimmed
-  pub begun_few : (trimmed o.graph).m ≤ max_edges
+  -- and so it is after it is trimmed
+  pub begun_trimmed : Valid (trimmed o.graph)
   unfolding held
-  begun_few = (accepts-held o h).valid.few
+  begun_trimmed = (accepts-held o h).valid
 
-  pub begun_long : length o.multipliers ≡ o.graph.n
-  unfolding held trimmed
+  pub begun_long : length o.multipliers ≡ (trimmed o.graph).n
+  unfolding held
   begun_long = (accepts-held o h).long
 
--- ---- the node: the words of the graph's marks
+  pub begun_ranged : Ranged o.multipliers
+  unfolding held
+  begun_ranged = fit_ranged o.multipliers (accepts-held o h).multipliers
 
--- l has the words of the first k of m edges, whose marks are f
-pub record Reaches (m : ℕ) (f : ℕ → Mark) (k : ℕ) (l : List ℕ) : Type 0 where
-  pub few : m ≤ max_edges
-  pub low : k < m
-  pub is : l ≡ rows_of (partly m f k)
-
-module _ (m : ℕ) (f : ℕ → Mark) (k : ℕ) (l : List ℕ) (h : Reaches m f k l) where
-  pub reaches_size : length l ≡ node_words
-  reaches_size = ap length h.is ∙ rows_size (partly m f k)
-
-  -- what an edge more leaves has 64 bits
-  pub sets-room : (i : ℕ) → i < node_words → set l i (get_or l i 0 + 2 ^ (k % 64)) ≡ rows_of (partly m f (k + 1)) → get_or l i 0 + 2 ^ (k % 64) < 2 ^ 64
-  sets-room i b e =
-      subst (λ (x : ℕ). x < 2 ^ 64)
-      (ap (λ (w : List ℕ). get_or w i 0) (sym e) ∙ get_or-set_same l i (get_or l i 0 + 2 ^ (k % 64)) 0 (omega (arith, reaches_size)))
-      (rows_small (partly m f (k + 1)) i b)
-
-  -- the edge at place k sets no bit, or one in its row
-  pub sets_none : f k ≡ free → l ≡ rows_of (partly m f (k + 1))
-  sets_none e = h.is ∙ sym (partly_free m f h.few k h.low e)
-
-  pub sets_required : f k ≡ required → set l (k / 64) (get_or l (k / 64) 0 + 2 ^ (k % 64)) ≡ rows_of (partly m f (k + 1))
-  sets_required e =
-      let z : k / 64 ≡ 0 + k / 64 = omega arith in
-      ap (λ (i : ℕ). set l i (get_or l i 0 + 2 ^ (k % 64))) z
-      ∙ ap (λ (w : List ℕ). with_edge 0 w k) h.is
-      ∙ sym (partly_required m f h.few k h.low e)
-
-  pub sets_excluded : f k ≡ excluded
-      → set l (row_words + k / 64) (get_or l (row_words + k / 64) 0 + 2 ^ (k % 64)) ≡ rows_of (partly m f (k + 1))
-  sets_excluded e =
-      ap (λ (w : List ℕ). with_edge row_words w k) h.is ∙ sym (partly_excluded m f h.few k h.low e)
-
--- a mark by its byte
-pub byte_free : (x : ℕ) → x ≡ 0 → mark_of x ≡ free
-unfolding mark_of
-byte_free x e = ap mark_of e
-
-pub byte_required : (x : ℕ) → x ≡ 1 → mark_of x ≡ required
-unfolding mark_of
-byte_required x e = ap mark_of e
-
-pub byte_excluded : (x : ℕ) → (x ≡ 0 → ⊥) → (x ≡ 1 → ⊥) → mark_of x ≡ excluded
-unfolding mark_of
-byte_excluded zero a b = absurd (a refl)
-byte_excluded (suc zero) a b = absurd (b refl)
-byte_excluded (suc (suc x)) a b = refl
+-- ---- the node
 
 -- the marks of a graph are those of its bytes
 graph-marks : (g : Graph) → marks_in g.m g.mark ≡ marks_of (network g)

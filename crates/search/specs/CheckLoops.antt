@@ -1,6 +1,9 @@
 -- The record's check, test by test: what a test says of what it tests. Assumes nothing.
-use Rattle.std.specs.Prelude.{◌≡◌, refl, Bool, true, false, ℕ, ◌≤◌, leb, eqb}
-use Rattle.std.proofs.Common.{sym, ◌∙◌, subst, true≢false, leb-true, le-leb, eqb-true, eq-eqb}
+use Rattle.std.specs.Prelude.{◌≡◌, refl, Bool, true, false, ℕ, ◌≤◌, ◌<◌, leb, eqb, length}
+use Rattle.std.specs.Bool.{MatchBool}
+use Rattle.std.specs.List.{range_with_len, AllWithin, HoldsAt}
+use Rattle.std.proofs.Common.{sym, ◌∙◌, subst, true≢false, leb-true, le-leb, eqb-true, eq-eqb, arith}
+use Rattle.std.proofs.lemmas.List.FromFn.{length-range_with_len, get_or-range_with_len}
 use Rattle.lists.specs.Bools.{Says}
 use Rattle.search.specs.Record.{is_open}
 use Rattle.search.specs.Canonical.{Flags, Tidy, Stands, Canonical}
@@ -37,6 +40,17 @@ says_eq x y P f g = go (eqb x y) refl
     go : (b : Bool) → eqb x y ≡ b → Says b P
     go true e = f (eqb-true x y e)
     go false e = λ p. true≢false (sym (eq-eqb x y (g p)) ∙ e)
+
+-- of `all` over the numbers below n, by what it says of each
+pub says_below : (n : ℕ) (P : ℕ → Type 0) (b : Bool)
+    → MatchBool b (AllWithin P (range_with_len 0 n) 0 (length (range_with_len 0 n)))
+    ((k : ℕ) × (k < length (range_with_len 0 n)) × HoldsAt (λ p. P p → ⊥) (range_with_len 0 n) k)
+    → Says b ((p : ℕ) → p < n → P p)
+says_below n P true h = λ p l.
+    subst P (omega (arith, get_or-range_with_len 0 n p 0 l)) (h p 0 (omega arith) (omega (arith, l, length-range_with_len 0 n)))
+says_below n P false h = λ f.
+    let l : h.0 < n = omega (arith, h.1, length-range_with_len 0 n) in
+    h.2 0 (subst P (omega (arith, get_or-range_with_len 0 n h.0 0 l)) (f h.0 l))
 
 -- ---- the last test of the record
 

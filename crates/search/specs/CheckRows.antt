@@ -1,8 +1,10 @@
 -- The check of a node's rows, as its code goes: word by word, and the set bits of the required row. Assumes nothing.
-use Rattle.std.specs.Prelude.{◌≡◌, refl, ℕ, zero, suc, ◌+◌, ◌*◌, ◌/◌, ◌%◌, ◌^◌, ◌≤◌, ◌<◌, eqb, leb, length, get_or}
-use Rattle.std.proofs.Common.{sym, ◌∙◌, subst, lt_of_lt_of_le, mod-lt, arith, add-one, pow_mono, pow_pos}
+use Rattle.std.specs.Prelude.{◌≡◌, ℕ, ◌+◌, ◌*◌, ◌/◌, ◌%◌, ◌^◌, ◌≤◌, ◌<◌, eqb, leb, length, get_or, take}
+use Rattle.std.proofs.Common.{sym, ◌∙◌, subst, lt_of_lt_of_le, mod-lt, arith, pow_mono, pow_pos}
 use Rattle.std.proofs.Math.Path.{ap}
-use mathlib.Core.List.{List}
+use mathlib.Core.List.{List, [], ◌∷◌, map}
+use lib.Count.{ones-le}
+use Rattle.std.specs.List.{sum}
 use Rattle.std.proofs.Math.Nat.{div-add-mod, div-eq_of_lt}
 use Rattle.std.specs.Int.Count.{ones}
 use Rattle.lists.specs.Bools.{Says}
@@ -32,23 +34,20 @@ says_low x n = says_eq (x / 2 ^ n) 0 (x < 2 ^ n) low (λ h. div-eq_of_lt h)
         let d : 2 ^ n * 0 + x % 2 ^ n ≡ x = (rw e at (div-add-mod x (2 ^ n))) in
         omega (arith, d, mod-lt x {m = 2 ^ n} (pow_pos n))
 
--- ---- the set bits of the first i words
+-- ---- the set bits of the required row: the sum over its words, each of at most 64
 
-unfoldable pub ones_to : List ℕ → ℕ → ℕ
-ones_to l zero = 0
-ones_to l (suc i) = ones_to l i + ones (get_or l i 0)
+pub ones_summed : (l : List ℕ) → row_words ≤ length l → sum (map ones (take row_words l)) ≡ row_ones (required_in l)
+unfolding required_in fit fill row weight
+ones_summed [] h = absurd (omega arith)
+ones_summed (x ∷ []) h = absurd (omega arith)
+ones_summed (x ∷ y ∷ []) h = absurd (omega arith)
+ones_summed (x ∷ y ∷ z ∷ rest) h = omega arith
 
-pub ones_none : (l : List ℕ) → ones_to l 0 ≡ 0
-unfolding ones_to
-ones_none l = refl
-
-pub ones_more : (l : List ℕ) (i : ℕ) → ones_to l (i + 1) ≡ ones_to l i + ones (get_or l i 0)
-unfolding ones_to
-ones_more l i = ap (ones_to l) (add-one i)
-
-pub ones_row : (l : List ℕ) → ones_to l row_words ≡ row_ones (required_in l)
-unfolding ones_to required_in fit fill row weight
-ones_row l = omega arith
+pub ones_few : (l : List ℕ) → row_words ≤ length l → ((i : ℕ) → get_or l i 0 < 2 ^ 64) → sum (map ones (take row_words l)) < 2 ^ 32
+ones_few [] h small = absurd (omega arith)
+ones_few (x ∷ []) h small = absurd (omega arith)
+ones_few (x ∷ y ∷ []) h small = absurd (omega arith)
+ones_few (x ∷ y ∷ z ∷ rest) h small = omega (arith, ones-le 64 x (small 0), ones-le 64 y (small 1), ones-le 64 z (small 2))
 
 -- ---- node p, whose words are x
 

@@ -3,6 +3,7 @@ pub mod Record
 pub mod Canonical
 pub mod Check
 pub mod Replies
+pub mod Seen
 pub mod Demand3
 -- Theorems for a reader: demand 3 holds; what the check accepts; what a call leaves of any record
 pub mod Theorem

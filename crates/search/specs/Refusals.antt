@@ -9,6 +9,7 @@ use Rattle.lists.specs.Bools.{by_cases}
 use Rattle.machine.specs.Outcomes.{Incumbent, no_tour, a_tour}
 use Rattle.machine.specs.Machine.{Progress, State, no_search, searching, finished}
 use Rattle.machine.specs.Calls.{Call, tell, show, lent_by, refused, is_accepted, shown_by, step}
+use Rattle.machine.specs.Preserved.{tell_leaves, show_leaves}
 use Rattle.machine.proofs.Preserved.{step_kept}
 use Rattle.machine.specs.Refusals.{refused-leaves}
 use Rattle.search.specs.Record.{fresh, decode, encode}
@@ -23,23 +24,6 @@ use Rattle.search.specs.declared.Search.{Search}
 pub fresh-passes : check fresh ≡ true
 unfolding encode
 fresh-passes = check_yes fresh (encode_canonical no_search tt)
-
--- "Tell and show leave the state as it is"
-tell_leaves : (st : State) → (step st tell).state ≡ st
-unfolding step
-tell_leaves no_search = refl
-tell_leaves (searching p) = refl
-
-shown_leaves : (p : Progress) (l : List ℕ) (b : Bool) (i : Incumbent (List Bool)) → (shown_by p l b i).state ≡ searching p
-unfolding shown_by
-shown_leaves p l false i = refl
-shown_leaves p l true no_tour = refl
-shown_leaves p l true (a_tour r) = by_cases (eqb (length l) p.opening.graph.m) (λ e. rw e) (λ e. rw e)
-
-show_leaves : (st : State) (l : List ℕ) → (step st (show l)).state ≡ st
-unfolding step
-show_leaves no_search l = refl
-show_leaves (searching p) l = shown_leaves p l (finished p) p.incumbent
 
 module _ (s : Search) (t : Typed s) where
   -- where the check is passed, the call is the machine's

@@ -1,5 +1,5 @@
--- WHAT EVERY CONTRACT OF THIS CRATE CITES: what an answer means in document 01 (`means`), the record and the answer that a call gives
--- (`reply`), and the lent list as it leaves it (`lent`). Definitions only.
+-- WHAT EVERY CONTRACT OF THIS CRATE CITES: what an answer means in document 01 (`means` of opening, showing and closing, `run_means`,
+-- `tell_means`), the record and the answer that a call gives (`reply`), and the lent list as it leaves it (`lent`). Definitions only.
 use Rattle.std.specs.Prelude.{true, false, cond, List, ℕ, Result, Ok, Err}
 use Rattle.graph.specs.declared.refusals.Refusal.{Refusal}
 use Rattle.graph.specs.Refusals.{number}
@@ -8,20 +8,28 @@ use Rattle.machine.specs.Calls as machine
 use Rattle.search.specs.Record.{is_open, decode, encode}
 use Rattle.search.specs.Check.{check}
 use Rattle.search.specs.declared.Search.{Search}
-use Rattle.search.specs.declared.Said.{Said}
-use Rattle.search.specs.declared.Said.TheVariants.{Accepted, GoingOn, Finished, Searching, NoTour, Best}
+use Rattle.search.specs.declared.Progress.{Progress}
+use Rattle.search.specs.declared.Progress.TheVariants.{GoingOn, Finished}
+use Rattle.search.specs.declared.Verdict.{Verdict}
+use Rattle.search.specs.declared.Verdict.TheVariants.{Searching, NoTour, Best}
 
 -- ---- answers
 
 -- document 01's number, place and values for every answer; no refusal of these calls has a place
-abbrev pub means : Result Said Refusal → machine.Answer
+abbrev pub means : Result (Unit {0}) Refusal → machine.Answer
 means (Err r) = refused (number r) 0
-means (Ok Accepted) = accepted
-means (Ok (GoingOn count)) = runs false count
-means (Ok (Finished count)) = runs true count
-means (Ok (Searching count)) = tells going_on count
-means (Ok (NoTour count)) = tells none count
-means (Ok (Best c count)) = tells (best c) count
+means (Ok done) = accepted
+
+abbrev pub run_means : Result Progress Refusal → machine.Answer
+run_means (Err r) = refused (number r) 0
+run_means (Ok (GoingOn count)) = runs false count
+run_means (Ok (Finished count)) = runs true count
+
+abbrev pub tell_means : Result Verdict Refusal → machine.Answer
+tell_means (Err r) = refused (number r) 0
+tell_means (Ok (Searching count)) = tells going_on count
+tell_means (Ok (NoTour count)) = tells none count
+tell_means (Ok (Best c count)) = tells (best c) count
 
 -- ---- one call
 

@@ -2,7 +2,7 @@
 -- nothing.
 use Rattle.std.specs.Prelude.{◌≡◌, Bool, true, List, [], ◌∷◌, map, ℕ, zero, suc, ◌≤◌, ◌<◌, length, get_or}
 use Rattle.std.proofs.Math.Path.{refl}
-use Rattle.std.proofs.Common.{sym, ap, ◌∙◌, subst, arith, ext_get_or}
+use Rattle.std.proofs.Common.{sym, ap, ◌∙◌, subst, arith, ext_get_or, true≢false}
 use Rattle.std.proofs.Math.Bool.{false}
 use Rattle.std.proofs.Math.Dec.{eqb}
 use Rattle.std.proofs.lemmas.List.{length-map}
@@ -26,7 +26,9 @@ use Rattle.search.specs.Incumbents.{byte_back, bits-size, bits_at}
 use Rattle.search.specs.Runs.Costs.{cost-bits}
 use Rattle.search.specs.Inverse.{Typed, encode-decode, decode-kept}
 use Rattle.search.specs.Replies.{Outcome, refuses, closed_fault, reply, lent}
+use Rattle.search.specs.Seen.{state_in, Again}
 use Rattle.search.specs.declared.Search.{Search}
+use Rattle.search.specs.declared.State.TheVariants.{Broken, Empty, Waiting, Finished}
 
 -- the bytes of a kept tour are those that the record has for it
 tour_bytes_lem : (m : ℕ) (w : List ℕ) → ((i : ℕ) → i < m → get_or w i 0 ≤ 1) → fit m 0 w ≡ tour_bytes (bits m w)
@@ -68,9 +70,16 @@ module _ (s : Search) where
   unfolding lent
   lent_24 c e = rw e
 
+  pub seen_24 : check s ≡ false → (Broken ≡ state_in s) × Again s
+  unfolding state_in
+  seen_24 e = (rw e, λ p. absurd (true≢false (sym p ∙ e)))
+
   module _ (t : Typed s) (e : check s ≡ true) where
     canonical : Canonical s
     canonical = check_is s e
+
+    pub again : Again s
+    again p = encode-decode s t canonical
 
     -- a call that leaves the state
     pub reply-same : (c : Call) (st : State) (a : machine.Answer) → decode s ≡ st → (step st c).state ≡ st → (step st c).answer ≡ a
@@ -91,6 +100,10 @@ module _ (s : Search) where
       pub shut : decode s ≡ no_search
       unfolding decode
       shut = rw o
+
+      pub seen_20 : Empty ≡ state_in s
+      unfolding state_in
+      seen_20 = rw (e, shut)
 
       pub run_20 : (budget : ℕ) → reply s (run budget) ≡ refuses s 20
       run_20 budget = reply-same (run budget) no_search (refused 20 0) shut (unfold step in refl) (unfold step in refl)
@@ -172,6 +185,14 @@ module _ (s : Search) where
           go : (d : ℕ) → s.depth ≡ d → finished (progress_of s) ≡ false
           go zero i = absurd (h i)
           go (suc d) i = at d i
+
+      pub seen_finished : s.depth ≡ 0 → Finished ≡ state_in s
+      unfolding state_in
+      seen_finished h = rw (e, opened, empty h)
+
+      pub seen_waiting : (s.depth ≡ 0 → ⊥) → Waiting ≡ state_in s
+      unfolding state_in
+      seen_waiting h = rw (e, opened, waiting h)
 
       none_is : has_tour s ≡ false → (progress_of s).incumbent ≡ no_tour
       unfolding progress_of best_of

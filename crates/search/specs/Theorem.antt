@@ -1,16 +1,19 @@
 -- DEMAND 3 HOLDS OF THE CALLS: one call on a record that holds a state gives what the machine gives (reply_is, lent_is), so the calls follow
--- the machine. And the answers of the code are the machine's under other names: no two mean the same (means-injective), and every answer of the
--- machine's is meant by one (step-meant, reply-meant). Assumes nothing.
-use Rattle.std.specs.Prelude.{◌≡◌, refl, true, false, ◌++◌, ℕ, Option, Some, None, Result, Ok, Err}
-use Rattle.std.proofs.Common.{sym, ap, ◌∙◌, inl, inr}
+-- the machine. And the answers of the code to a call are the machine's under other names: no two mean the same (meaning-injective), and every
+-- answer of the machine's is meant by one (step-meant, reply-meant). Assumes nothing.
+use Rattle.std.specs.Prelude.{◌≡◌, refl, Bool, true, false, List, ◌++◌, ℕ, zero, suc, eqb, length, Result, Ok, Err}
+use Rattle.std.proofs.Common.{ap, inl, inr}
 use Rattle.lists.specs.Bools.{by_cases}
 use Rattle.lists.specs.Members.{◌∈◌}
 use Rattle.graph.specs.declared.refusals.Refusal.{Refusal}
 use Rattle.graph.specs.declared.refusals.Refusal.TheVariants.{NotOpen, AlreadyOpen, NodesWait, Graph, Length, Multiplier, Ceiling, Settings, Denominator, Record}
 use Rattle.graph.specs.declared.refusals.Refusal.TheVariants.{NoTour as no-tour}
 use Rattle.graph.specs.Refusals.{number, number-injective}
-use Rattle.machine.specs.Machine.{State}
-use Rattle.machine.specs.Calls.{Call, going_on, none, best, refused, accepted, runs, tells, step}
+use Rattle.machine.specs.Outcomes.{Incumbent, no_tour, a_tour}
+use Rattle.machine.specs.Machine as state
+use Rattle.machine.specs.Machine.{Opening, State, no_search, searching, finished, ran}
+use Rattle.machine.specs.Calls.{Call, opens, run, tell, show, close, going_on, none, best, refused, accepted, runs, tells}
+use Rattle.machine.specs.Calls.{fault, opened_by, run_by, verdict, shown_by, step}
 use Rattle.machine.specs.Calls as machine
 use Rattle.machine.specs.Kept.{KeptState}
 use Rattle.machine.specs.Refusals.{unfit, faults, refused-leaves}
@@ -20,92 +23,148 @@ use Rattle.machine.proofs.Following.{follows_demand_3}
 use Rattle.search.specs.Record.{decode, encode}
 use Rattle.search.specs.Check.{check, check_yes}
 use Rattle.search.specs.Inverse.{encode_canonical, decode-encode}
-use Rattle.search.specs.Replies.{means, Outcome, reply, lent}
+use Rattle.search.specs.Replies.{means, run_means, tell_means, Outcome, reply, lent}
 use Rattle.search.specs.Demand3.{calls_said, calls}
 use Rattle.search.specs.declared.Search.{Search}
-use Rattle.search.specs.declared.Said.{Said}
-use Rattle.search.specs.declared.Said.TheVariants.{Accepted, GoingOn, Finished, Searching, NoTour, Best}
+use Rattle.search.specs.declared.Progress.{Progress}
+use Rattle.search.specs.declared.Progress.TheVariants.{GoingOn, Finished}
+use Rattle.search.specs.declared.Verdict.{Verdict}
+use Rattle.search.specs.declared.Verdict.TheVariants.{Searching, NoTour, Best}
 
 -- ---- answers
 
--- what an answer says where it is none of a refusal
-abbrev said_in : machine.Answer → Option Said
-said_in (refused number place) = None
-said_in accepted = Some Accepted
-said_in (runs true count) = Some (Finished count)
-said_in (runs false count) = Some (GoingOn count)
-said_in (tells going_on count) = Some (Searching count)
-said_in (tells none count) = Some (NoTour count)
-said_in (tells (best c) count) = Some (Best c count)
+-- a call's answers in the code, and what they mean
+abbrev pub AnswerTo : Call → Type 0
+AnswerTo (opens a) = Result (Unit {0}) Refusal
+AnswerTo (run budget) = Result Progress Refusal
+AnswerTo tell = Result Verdict Refusal
+AnswerTo (show l) = Result (Unit {0}) Refusal
+AnswerTo close = Result (Unit {0}) Refusal
 
-said-means : (x : Said) → said_in (means (Ok x)) ≡ Some x
-said-means Accepted = refl
-said-means (GoingOn count) = refl
-said-means (Finished count) = refl
-said-means (Searching count) = refl
-said-means (NoTour count) = refl
-said-means (Best c count) = refl
+abbrev pub meaning : (c : Call) → AnswerTo c → machine.Answer
+meaning (opens a) x = means x
+meaning (run budget) x = run_means x
+meaning tell x = tell_means x
+meaning (show l) x = means x
+meaning close x = means x
 
-abbrev number_in : machine.Answer → ℕ
-number_in (refused number place) = number
-number_in accepted = 0
-number_in (runs done count) = 0
-number_in (tells v count) = 0
-
-some_is : (x y : Said) → Some x ≡ Some y → x ≡ y
-some_is x y e = cc
-
-said_none : (x : Said) → Some x ≡ None → ⊥
-said_none x e = cc
+refusal_is : (r q : Refusal) → refused (number r) 0 ≡ refused (number q) 0 → r ≡ q
+refusal_is r q e = number-injective r q cc
 
 -- no two answers mean the same
-pub means-injective : (a b : Result Said Refusal) → means a ≡ means b → a ≡ b
-means-injective (Ok x) (Ok y) e = ap (λ z. Ok z) (some_is x y (sym (said-means x) ∙ ap said_in e ∙ said-means y))
-means-injective (Ok x) (Err q) e = absurd (said_none x (sym (said-means x) ∙ ap said_in e))
-means-injective (Err r) (Ok y) e = absurd (said_none y (sym (said-means y) ∙ ap said_in (sym e)))
-means-injective (Err r) (Err q) e = ap (λ z. Err z) (number-injective r q (ap number_in e))
+pub means-injective : (a b : Result (Unit {0}) Refusal) → means a ≡ means b → a ≡ b
+means-injective (Ok x) (Ok y) e = refl
+means-injective (Ok x) (Err q) e = cc
+means-injective (Err r) (Ok y) e = cc
+means-injective (Err r) (Err q) e = ap (λ z. Err z) (refusal_is r q e)
 
--- an answer of the code that means the machine's answer a
-pub record Meant (a : machine.Answer) : Type 0 where
-  pub said : Result Said Refusal
-  pub is : means said ≡ a
+pub run_means-injective : (a b : Result Progress Refusal) → run_means a ≡ run_means b → a ≡ b
+run_means-injective (Ok (GoingOn m)) (Ok (GoingOn n)) e = let same : m ≡ n = cc in rw same
+run_means-injective (Ok (GoingOn m)) (Ok (Finished n)) e = cc
+run_means-injective (Ok (Finished m)) (Ok (GoingOn n)) e = cc
+run_means-injective (Ok (Finished m)) (Ok (Finished n)) e = let same : m ≡ n = cc in rw same
+run_means-injective (Ok (GoingOn m)) (Err q) e = cc
+run_means-injective (Ok (Finished m)) (Err q) e = cc
+run_means-injective (Err r) (Ok (GoingOn n)) e = cc
+run_means-injective (Err r) (Ok (Finished n)) e = cc
+run_means-injective (Err r) (Err q) e = ap (λ z. Err z) (refusal_is r q e)
 
-refusal_meant : (r : Refusal) (k place : ℕ) → k ≡ number r → place ≡ 0 → Meant (refused k place)
-refusal_meant r k place e z = record { said = Err r; is = rw (e, z) refl }
+pub tell_means-injective : (a b : Result Verdict Refusal) → tell_means a ≡ tell_means b → a ≡ b
+tell_means-injective (Ok (Searching m)) (Ok (Searching n)) e = let same : m ≡ n = cc in rw same
+tell_means-injective (Ok (Searching m)) (Ok (NoTour n)) e = cc
+tell_means-injective (Ok (Searching m)) (Ok (Best d n)) e = cc
+tell_means-injective (Ok (NoTour m)) (Ok (Searching n)) e = cc
+tell_means-injective (Ok (NoTour m)) (Ok (NoTour n)) e = let same : m ≡ n = cc in rw same
+tell_means-injective (Ok (NoTour m)) (Ok (Best d n)) e = cc
+tell_means-injective (Ok (Best c m)) (Ok (Searching n)) e = cc
+tell_means-injective (Ok (Best c m)) (Ok (NoTour n)) e = cc
+tell_means-injective (Ok (Best c m)) (Ok (Best d n)) e = let same : m ≡ n = cc in let cost : c ≡ d = cc in rw (same, cost)
+tell_means-injective (Ok (Searching m)) (Err q) e = cc
+tell_means-injective (Ok (NoTour m)) (Err q) e = cc
+tell_means-injective (Ok (Best c m)) (Err q) e = cc
+tell_means-injective (Err r) (Ok (Searching n)) e = cc
+tell_means-injective (Err r) (Ok (NoTour n)) e = cc
+tell_means-injective (Err r) (Ok (Best d n)) e = cc
+tell_means-injective (Err r) (Err q) e = ap (λ z. Err z) (refusal_is r q e)
 
--- the numbers of the machine's refusals are those of `Refusal`'s cases
-known_meant : (k place : ℕ) → k ∈ (unfit ++ faults) → place ≡ 0 → Meant (refused k place)
-known_meant k place (inl e) = refusal_meant NotOpen k place e
-known_meant k place (inr (inl e)) = refusal_meant AlreadyOpen k place e
-known_meant k place (inr (inr (inl e))) = refusal_meant NodesWait k place e
-known_meant k place (inr (inr (inr (inl e)))) = refusal_meant no-tour k place e
-known_meant k place (inr (inr (inr (inr (inl e))))) = refusal_meant Graph k place e
-known_meant k place (inr (inr (inr (inr (inr (inl e)))))) = refusal_meant Length k place e
-known_meant k place (inr (inr (inr (inr (inr (inr (inl e))))))) = refusal_meant Multiplier k place e
-known_meant k place (inr (inr (inr (inr (inr (inr (inr (inl e)))))))) = refusal_meant Ceiling k place e
-known_meant k place (inr (inr (inr (inr (inr (inr (inr (inr (inl e))))))))) = refusal_meant Settings k place e
-known_meant k place (inr (inr (inr (inr (inr (inr (inr (inr (inr (inl e)))))))))) = refusal_meant Denominator k place e
-known_meant k place (inr (inr (inr (inr (inr (inr (inr (inr (inr (inr x10)))))))))) = elim x10 [ ]
+pub meaning-injective : (c : Call) (a b : AnswerTo c) → meaning c a ≡ meaning c b → a ≡ b
+meaning-injective (opens o) = means-injective
+meaning-injective (run budget) = run_means-injective
+meaning-injective tell = tell_means-injective
+meaning-injective (show l) = means-injective
+meaning-injective close = means-injective
 
--- every answer of the machine's is meant by one of the code's
-pub step-meant : (s : State) (c : Call) → Meant (step s c).answer
-step-meant s c = go (step s c).answer refl
-  where
-    go : (a : machine.Answer) → (step s c).answer ≡ a → Meant (step s c).answer
-    go (refused k place) e = let r = refused-leaves s c k place e in rw e (known_meant k place r.known r.nowhere)
-    go accepted e = record { said = Ok Accepted; is = sym e }
-    go (runs true count) e = record { said = Ok (Finished count); is = sym e }
-    go (runs false count) e = record { said = Ok (GoingOn count); is = sym e }
-    go (tells going_on count) e = record { said = Ok (Searching count); is = sym e }
-    go (tells none count) e = record { said = Ok (NoTour count); is = sym e }
-    go (tells (best c) count) e = record { said = Ok (Best c count); is = sym e }
+-- an answer of the code to a call that means the machine's answer a
+pub record Meant (c : Call) (a : machine.Answer) : Type 0 where
+  pub said : AnswerTo c
+  pub is : meaning c said ≡ a
+
+refusal_meant : (c : Call) (r : Refusal) → Meant c (refused (number r) 0)
+refusal_meant (opens o) r = record { said = Err r; is = refl }
+refusal_meant (run budget) r = record { said = Err r; is = refl }
+refusal_meant tell r = record { said = Err r; is = refl }
+refusal_meant (show l) r = record { said = Err r; is = refl }
+refusal_meant close r = record { said = Err r; is = refl }
+
+-- the numbers of an opening's faults are those of `Refusal`'s cases
+numbered : (c : Call) (r : Refusal) (k : ℕ) → k ≡ number r → Meant c (refused k 0)
+numbered c r k e = rw e (refusal_meant c r)
+
+known_meant : (c : Call) (k : ℕ) → k ∈ (unfit ++ faults) → Meant c (refused k 0)
+known_meant c k (inl e) = numbered c NotOpen k e
+known_meant c k (inr (inl e)) = numbered c AlreadyOpen k e
+known_meant c k (inr (inr (inl e))) = numbered c NodesWait k e
+known_meant c k (inr (inr (inr (inl e)))) = numbered c no-tour k e
+known_meant c k (inr (inr (inr (inr (inl e))))) = numbered c Graph k e
+known_meant c k (inr (inr (inr (inr (inr (inl e)))))) = numbered c Length k e
+known_meant c k (inr (inr (inr (inr (inr (inr (inl e))))))) = numbered c Multiplier k e
+known_meant c k (inr (inr (inr (inr (inr (inr (inr (inl e)))))))) = numbered c Ceiling k e
+known_meant c k (inr (inr (inr (inr (inr (inr (inr (inr (inl e))))))))) = numbered c Settings k e
+known_meant c k (inr (inr (inr (inr (inr (inr (inr (inr (inr (inl e)))))))))) = numbered c Denominator k e
+known_meant c k (inr (inr (inr (inr (inr (inr (inr (inr (inr (inr x10)))))))))) = elim x10 [ ]
+
+open_meant : (o : Opening) (k : ℕ) → fault o ≡ k → Meant (opens o) (opened_by o k).answer
+unfolding opened_by
+open_meant o zero f = record { said = Ok tt; is = refl }
+open_meant o (suc k) f =
+    known_meant (opens o) (suc k) (refused-leaves no_search (opens o) (suc k) 0 (unfold step opened_by in rw f refl)).known
+
+run_meant : (budget : ℕ) (done : Bool) (count : ℕ) → Meant (run budget) (runs done count)
+run_meant budget true count = record { said = Ok (Finished count); is = refl }
+run_meant budget false count = record { said = Ok (GoingOn count); is = refl }
+
+tell_meant : (v : machine.Verdict) (count : ℕ) → Meant tell (tells v count)
+tell_meant going_on count = record { said = Ok (Searching count); is = refl }
+tell_meant none count = record { said = Ok (NoTour count); is = refl }
+tell_meant (best c) count = record { said = Ok (Best c count); is = refl }
+
+show_meant : (p : state.Progress) (l : List ℕ) (b : Bool) (i : Incumbent (List Bool)) → Meant (show l) (shown_by p l b i).answer
+unfolding shown_by
+show_meant p l false i = refusal_meant (show l) NodesWait
+show_meant p l true no_tour = refusal_meant (show l) no-tour
+show_meant p l true (a_tour r) =
+    by_cases (eqb (length l) p.opening.graph.m) (λ e. rw e (record { said = Ok tt; is = refl })) (λ e. rw e (refusal_meant (show l) Length))
+
+-- every answer of the machine's to a call is meant by one of the code's to it
+pub step-meant : (s : State) (c : Call) → Meant c (step s c).answer
+unfolding step run_by
+step-meant no_search (opens o) = open_meant o (fault o) refl
+step-meant no_search (run budget) = refusal_meant (run budget) NotOpen
+step-meant no_search tell = refusal_meant tell NotOpen
+step-meant no_search (show l) = refusal_meant (show l) NotOpen
+step-meant no_search close = refusal_meant close NotOpen
+step-meant (searching p) (opens o) = refusal_meant (opens o) AlreadyOpen
+step-meant (searching p) (run budget) = run_meant budget (finished (ran budget p)) (ran budget p).count
+step-meant (searching p) tell = tell_meant (verdict p) p.count
+step-meant (searching p) (show l) = show_meant p l (finished p) p.incumbent
+step-meant (searching p) close = record { said = Ok tt; is = refl }
 
 -- and so is every answer of `reply`
-pub reply-meant : (s : Search) (c : Call) → Meant (reply s c).answer
+pub reply-meant : (s : Search) (c : Call) → Meant c (reply s c).answer
 unfolding reply
 reply-meant s c =
     by_cases (check s) (λ e. rw e (step-meant (decode s) c))
-    (λ e. rw e (record { said = Err Record; is = refl }))
+    (λ e. rw e (refusal_meant c Record))
 
 -- ---- one call on the record of a state
 

@@ -1,29 +1,39 @@
 // Which tour is kept of the best one and a found one: the cheaper, and of two that cost the same the first.
-ghost use Rattle.std.specs.Prelude.{◌≡◌, ◌≤◌};
+ghost use Rattle.std.specs.Prelude.{◌≡◌, ◌≤◌, ◌<◌, true, false, ℕ, eqb, get_or, MatchOption};
 ghost use Rattle.graph.specs.Limits.{max_edges};
-ghost use Rattle.graph.specs.Network.{network};
 ghost use Rattle.graph.specs.Valid.{Valid};
 ghost use Rattle.tree_theory.specs.OneTree.{lacks_first};
 ghost use Rattle.tree_theory.specs.Arrays.{bytes};
-ghost use Rattle.tours.specs.Tours.{cost};
-ghost use Rattle.search.specs.Runs.Keeping.{replaces_by, kept_of};
+ghost use Rattle.search.specs.Record.{has_tour};
+ghost use Rattle.search.specs.Runs.Keeping.{replaces_by, kept_in};
 
+use crate::Search;
 use crate::cost::tour_cost;
-use graph::{Graph, MAX_EDGES};
+use graph::MAX_EDGES;
 use std::cmp::Ordering;
+
+// Here m stands in each `requires`: the number of edges beside two tours that `keep` alone compares; a struct of the three, made for it, would say
+// no less.
+
+// The highest-numbered of the first m edges in which the tours differ.
+fn last_difference(m: usize, f: &[u8; MAX_EDGES], b: &[u8; MAX_EDGES]) -> Option<usize>
+    requires { m ≤ max_edges }
+    ensures { MatchOption result ((j : ℕ) → j < m → eqb (get_or f.now j 0) 1 ≡ eqb (get_or b.now j 0) 1)
+        (λ k. (k < m) × ¬ (eqb (get_or f.now k 0) 1 ≡ eqb (get_or b.now k 0) 1)
+        × ((j : ℕ) → k < j → j < m → eqb (get_or f.now j 0) 1 ≡ eqb (get_or b.now j 0) 1)) }
+{
+    (0..m).rev().find(|&k| (f[k] == 1) != (b[k] == 1))
+}
 
 // Whether the tour f lacks the highest-numbered of the first m edges in which it differs from b.
 fn comes_first(m: usize, f: &[u8; MAX_EDGES], b: &[u8; MAX_EDGES]) -> bool
     requires { m ≤ max_edges }
     ensures { result ≡ lacks_first m (bytes f.now) (bytes b.now) }
 {
-    for k in (0..m).rev() {
-        let there = b[k] == 1;
-        if (f[k] == 1) != there {
-            return there;
-        }
+    match last_difference(m, f, b) {
+        Some(k) => b[k] == 1,
+        None => false,
     }
-    false
 }
 
 // Whether a found tour f of cost x takes the place of the best tour b of cost y.
@@ -38,21 +48,33 @@ fn replaces(m: usize, x: i64, y: i64, f: &[u8; MAX_EDGES], b: &[u8; MAX_EDGES]) 
     }
 }
 
-// Keeps the better of the best tour, if there is one, and a found tour; the answer is the found tour's cost. That there is one stands beside
-// the tour's bytes, since both lie so in the record, whose bytes are C's.
-pub(crate) fn keep(
-    g: &Graph,
-    has_best: bool,
-    found: &[u8; MAX_EDGES],
-    best: &mut [u8; MAX_EDGES],
-) -> i64
-    requires { Valid g.now }
-    ensures { (result ≡ cost (network g.now) (bytes found.now))
-        × (best.new ≡ kept_of g.now has_best found.now best.old) }
-{
-    let c = tour_cost(g, found);
-    if !has_best || replaces(usize::from(g.m), c, tour_cost(g, best), found, best) {
-        *best = *found;
+impl Search {
+    // The incumbent, if there is one.
+    pub(crate) fn incumbent(&self) -> Option<&[u8; MAX_EDGES]>
+        ensures { MatchOption result (has_tour self.now ≡ false) (λ best. (has_tour self.now ≡ true) × (best.now ≡ self.now.best)) }
+    {
+        if self.has_best == 1 {
+            Some(&self.best)
+        } else {
+            None
+        }
     }
-    c
+
+    // A found tour: the upper bound is its cost, and it is the incumbent, unless the one that is there stays.
+    pub(crate) fn keep(&mut self, found: &[u8; MAX_EDGES])
+        requires { Valid self.old.graph }
+        ensures { self.new ≡ kept_in self.old found.now }
+    {
+        let m = usize::from(self.graph.m);
+        let cost = tour_cost(&self.graph, found);
+        let better = match self.incumbent() {
+            Some(best) => replaces(m, cost, tour_cost(&self.graph, best), found, best),
+            None => true,
+        };
+        if better {
+            self.best = *found;
+        }
+        self.upper = cost;
+        self.has_best = 1;
+    }
 }

@@ -7,21 +7,22 @@ ghost use Rattle.machine.specs.Calls as Calls;
 ghost use Rattle.graph.specs.Refusals.{fault_of};
 ghost use Rattle.search.specs.Record.{fresh, opening_of};
 ghost use Rattle.search.specs.Check.{check};
-ghost use Rattle.search.specs.Replies.{closed_fault, means, reply, lent};
+ghost use Rattle.search.specs.Seen.{state_in, Again};
+ghost use Rattle.search.specs.Replies.{closed_fault, means, run_means, tell_means, reply, lent};
 
 mod cost;
 mod keeping;
 mod opening;
 mod record;
 mod running;
-mod shown;
 mod stack;
 
 use cost::tour_cost;
 use graph::{Graph, MAX_EDGES, MAX_VERTICES, Refusal};
 use machine::Settings;
-use node::NODE_WORDS;
-use shown::show_tour;
+use node::{NODE_WORDS, Workspace};
+use onetree::PassLists;
+use opening::Opening;
 
 // As specs/Limits.antt of crate graph has it.
 pub const MAX_COUNT: u64 = 9_223_372_036_854_775_807;
@@ -38,9 +39,10 @@ pub const CARRIED_SIZE: usize = MAX_VERTICES * MAX_NODES;
 // from the bottom has six words from place NODE_WORDS * p on, three with a bit for each required edge and three with one for each excluded
 // edge, and carries a multiplier for each vertex from place MAX_VERTICES * p on), and the incumbent (1 in, 0 out). The flags `open` and
 // `has_best` are bytes, 1 yes and 0 no. The fields stand by width, so that no byte lies between them. docs/RECORD.md states the check that
-// every call makes of it.
+// every call makes of it. Bytes for flags, flat arrays and a depth beside them, since C lends the record, all of whose bytes count: the code reads
+// the incumbent as an `Option` (`incumbent`), and a node by `get` and `put` alone.
 #[repr(C)]
-#[derive(Clone, Copy)]
+#[derive(Clone, Copy, Debug, PartialEq, Eq)]
 pub struct Search {
     pub settings: Settings,
     pub upper: i64,
@@ -55,20 +57,29 @@ pub struct Search {
     pub has_best: u8,
 }
 
-// What a call that is not refused answers: specs/Replies.antt says what each case means in document 01.
+// What a run answers, with the count of nodes opened. specs/Replies.antt says what each answer means in document 01.
 #[derive(Clone, Copy, Debug, PartialEq, Eq)]
-pub enum Said {
-    Accepted,
-    // run: the count
+pub enum Progress {
     GoingOn(u64),
     Finished(u64),
-    // tell: the verdict, the cost and the count
-    Searching(u64),
-    NoTour(u64),
-    Best(i64, u64),
 }
 
-pub type Answer = Result<Said, Refusal>;
+// What telling answers: the verdict, the cost where there is one, and the count.
+#[derive(Clone, Copy, Debug, PartialEq, Eq)]
+pub enum Verdict {
+    Searching(u64),
+    NoTour(u64),
+    Best { cost: i64, count: u64 },
+}
+
+// What a record holds: one that fails its check; no search; one with nodes that wait; one that is finished.
+#[derive(Clone, Copy, Debug, PartialEq, Eq)]
+pub enum State {
+    Broken,
+    Empty,
+    Waiting,
+    Finished,
+}
 
 impl Search {
     ghost use Rattle.search.specs.Inverse.{Typed};
@@ -76,6 +87,7 @@ impl Search {
 
     // A record with no search open.
     // Ruled out: an open search; a byte that is not zero.
+    #[tactic(auto, unfolding(crate::specs::Record::fresh))]
     pub fn fresh() -> Search
         ensures { result ≡ fresh }
     {
@@ -109,10 +121,34 @@ impl Search {
         Ok(())
     }
 
+    // What the record holds, for a caller that keeps several.
+    // Ruled out: no search where the record fails its check; nodes that wait where a search is finished.
+    pub fn state(&self) -> State
+        ensures state { result ≡ state_in self.now }
+        ensures again { Again self.now }
+    {
+        if !self.is_sound() {
+            return State::Broken;
+        }
+        if self.open != 1 {
+            return State::Empty;
+        }
+        if self.depth == 0 {
+            State::Finished
+        } else {
+            State::Waiting
+        }
+    }
+
     // Opening.
     // Ruled out: a record that holds a byte of the graph past its edges; an upper bound that is not the ceiling; a part of a refused opening
     // in the record.
-    pub fn open(&mut self, g: &Graph, multipliers: &[i32], settings: Settings) -> Answer
+    pub fn open(
+        &mut self,
+        g: &Graph,
+        multipliers: &[i32],
+        settings: Settings,
+    ) -> Result<(), Refusal>
         ensures answer { means result ≡ (reply self.old (Calls.opens (opening_of g.now multipliers.now settings))).answer }
         ensures left { self.new ≡ (reply self.old (Calls.opens (opening_of g.now multipliers.now settings))).search }
     {
@@ -122,51 +158,61 @@ impl Search {
         if self.open == 1 {
             return Err(Refusal::AlreadyOpen);
         }
-        opening::fault(g, multipliers, settings)?;
-        *self = opening::begin(g, multipliers, settings);
-        Ok(Said::Accepted)
+        let asked = Opening {
+            g,
+            multipliers,
+            settings,
+        };
+        asked.fault()?;
+        *self = asked.begin();
+        Ok(())
     }
 
     // Running. The record is worked on where it lies: nothing of it is copied for the call, and for a node only its rows and multipliers.
     // Ruled out: a node opened beyond the budget; a count of nodes that were not opened; a node that is opened with marks or multipliers made
     // below another; a record changed by a refusal.
-    pub fn run(&mut self, budget: u64) -> Answer
-        ensures answer { means result ≡ (reply self.old (Calls.run budget)).answer }
+    pub fn run(&mut self, budget: u64) -> Result<Progress, Refusal>
+        ensures answer { run_means result ≡ (reply self.old (Calls.run budget)).answer }
         ensures left { self.new ≡ (reply self.old (Calls.run budget)).search }
     {
         self.opened()?;
+        // once for all nodes: each overwrites what the one before left
+        let mut node = Workspace::blank();
+        let mut lists = PassLists::blank();
         for _ in 0..budget {
             if self.depth == 0 || self.count >= MAX_COUNT {
                 break;
             }
-            self.open_top();
+            self.open_top(&mut node, &mut lists);
         }
         if self.depth == 0 {
-            return Ok(Said::Finished(self.count));
+            return Ok(Progress::Finished(self.count));
         }
-        Ok(Said::GoingOn(self.count))
+        Ok(Progress::GoingOn(self.count))
     }
 
     // Telling.
     // Ruled out: a cost while nodes wait; a cost that is not the sum of the incumbent's edges.
-    pub fn tell(&self) -> Answer
-        ensures answer { means result ≡ (reply self.now Calls.tell).answer }
+    pub fn tell(&self) -> Result<Verdict, Refusal>
+        ensures answer { tell_means result ≡ (reply self.now Calls.tell).answer }
         ensures left { self.now ≡ (reply self.now Calls.tell).search }
     {
         self.opened()?;
         if self.depth != 0 {
-            return Ok(Said::Searching(self.count));
+            return Ok(Verdict::Searching(self.count));
         }
-        if self.has_best != 1 {
-            return Ok(Said::NoTour(self.count));
-        }
-        let cost = tour_cost(&self.graph, &self.best);
-        Ok(Said::Best(cost, self.count))
+        let Some(best) = self.incumbent() else {
+            return Ok(Verdict::NoTour(self.count));
+        };
+        Ok(Verdict::Best {
+            cost: tour_cost(&self.graph, best),
+            count: self.count,
+        })
     }
 
     // Showing.
     // Ruled out: a tour while nodes wait; a refusal with a byte of `out` changed.
-    pub fn show(&self, out: &mut [u8]) -> Answer
+    pub fn show(&self, out: &mut [u8]) -> Result<(), Refusal>
         ensures answer { means result ≡ (reply self.now (Calls.show out.old)).answer }
         ensures left { self.now ≡ (reply self.now (Calls.show out.old)).search }
         ensures list { out.new ≡ lent self.now (Calls.show out.old) }
@@ -175,24 +221,24 @@ impl Search {
         if self.depth != 0 {
             return Err(Refusal::NodesWait);
         }
-        if self.has_best != 1 {
+        let Some(best) = self.incumbent() else {
             return Err(Refusal::NoTour);
-        }
+        };
         if out.len() != usize::from(self.graph.m) {
             return Err(Refusal::Length);
         }
-        show_tour(&self.best, out);
-        Ok(Said::Accepted)
+        out.copy_from_slice(&best[..out.len()]);
+        Ok(())
     }
 
     // Closing.
     // Ruled out: a byte of the search left in the record; a record that fails its check made fresh.
-    pub fn close(&mut self) -> Answer
+    pub fn close(&mut self) -> Result<(), Refusal>
         ensures answer { means result ≡ (reply self.old Calls.close).answer }
         ensures left { self.new ≡ (reply self.old Calls.close).search }
     {
         self.opened()?;
         *self = Search::fresh();
-        Ok(Said::Accepted)
+        Ok(())
     }
 }

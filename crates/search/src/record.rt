@@ -1,26 +1,23 @@
 // The record's own check, refusal 24: specs/Canonical.antt says what it asks, docs/RECORD.md says it in words.
-ghost use Rattle.std.specs.Prelude.{◌≡◌, ◌-◌, ◌*◌, ◌^◌, ◌<◌, ◌≤◌, true, eqb, pos};
+ghost use Rattle.std.specs.Prelude.{◌≡◌, ◌-◌, ◌*◌, ◌^◌, ◌<◌, ◌≤◌, true, eqb, pos, bit_and};
 ghost use Rattle.lists.specs.Bools.{Says};
 ghost use Rattle.graph.specs.Limits.{max_vertices, max_edges};
 ghost use Rattle.machine.specs.Calls.{fault};
 ghost use Rattle.bits.specs.Rows.{row_ones};
 ghost use Rattle.mark_rows.specs.MarkRows.{row_words, required_in};
 ghost use Rattle.mark_rows.specs.SixWords.{WordsFit};
-ghost use Rattle.search.specs.Record.{max_nodes, opening_in};
+ghost use Rattle.search.specs.Record.{max_nodes, multipliers_at, opening_in};
+ghost use Rattle.tree_theory.specs.Inputs.{multipliers_fit};
 ghost use Rattle.search.specs.Canonical.{Zeros, GraphTidy, CarriedTidy, NodeFits, StackFits, CarriedFits, Bits, Tidy, Fits, Idle};
 ghost use Rattle.search.specs.Inverse.{Words, GraphSized, Sized, Typed};
 ghost use Rattle.search.specs.Check.{check};
 
+use crate::opening::Opening;
 use crate::stack::get;
-use crate::{CARRIED_SIZE, MAX_COUNT, MAX_NODES, STACK_SIZE, Search, opening};
+use crate::{CARRIED_SIZE, MAX_COUNT, MAX_NODES, STACK_SIZE, Search};
 use graph::{Graph, MAX_EDGES, MAX_VERTICES};
 use machine::Settings;
-use node::NODE_WORDS;
-
-// The words of one of a node's two rows, and the edges of a word.
-pub(crate) const ROW_WORDS: usize = NODE_WORDS / 2;
-
-pub(crate) const WORD_BITS: usize = 64;
+use node::{NODE_WORDS, ROW_WORDS, WORD_BITS};
 
 // A number that may be 0. std's `PartialEq` and `Default` promise less of a type that is not known: what equals its default need not be it.
 trait Number: Copy {
@@ -77,6 +74,8 @@ fn bits(a: &[u8; MAX_EDGES]) -> bool
     !met
 }
 
+// Below, m, n and p or the depth stand in a `requires`: the numbers of one record, which `fits` alone calls with, once it has tested them. A struct
+// of them for one caller would say no less.
 // Here and below a clause `sized`, `words` or `typed` hands on what the language's types say of a record's arrays: it is known where they are read.
 fn graph_tidy(g: &Graph) -> bool
     ensures tidy { Says result (GraphTidy g.now) }
@@ -86,18 +85,21 @@ fn graph_tidy(g: &Graph) -> bool
     zero_from(&g.a, m) && zero_from(&g.b, m) && zero_from(&g.cost, m) && zero_from(&g.mark, m)
 }
 
+// Is what node p carries zero past n?
+fn zero_past(carried: &[i32; CARRIED_SIZE], n: usize, p: usize) -> bool
+    requires { p < max_nodes }
+    ensures { Says result (Zeros (pos 0) max_vertices n (multipliers_at max_vertices carried.now p)) }
+{
+    let d: [i32; MAX_VERTICES] = get(carried, p);
+    zero_from(&d, n)
+}
+
 // Is what the nodes in use carry zero past n, and all that is past them?
 fn carried_tidy(carried: &[i32; CARRIED_SIZE], n: usize, depth: usize) -> bool
     ensures { Says result (CarriedTidy n depth carried.now) }
 {
     let used = depth.min(MAX_NODES);
-    for p in 0..used {
-        let d: [i32; MAX_VERTICES] = get(carried, p);
-        if !zero_from(&d, n) {
-            return false;
-        }
-    }
-    zero_from(carried, MAX_VERTICES * used)
+    (0..used).all(|p| zero_past(carried, n, p)) && zero_from(carried, MAX_VERTICES * used)
 }
 
 // Is every bit of x from bit `from` on clear?
@@ -107,30 +109,29 @@ fn clear_from(x: u64, from: usize) -> bool
     from >= WORD_BITS || x >> from == 0
 }
 
+// Is no bit set in both words, and every bit from bit `from` on clear?
+fn word_fits(x: u64, y: u64, from: usize) -> bool
+    ensures { Says result ((bit_and x y ≡ 0) × (x < 2 ^ from) × (y < 2 ^ from)) }
+{
+    x & y == 0 && clear_from(x, from) && clear_from(y, from)
+}
+
 // Is no edge in both rows, and every bit past edge m clear? Word by word.
 fn rows_fit(rows: &[u64; NODE_WORDS], m: usize) -> bool
     ensures { Says result (WordsFit m rows.now) }
 {
-    for i in 0..ROW_WORDS {
-        let x = rows[i];
-        let y = rows[ROW_WORDS + i];
-        let from = m.saturating_sub(WORD_BITS * i);
-        if x & y != 0 || !clear_from(x, from) || !clear_from(y, from) {
-            return false;
-        }
-    }
-    true
+    (0..ROW_WORDS).all(|i| word_fits(
+        rows[i],
+        rows[ROW_WORDS + i],
+        m.saturating_sub(WORD_BITS * i),
+    ))
 }
 
 // How many edges are required? The set bits of their row.
 fn required_edges(rows: &[u64; NODE_WORDS]) -> u32
     ensures { result ≡ row_ones (required_in rows.now) }
 {
-    let mut n = 0;
-    for x in &rows[..ROW_WORDS] {
-        n += x.count_ones();
-    }
-    n
+    rows[..ROW_WORDS].iter().map(|x| x.count_ones()).sum()
 }
 
 // Has node p two rows as they should be, and at least p required edges?
@@ -147,12 +148,16 @@ fn stack_fits(stack: &[u64; STACK_SIZE], m: usize, depth: usize) -> bool
     ensures fits { Says result (StackFits m depth stack.now) }
     ensures words { Words stack.now }
 {
-    for p in 0..depth {
-        if !node_fits(stack, m, p) {
-            return false;
-        }
-    }
-    true
+    (0..depth).all(|p| node_fits(stack, m, p))
+}
+
+// Are the n multipliers that node p carries such as an opening accepts?
+fn multipliers_fit_at(carried: &[i32; CARRIED_SIZE], n: usize, p: usize) -> bool
+    requires { (n ≤ max_vertices) × (p < max_nodes) }
+    ensures { result ≡ multipliers_fit (multipliers_at n carried.now p) }
+{
+    let d: [i32; MAX_VERTICES] = get(carried, p);
+    onetree::multipliers_fit(&d[..n])
 }
 
 // Are the multipliers that each node carries such as an opening accepts?
@@ -160,13 +165,7 @@ fn carried_fits(carried: &[i32; CARRIED_SIZE], n: usize, depth: usize) -> bool
     requires { (n ≤ max_vertices) × (depth ≤ max_nodes) }
     ensures { Says result (CarriedFits n depth carried.now) }
 {
-    for p in 0..depth {
-        let d: [i32; MAX_VERTICES] = get(carried, p);
-        if !onetree::multipliers_fit(&d[..n]) {
-            return false;
-        }
-    }
-    true
+    (0..depth).all(|p| multipliers_fit_at(carried, n, p))
 }
 
 impl Search {
@@ -205,10 +204,17 @@ impl Search {
     {
         let n = usize::from(self.graph.n);
         n <= MAX_VERTICES
-            && opening::fault(&self.graph, &self.multipliers[..n], self.settings).is_ok()
+            && Opening {
+                g: &self.graph,
+                multipliers: &self.multipliers[..n],
+                settings: self.settings,
+            }
+            .fault()
+            .is_ok()
     }
 
-    // Are the fields of an open record such as a search has them?
+    // Are the fields of an open record such as a search has them? The last two tests require what those before say, which one chain of `&&` was
+    // tried for and does not hand on: each fact stands behind a join.
     fn fits(&self) -> bool
         ensures fits { Says result (Fits self.now) }
         ensures words { result ≡ true → Words self.now.stack }
@@ -227,7 +233,7 @@ impl Search {
         carried_fits(&self.carried, n, depth) && stack_fits(&self.stack, m, depth)
     }
 
-    // Does the record stand for a state of the machine? A flag is 0 or 1, and no other byte.
+    // Does the record stand for a state of the machine? A flag is 0 or 1, and no other byte. One chain of `&&` was tried: as in `fits`.
     pub(crate) fn is_sound(&self) -> bool
         ensures checked { result ≡ check self.now }
         ensures typed { check self.now ≡ true → Typed self.now }

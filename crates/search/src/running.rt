@@ -1,18 +1,18 @@
-// Running: the top node is opened while one waits, budget is left and the count is below its limit.
+// A node of a run: the top one is opened, and what it comes to stands in its place.
 ghost use Rattle.std.specs.Prelude.{◌≡◌};
 ghost use Rattle.machine.specs.Machine.{Progress, open_top};
 ghost use Rattle.search.specs.Record.{record_of};
 ghost use Rattle.search.specs.Runs.TopNode.{Holds, Top};
 
 use crate::Search;
-use crate::keeping::keep;
 use crate::stack::{get, put};
 use machine::Settings;
 use node::{Fate, Workspace};
+use onetree::PassLists;
 
 impl Search {
     // The top node is opened, and what it comes to stands in its place. The graph's own marks count for nothing here: a node has its own.
-    pub(crate) fn open_top(&mut self)
+    pub(crate) fn open_top(&mut self, node: &mut Workspace, lists: &mut PassLists)
         requires { (s : Progress) × Holds self.old s × Top s }
         ensures { (s : Progress) → Holds self.old s → Top s → self.new ≡ record_of (open_top s s.stack) }
     {
@@ -22,20 +22,16 @@ impl Search {
             ceiling: self.upper,
             ..self.settings
         };
-        let mut node = Workspace::blank();
         node.rows = get(&self.stack, p);
         // No fault comes here: what a search holds fits an opening.
-        let fate = node::open(&self.graph, &multipliers, settings, &mut node).unwrap();
+        let fate = node::open(&self.graph, &multipliers, settings, node, lists).unwrap();
         put(&mut self.stack, p, &node.rows);
         put(&mut self.carried, p, &node.last);
         self.depth -= 1;
         self.count += 1;
         match fate {
             Fate::Closes => {}
-            Fate::Finds => {
-                self.upper = keep(&self.graph, self.has_best == 1, &node.tour, &mut self.best);
-                self.has_best = 1;
-            }
+            Fate::Finds => self.keep(&node.tour),
             Fate::Splits => {
                 put(&mut self.stack, p + 1, &node.top);
                 put(&mut self.carried, p + 1, &node.last);

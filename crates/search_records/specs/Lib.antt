@@ -3,3 +3,4 @@ pub mod Searching
 pub mod Calls
 -- What follows is proved.
 pub mod Same
+pub mod Seen

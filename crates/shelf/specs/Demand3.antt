@@ -1,7 +1,7 @@
 -- DEMAND 3, over whole lists of opening, run, tell, show, close, save and back calls from fresh records, refused calls included: the statement,
 -- once, for every way in which an answer of the machine can be said (`f`). Nothing is proved here. Two ways are: this crate's `demand_3` has what
--- the answers mean (`means` of crate search, `meaning` of Replies), crate ffi's `demand_3_exported` the numbers. What it speaks of is defined in tours' Tours (a tour), machine's Machine, Calls and Demand3 (the
--- machine, its calls, what a finished search says), shelf_theory's Shelves (saved states) and ShelfRecords (the calls on two records).
+-- the answers mean (`means` of crate search and the like), crate ffi's `demand_3_exported` the numbers. What it speaks of is defined in tours'
+-- Tours (a tour), machine's Machine, Calls and Demand3 (the machine, its calls, what a finished search says), shelf_theory's Shelves (saved states) and ShelfRecords (the calls on two records).
 use Rattle.std.specs.Prelude.{◌≡◌, List, ℕ, suc, ◌-◌, ◌^◌, ◌≤◌}
 use Rattle.graph.specs.Network.{network}
 use Rattle.tours.specs.OneNetwork.{OneNetwork}

@@ -1,19 +1,19 @@
 -- WHAT THE CONTRACTS OF THIS CRATE CITE: crate shelf_theory's seven calls on two lent records (`shelf_calls`) at document 01's machine and the
 -- search's record. Definitions only.
-use Rattle.std.specs.Prelude.{Bool, cond, ℕ, replicate, Result, Ok, Err}
+use Rattle.std.specs.Prelude.{◌≡◌, true, false, ℕ, replicate, Result, Ok, Err}
 use Rattle.graph.specs.declared.refusals.Refusal.{Refusal}
 use Rattle.graph.specs.declared.refusals.Refusal.TheVariants.{Record}
-use Rattle.graph.specs.Refusals.{number}
-use Rattle.machine.specs.Calls.{Answer, refused, accepted}
+use Rattle.machine.specs.Calls.{Answer}
 use Rattle.search.specs.Record.{fresh, decode}
-use Rattle.search.specs.Check.{check}
+use Rattle.search.specs.Seen.{state_of}
 use Rattle.search.specs.Replies.{Outcome}
 use Rattle.search.specs.declared.Search.{Search}
+use Rattle.search.specs.declared.State.{State}
 use Rattle.lent_records.specs.Records.{Interface}
-use Rattle.search_records.specs.Searching.{search_machine, searches, is_open}
+use Rattle.search_records.specs.Searching.{search_machine, searches}
 use Rattle.search_records.specs.Calls.{search_calls}
 use Rattle.shelf_theory.specs.Shelves.{Shelved, save, back}
-use Rattle.shelf_theory.specs.ShelfRecords.{save_fault_on, back_fault_on, next_on, answer_on}
+use Rattle.shelf_theory.specs.ShelfRecords.{sound_both, save_fault_on, back_fault_on, next_on, answer_on}
 use Rattle.shelf.specs.declared.Shelf.{Shelf}
 
 -- "from fresh records": nothing is saved
@@ -27,11 +27,6 @@ both s h = record { current = s; saved = h.places }
 -- the calls of crate search, each answer as the machine gives it
 abbrev pub plain_calls : Interface search_machine
 plain_calls = search_calls {A = Answer} (λ a. a)
-
--- what the code's answer means
-abbrev pub meaning : Result (Unit {0}) Refusal → Answer
-meaning (Ok done) = accepted
-meaning (Err r) = refused (number r) 0
 
 -- what a save leaves of the shelf, and its answer
 pub record Saved : Type 0 where
@@ -56,9 +51,10 @@ back_reply s h k = record {
 
 -- ---- what the parts of the code give
 
--- a record: whether a search is open in it; 24 where it fails its check
-unfoldable pub open_in : Search → Result Bool Refusal
-open_in s = cond (check s) (Ok (is_open (decode s))) (Err Record)
+-- 24, or what the search's record holds
+abbrev pub Tested : Search → Shelf → Result State Refusal → Type 0
+Tested s h (Ok x) = (sound_both plain_calls (both s h) ≡ true) × (x ≡ state_of (decode s))
+Tested s h (Err r) = (sound_both plain_calls (both s h) ≡ false) × (r ≡ Record)
 
 unfoldable pub save_number : Search → Shelf → ℕ → ℕ
 unfolding save_fault_on

@@ -1,16 +1,15 @@
 -- DEMAND 3 HOLDS OF THE SEVEN CALLS: the five follow the machine, so the seven do (`shelf_list`); a list's path of plain calls has the state and
 -- the history that the list leaves, so the machine's claims are the list's. Assumes nothing.
-use Rattle.std.specs.Prelude.{◌≡◌, refl, List, ℕ, suc, ◌-◌, ◌^◌, ◌≤◌, Result, Ok, Err}
-use Rattle.graph.specs.declared.refusals.Refusal.{Refusal}
-use Rattle.graph.specs.Refusals.{number, number-injective}
+use Rattle.std.specs.Prelude.{◌≡◌, List, ℕ, suc, ◌-◌, ◌^◌, ◌≤◌}
 use Rattle.std.proofs.Math.Path.{sym}
 use Rattle.std.proofs.Common.{ap, ◌∙◌, subst, arith}
 use Rattle.machine.specs.Machine.{Opening, State}
-use Rattle.machine.specs.Calls.{Call, tell, show, Verdict, going_on, none, best, step, History, no_opening, since, free_at_start}
+use Rattle.machine.specs.Calls.{Call, tell, show, Verdict, step, History, no_opening, since, free_at_start}
 use Rattle.machine.specs.Calls as plainly
-use Rattle.machine.specs.Demand3.{Finished, Otherwise}
+use Rattle.machine.specs.Demand3.{Finished}
 use Rattle.machine.specs.Demand3 as machine
 use Rattle.machine.proofs.Claim.{machine_agrees, machine_ends}
+use Rattle.machine.proofs.Following.{said_as}
 use Rattle.machine.specs.Claim as claim
 use Rattle.lent_records.specs.Records.{record_of, AsTheMachine}
 use Rattle.search_records.specs.Searching.{search_machine, searches, note}
@@ -22,7 +21,6 @@ use Rattle.shelf_theory.proofs.Paths.{current_is, history_is}
 use Rattle.shelf_theory.specs.Paths as paths
 use Rattle.shelf_theory.specs.ShelfFollows.{shelf_list}
 use Rattle.shelf_theory.proofs.ShelfFollows.{plain-answer, plain_list, restores_record}
-use Rattle.shelf.specs.Replies.{meaning}
 use Rattle.shelf.specs.Demand3.{AnyCall, search_left, history, LeavesFinished, calls_said, SaysAfter, ShowAlikeAfter, Demand3}
 
 -- ---- the path of a list
@@ -62,28 +60,9 @@ module _ {A : Type 0} (f : plainly.Answer → A) where
         ∙ ap (λ (s : State). (step s c).lent) (sym (same-leaves (path_of cs)))
 
     says : (o : Opening) (v : Verdict) → claim.Says (path_of cs) o v → SaysAfter f cs o v
-    says o v x = record {
-      count = x.count;
-      told = answer-next tell ∙ ap f x.told;
-      exactly = x.exactly;
-      otherwise = go v x.otherwise;
-    }
-      where
-        go : (w : Verdict)
-            → Otherwise (λ a. a) (λ c. (step (plainly.leaves (path_of cs)) c).answer) (λ c. (step (plainly.leaves (path_of cs)) c).lent) o w
-            → Otherwise f (λ c. (calls_said f).answer (record_of (calls_said f) cs) (plain c))
-            (λ c. (calls_said f).list (record_of (calls_said f) cs) (plain c)) o w
-        go going_on y = y
-        go none y = y
-        go (best c) y = record {
-          tour = y.tour;
-          such = y.such;
-          exact = y.exact;
-          least = y.least;
-          first = y.first;
-          accepts = λ l e. answer-next (show l) ∙ ap f (y.accepts l e);
-          writes = λ l e. list_next (show l) ∙ y.writes l e;
-        }
+    says =
+        said_as f (λ c. (calls_said f).answer (record_of (calls_said f) cs) (plain c)) (λ c. (calls_said f).list (record_of (calls_said f) cs) (plain c))
+        (path_of cs) (answer-next tell) (λ l. answer-next (show l)) (λ l. list_next (show l))
 
     finishes : (o : Opening) (total : ℕ) → history cs ≡ since o total → free_at_start o ≤ 62 → 2 ^ suc (free_at_start o) - 1 ≤ total
         → Finished ((calls_said f).holds (record_of (calls_said f) cs)).current
@@ -111,11 +90,3 @@ module _ {A : Type 0} (f : plainly.Answer → A) where
 -- DEMAND 3 of this crate's calls and crate search's
 pub demand_3 : Demand3 {A = plainly.Answer} (λ a. a)
 demand_3 = demand_3_said {A = plainly.Answer} (λ a. a) (λ n e. let z : ◌≡◌ {A = ℕ} 0 1 = cc in omega arith)
-
--- ---- the answers of save and back are the machine's under other names: no two mean the same
-
-pub meaning-injective : (a b : Result (Unit {0}) Refusal) → meaning a ≡ meaning b → a ≡ b
-meaning-injective (Ok x) (Ok y) e = refl
-meaning-injective (Ok x) (Err q) e = cc
-meaning-injective (Err r) (Ok y) e = cc
-meaning-injective (Err r) (Err q) e = let n : number r ≡ number q = cc in ap (λ z. Err z) (number-injective r q n)

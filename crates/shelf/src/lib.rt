@@ -3,46 +3,29 @@
 #![tactic(auto)]
 
 ghost use Rattle.std.specs.Prelude.{◌≡◌};
-ghost use Rattle.lists.specs.All.{every_of};
-ghost use Rattle.lent_records.specs.Places.{is_name};
-ghost use Rattle.graph.specs.Refusals.{fault_of};
-ghost use Rattle.search.specs.Check.{check};
-ghost use Rattle.shelf.specs.Replies.{fresh_shelf, meaning, open_in, save_number, back_number, save_reply, back_reply};
+ghost use Rattle.graph.specs.Refusals.{number};
+ghost use Rattle.search.specs.Replies.{means};
+ghost use Rattle.search_records.specs.Seen.{any_broken};
+ghost use Rattle.lent_records.specs.Places.{AtPlace};
+ghost use Rattle.shelf.specs.Replies.{fresh_shelf, save_number, back_number, save_reply, back_reply, Tested};
 
 use graph::Refusal;
-use search::Search;
-
-// As specs/Places.antt of crate lent_records has it.
-pub const PLACES: usize = 8;
+pub use lent_records::PLACES;
+use lent_records::place_of;
+use search::{Search, State};
 
 // The shelf's record: the place of name k is places[k - 1], a search record, fresh where nothing is saved. docs/RECORD.md states the check that
 // save and back make of it.
 #[repr(C)]
-#[derive(Clone, Copy)]
+#[derive(Clone, Copy, Debug, PartialEq, Eq)]
 pub struct Shelf {
     pub places: [Search; PLACES],
-}
-
-fn is_name(name: usize) -> bool
-    ensures { result ≡ is_name name }
-{
-    1 <= name && name <= PLACES
-}
-
-// Is a search open in the record? By what telling it answers, which is refused where none is, or where the record fails its check.
-fn is_open(s: &Search) -> Result<bool, Refusal>
-    ensures { result ≡ open_in s.now }
-{
-    match s.tell() {
-        Ok(_) => Ok(true),
-        Err(Refusal::Record) => Err(Refusal::Record),
-        Err(_) => Ok(false),
-    }
 }
 
 impl Shelf {
     // A shelf on which nothing is saved.
     // Ruled out: a place with a search; a byte that is not zero.
+    #[tactic(auto, unfolding(crate::specs::Replies::fresh_shelf))]
     pub fn fresh() -> Shelf
         ensures { result ≡ fresh_shelf }
     {
@@ -51,67 +34,67 @@ impl Shelf {
         }
     }
 
-    // Does every place pass its check?
-    fn all_sound(&self) -> bool
-        ensures { result ≡ every_of check self.now.places }
+    fn any_broken(&self) -> bool
+        ensures { result ≡ any_broken self.now.places }
     {
-        self.places.iter().all(|s| is_open(s).is_ok())
+        self.places.iter().any(|s| s.state() == State::Broken)
     }
 
-    // Why a save is refused.
-    // Ruled out: 33 where no search is open; none where a place fails its check.
-    fn save_fault(&self, s: &Search, name: usize) -> Result<(), Refusal>
-        ensures { fault_of result ≡ save_number s.now self.now name }
+    // 24, tested before all else: of the search's record, and of every place. What the search's record holds.
+    fn tested(&self, s: &Search) -> Result<State, Refusal>
+        ensures { Tested s.now self.now result }
     {
-        let open = is_open(s)?;
-        if !self.all_sound() {
+        let state = s.state();
+        if state == State::Broken || self.any_broken() {
             return Err(Refusal::Record);
         }
-        if !open {
+        Ok(state)
+    }
+
+    // Where a search is saved under a name, or why none is.
+    // Ruled out: 33 where no search is open; a place where one fails its check.
+    fn place_to_save(&self, s: &Search, name: usize) -> Result<usize, Refusal>
+        ensures { AtPlace number (save_number s.now self.now name) name result }
+    {
+        if self.tested(s)? == State::Empty {
             return Err(Refusal::NotOpen);
         }
-        if !is_name(name) {
-            return Err(Refusal::Name);
-        }
-        Ok(())
+        place_of(name).ok_or(Refusal::Name)
     }
 
-    // Why a back is refused.
-    fn back_fault(&self, s: &Search, name: usize) -> Result<(), Refusal>
-        ensures { fault_of result ≡ back_number s.now self.now name }
+    // Where the search under a name is brought back from, or why none is.
+    fn place_to_bring(&self, s: &Search, name: usize) -> Result<usize, Refusal>
+        ensures { AtPlace number (back_number s.now self.now name) name result }
     {
-        is_open(s)?;
-        if !self.all_sound() {
-            return Err(Refusal::Record);
-        }
-        if !is_name(name) {
+        self.tested(s)?;
+        let Some(at) = place_of(name) else {
             return Err(Refusal::Name);
-        }
-        if !is_open(&self.places[name - 1])? {
+        };
+        if self.places[at].state() == State::Empty {
             return Err(Refusal::NothingSaved);
         }
-        Ok(())
+        Ok(at)
     }
 
     // Saving.
     // Ruled out: another place changed; a search that is still open under its name saved as a fresh record; a place changed by a refusal.
     pub fn save(&mut self, s: &Search, name: usize) -> Result<(), Refusal>
-        ensures answer { meaning result ≡ (save_reply s.now self.old name).answer }
+        ensures answer { means result ≡ (save_reply s.now self.old name).answer }
         ensures left { self.new ≡ (save_reply s.now self.old name).shelf }
     {
-        self.save_fault(s, name)?;
-        self.places[name - 1] = *s;
+        let at = self.place_to_save(s, name)?;
+        self.places[at] = *s;
         Ok(())
     }
 
     // Bringing back.
     // Ruled out: the search of another name; a part of the search that was open before; a record changed by a refusal.
     pub fn back(&self, s: &mut Search, name: usize) -> Result<(), Refusal>
-        ensures answer { meaning result ≡ (back_reply s.old self.now name).answer }
+        ensures answer { means result ≡ (back_reply s.old self.now name).answer }
         ensures left { s.new ≡ (back_reply s.old self.now name).search }
     {
-        self.back_fault(s, name)?;
-        *s = self.places[name - 1];
+        let at = self.place_to_bring(s, name)?;
+        *s = self.places[at];
         Ok(())
     }
 }

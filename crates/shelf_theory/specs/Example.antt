@@ -1,9 +1,9 @@
 -- "The allowance that finishes a hunt counts the run calls in its restored history and those since.": open, run 5, save 1, run 100, back 1,
 -- run 3 counts 8, of a machine that only opens, runs and closes. By computation.
-use Rattle.std.specs.Prelude.{◌≡◌, refl, Bool, true, false, cond, List, [], ◌∷◌, ℕ, zero, suc, ◌+◌}
+use Rattle.std.specs.Prelude.{◌≡◌, refl, Bool, true, false, cond, List, [], ◌∷◌, ℕ, suc, ◌+◌}
 use Rattle.lent_records.specs.Machine.{Machine, Searches}
 use Rattle.lent_records.specs.Places.{under, put}
-use Rattle.shelf_theory.specs.Shelves.{Shelved, ShelfCall, plain, save, back, cleared, save_fault, back_fault, answer_by, shelf_next, shelf_answer}
+use Rattle.shelf_theory.specs.Shelves.{is_none, Shelved, ShelfCall, plain, save, back, cleared, save_fault, back_fault, answer_by, shelf_next, shelf_answer}
 use Rattle.shelf_theory.specs.Shelves.{beside_next, beside, besides}
 
 data Small : Type 0 where
@@ -22,10 +22,6 @@ next_of s opens = cond s.0 s (true, 0)
 next_of s (runs n) = cond s.0 (true, s.1 + n) s
 next_of s closes = (false, 0)
 
-abbrev is_number : ℕ → Bool
-is_number zero = true
-is_number (suc n) = false
-
 abbrev small : Machine
 small = record {
   State = Bool × ℕ;
@@ -37,7 +33,7 @@ small = record {
   lent = λ s c. [];
   given = λ c. [];
   refused = λ n. suc n;
-  is_accepted = is_number;
+  is_accepted = is_none;
   refusal = λ n. refl;
 }
 

@@ -6,9 +6,9 @@ use Rattle.std.proofs.Common.{◌∙◌}
 use Rattle.std.proofs.Math.Bool.{true, false, cond}
 use mathlib.Core.List.{List, map}
 use Prim.Native.Nat.{ℕ}
-use Rattle.lists.specs.All.{every_of}
+use Rattle.std.specs.List.{AllByRecursion, list_all}
 use Rattle.lent_records.specs.Machine.{Machine, Searches, leaves}
-use Rattle.lent_records.specs.Every.{Every, every_replicate, every_put, every_under, every_back, every_passes}
+use Rattle.lent_records.specs.Every.{every_replicate, every_put, every_under, every_back, every_passes}
 use Rattle.lent_records.specs.Records.{Interface, record_of, AsTheMachine}
 use Rattle.lent_records.specs.Following.{Follows, as_the_machine}
 use Rattle.shelf_theory.specs.Shelves.{Shelved, ShelfCall, plain, save, back, cleared, saves, brings, each, is_none, save_fault, back_fault}
@@ -18,7 +18,7 @@ use Rattle.shelf_theory.specs.Paths.{each-cleared, each-saves, each-brings}
 
 module _ {m : Machine} (o : Searches m) (j : Interface m) (f : Follows j) where
   abbrev pub KeptBoth : Shelved m.State → Type 0
-  KeptBoth d = f.Kept d.current × Every f.Kept d.saved
+  KeptBoth d = f.Kept d.current × AllByRecursion f.Kept d.saved
 
   kept_begun : KeptBoth (cleared m.begin)
   unfolding cleared
@@ -44,7 +44,7 @@ module _ {m : Machine} (o : Searches m) (j : Interface m) (f : Follows j) where
     passes : sound_both j (each j.made d) ≡ true
     unfolding sound_both each
     passes =
-        ap (λ (b : Bool). b && every_of j.sound (map j.made d.saved)) (f.sound d.current h.0)
+        ap (λ (b : Bool). b && list_all j.sound (map j.made d.saved)) (f.sound d.current h.0)
         ∙ every_passes f.Kept j.made j.sound f.sound d.saved h.1
 
     returns : each j.holds (each j.made d) ≡ d

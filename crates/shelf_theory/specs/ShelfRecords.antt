@@ -6,7 +6,7 @@
 --     Restored o j ..   what an accepted back restores, to the byte
 use Rattle.std.specs.Prelude.{◌≡◌, Bool, ◌&&◌, List, [], ◌∷◌, ◌++◌, ℕ}
 use Rattle.std.proofs.Math.Bool.{cond}
-use Rattle.lists.specs.All.{every_of}
+use Rattle.std.specs.List.{list_all}
 use Rattle.lent_records.specs.Machine.{Machine, Searches}
 use Rattle.lent_records.specs.Records.{Interface, record_of}
 use Rattle.shelf_theory.specs.Shelves.{Shelved, ShelfCall, plain, save, back, cleared, saves, brings, each, is_none, save_fault, back_fault}
@@ -14,8 +14,7 @@ use Rattle.shelf_theory.specs.Shelves.{answer_by, shelved}
 
 -- "24 covers the lent saved states too"
 unfoldable pub sound_both : {m : Machine} (j : Interface m) → Shelved j.Lent → Bool
-unfolding every_of
-sound_both j r = j.sound r.current && every_of j.sound r.saved
+sound_both j r = j.sound r.current && list_all j.sound r.saved
 
 module _ {m : Machine} (o : Searches m) (j : Interface m) where
   -- 24, "tested before all input"; then the machine's, on the states that the records hold

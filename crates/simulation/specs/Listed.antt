@@ -42,7 +42,7 @@ module _ (g : Graph) (ks : List ℕ) (student e len : ℕ) (f : Faultless g ks s
       within_range max_cost _ (f.is_valid.each (get_or ks i 0 - 1) (omega (arith, inside.0, inside.1))).range
 
 -- what the loop knows at place i of a list that has no fault
-pub record Leg (g : Graph) (ks : List ℕ) (student e len i : ℕ) : Type 0 where
+pub record Listed (g : Graph) (ks : List ℕ) (student e len i : ℕ) : Type 0 where
   pub low : 1 ≤ get_or ks i 0
   pub high : get_or ks i 0 ≤ max_edges
   pub cost : InRange max_cost (cost_in g.cost (get_or ks i 0))
@@ -51,9 +51,9 @@ pub record Leg (g : Graph) (ks : List ℕ) (student e len i : ℕ) : Type 0 wher
   pub state : after i student < modulus
   pub spread : e ≤ max_spread
 
-pub leg_at : (g : Graph) (ks : List ℕ) (student e len : ℕ) → simulation_fault g ks student e len ≡ 0
-    → (i : ℕ) → i < length ks → Leg g ks student e len i
-leg_at g ks student e len none i h =
+pub listed_at : (g : Graph) (ks : List ℕ) (student e len : ℕ) → simulation_fault g ks student e len ≡ 0
+    → (i : ℕ) → i < length ks → Listed g ks student e len i
+listed_at g ks student e len none i h =
     let f = no_fault g ks student e len none in
     let inside = edge_inside g ks student e len f i h in
     record {

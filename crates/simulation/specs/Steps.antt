@@ -1,11 +1,11 @@
 -- One step of each loop, as its code makes it: of the walk along a list of edges, and of the sailing. Assumes nothing.
-use Rattle.std.specs.Prelude.{◌≡◌, refl, Bool, true, false, cond, ◌&&◌, List, ℕ, suc, ◌+◌, ◌-◌, ◌*◌, ◌≤◌, ◌<◌, eqb, length, get_or, set, take, drop, ℤ, pos, ◌+ℤ◌, Option, Some, None}
+use Rattle.std.specs.Prelude.{◌≡◌, refl, Bool, true, false, cond, ◌&&◌, List, ℕ, suc, ◌+◌, ◌-◌, ◌*◌, ◌≤◌, ◌<◌, eqb, leb, length, get_or, set, take, drop, ℤ, pos, ◌+ℤ◌, Option, Some, None}
 use Rattle.std.proofs.Math.Path.{sym, ap}
 use Rattle.std.proofs.Common.{◌∙◌, subst, add-one, get_or-set_same}
 use native.Mathlib.Omega.{arith}
 use Rattle.std.proofs.Math.Seq.{get_or-set_other, take-length}
 use borrow.Author.Count.{below_more}
-use borrow.Author.Tests.{le-leb, lt-leb, eq-eqb, ne_eqb}
+use borrow.Author.Tests.{le-leb, lt-leb, leb-true, leb-false, eq-eqb, ne_eqb}
 use Rattle.lists.specs.Bools.{by_cases, and_both}
 use Rattle.lists.specs.Sets.{NumberSet}
 use Rattle.integers.specs.Range.{InRange}
@@ -77,13 +77,14 @@ module _ (g : Network) (k u : ℕ) where
 
 -- the same, by the arrays of a graph value
 module _ (g : Graph) (k u : ℕ) where
-  pub leads_low : k < 1 → leads_to (network g) k u ≡ None
-  unfolding listed
-  leads_low h = leads_not (network g) k u (rw (lt-leb 1 k h))
-
-  pub leads_high : g.m < k → leads_to (network g) k u ≡ None
+  pub leads_not_listed : (1 ≤ k → k ≤ g.m → ⊥) → leads_to (network g) k u ≡ None
   unfolding listed network
-  leads_high h = leads_not (network g) k u (rw (le-leb 1 k (omega arith), lt-leb k g.m h))
+  leads_not_listed h =
+      leads_not (network g) k u
+      (by_cases (leb 1 k) (λ l. rw (l, lt-leb k g.m (not_le (h (leb-true 1 k l))))) (λ l. rw l))
+    where
+      not_le : (k ≤ g.m → ⊥) → g.m < k
+      not_le n = by_cases (leb k g.m) (λ t. absurd (n (leb-true k g.m t))) (λ t. leb-false k g.m t)
 
   module _ (least : 1 ≤ k) (most : k ≤ g.m) where
     a_at_lem : (network g).a k ≡ get_or g.a (k - 1) 0

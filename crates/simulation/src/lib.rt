@@ -15,7 +15,7 @@ ghost use Rattle.sailing.specs.Simulation.{simulation_fault, times_of, simulatio
 ghost use Rattle.simulation.specs.Answers.{simulation_meaning};
 ghost use Rattle.simulation.specs.Steps.{leads_to};
 
-use graph::{Graph, MAX_VERTICES, Refusal};
+use graph::{Graph, Refusal, VERTEX_PLACES};
 
 // As specs/Draws.antt of crate sailing has them.
 pub const MAX_STUDENT: u64 = 65_535;
@@ -31,9 +31,6 @@ const MODULUS: u64 = 4_294_967_296;
 // A draw is what a state has above these.
 const LOW: u64 = 65_536;
 
-// A flag for each vertex, and one for none.
-const FLAGS: usize = MAX_VERTICES + 1;
-
 // The end of a sailing: the total and the last state.
 #[derive(Clone, Copy, Debug, PartialEq, Eq)]
 pub struct Sailed {
@@ -42,6 +39,7 @@ pub struct Sailed {
 }
 
 // The state that one leg makes of s.
+#[tactic(auto, using(sailing::specs::Apart::next_small), unfolding(sailing::specs::Draws::next))]
 fn next(s: u64) -> u64
     requires { s < modulus }
     ensures { (result ≡ next s) × (result < modulus) }
@@ -63,7 +61,7 @@ fn leads(g: &Graph, k: usize, u: u8) -> Option<u8>
     requires { Valid g.now }
     ensures { result ≡ leads_to (network g.now) k u }
 {
-    if k < 1 || k > usize::from(g.m) {
+    if !(1..=usize::from(g.m)).contains(&k) {
         return None;
     }
     if g.a[k - 1] == u {
@@ -80,8 +78,9 @@ fn in_order(g: &Graph, edges: &[usize]) -> bool
     requires { Valid g.now × (length edges.now ≡ g.now.n) }
     ensures { result ≡ in_sailing_order (network g.now) edges.now }
 {
-    let mut met = [false; FLAGS];
+    let mut met = [false; VERTEX_PLACES];
     let mut at = 1;
+    // no try_fold: its closure would write `met` besides what it hands on
     for &k in edges {
         let Some(v) = leads(g, k, at) else {
             return false;
@@ -97,12 +96,11 @@ fn in_order(g: &Graph, edges: &[usize]) -> bool
 }
 
 // The first fault of a simulation, in document 02's order.
+#[tactic(auto, using(graph::specs::Meaning::graph_fine), unfolding(sailing::specs::Simulation::simulation_fault))]
 fn fault(g: &Graph, edges: &[usize], student: u64, spread: u64, len: usize) -> Result<(), Refusal>
     ensures { fault_of result ≡ simulation_fault g.now edges.now student spread len }
 {
-    if !g.check() {
-        return Err(Refusal::Graph);
-    }
+    g.fault()?;
     let n = usize::from(g.n);
     if edges.len() != n || len != n {
         return Err(Refusal::Length);
@@ -125,6 +123,7 @@ fn sail(g: &Graph, edges: &[usize], student: u64, spread: u64, times: &mut [i64]
 {
     let mut total = 0;
     let mut state = student;
+    // by the place in `times`: of a list that is written through an adapter of iter_mut (zip) a proof knows nothing afterwards
     for (i, &k) in edges.iter().enumerate() {
         let drawn = next(state);
         let t = time(g.cost[k - 1], spread, drawn);

@@ -3,11 +3,12 @@
 use Rattle.std.specs.Prelude.{◌≡◌, refl, ◌≢◌, ◌⊎◌, ℕ, zero, suc, ◌+◌, ◌-◌, ◌<◌, ◌≤◌, length, set, replicate}
 use Rattle.std.proofs.Common.{◌∙◌, sym, arith}
 use Rattle.std.proofs.Math.Path.{ap}
-use mathlib.Core.List.{List, [], ◌∷◌}
+use mathlib.Core.List.{List, [], ◌∷◌, ◌++◌}
 use Rattle.std.proofs.Math.Decide.{ℕ_discrete, dec_le}
 use Rattle.std.proofs.Math.Numerals.{add-one}
-use Rattle.std.proofs.Math.ListN.{get_or, length-set}
-use Rattle.std.proofs.Math.Seq.{get_or-set_same, get_or-set_other}
+use Rattle.std.proofs.Math.ListN.{get_or, length-set, get_or-append}
+use Rattle.std.proofs.Math.Seq.{get_or-set_same, get_or-set_other, get_or-append_seam}
+use Rattle.std.proofs.lemmas.List.{length-append}
 use Rattle.lists.specs.Rows.{zeros}
 use Rattle.swaps.specs.Grid.{cell}
 use Rattle.swaps.specs.TreeTable.{listed}
@@ -181,7 +182,7 @@ left_less (suc x ∷ l) (suc i) d h e = left_less l i d (omega arith) e
 
 -- the queue has every vertex that hangs, and the root before all others
 pub record Lined (depth queue : List ℕ) (count : ℕ) : Type 0 where
-  pub long : length queue ≡ 21
+  pub long : length queue ≡ count
   pub bound : (v : ℕ) → get_or depth v 0 ≤ count
   pub hangs : (j : ℕ) → j < count → 1 ≤ get_or depth (get_or queue j 0) 0
   pub each : (v : ℕ) → 1 ≤ get_or depth v 0 → (j : ℕ) × (j < count) × (get_or queue j 0 ≡ v)
@@ -189,7 +190,7 @@ pub record Lined (depth queue : List ℕ) (count : ℕ) : Type 0 where
   pub first : (1 ≤ count) × (get_or queue 0 0 ≡ 2)
   pub others : (j : ℕ) → 1 ≤ j → j < count → get_or queue j 0 ≢ 2
 
-pub lined_root : Lined alone.depth (set (replicate 21 0) 0 2) 1
+pub lined_root : Lined alone.depth (2 ∷ []) 1
 unfolding left
 lined_root = record {
   long = refl;
@@ -205,7 +206,7 @@ lined_root = record {
     bound_at v (yes e) = rw e (omega arith)
     bound_at v (no e) = omega (arith, get_or-set_other {A = ℕ} (replicate 21 0) 2 v 1 0 e, zeros 21 v)
 
-    hangs_at : (j : ℕ) → j < 1 → 1 ≤ depth_at alone (get_or (set (replicate 21 0) 0 2) j 0)
+    hangs_at : (j : ℕ) → j < 1 → 1 ≤ depth_at alone (get_or (2 ∷ []) j 0)
     hangs_at zero l = omega arith
     hangs_at (suc j) l = absurd (let z : suc (suc j) ≤ 1 = l in omega arith)
 
@@ -214,22 +215,25 @@ module _ (depth queue : List ℕ) (count y d : ℕ) (long : length depth ≡ 21)
   lined_room : count < 21
   lined_room = omega (arith, h.room, left_less depth y 0 (omega arith) hy)
 
-  lined_more : d ≤ count → Lined (set depth y (suc d)) (set queue count y) (count + 1)
+  lined_more : d ≤ count → Lined (set depth y (suc d)) (queue ++ (y ∷ [])) (count + 1)
   lined_more low = record {
-    long = length-set queue count y ∙ h.long;
+    long = length-append queue (y ∷ []) ∙ omega (arith, h.long);
     bound = λ v. bound_at v (ℕ_discrete v y);
     hangs = λ j l. hangs_at j l (ℕ_discrete j count);
     each = λ v l. each_at v l (ℕ_discrete v y);
     room = omega (arith, h.room, left_less depth y d (omega arith) hy);
-    first = (omega arith, get_or-set_other queue count 0 y 0 (λ q. omega (arith, h.first.0)) ∙ h.first.1);
+    first = (omega arith, same 0 h.first.0 ∙ h.first.1);
     others = λ j i l. others_at j i l (ℕ_discrete j count);
   }
     where
       new : get_or (set depth y (suc d)) y 0 ≡ suc d
       new = get_or-set_same depth y (suc d) 0 (omega arith)
 
-      last : get_or (set queue count y) count 0 ≡ y
-      last = get_or-set_same queue count y 0 (omega (arith, lined_room, h.long))
+      last : get_or (queue ++ (y ∷ [])) count 0 ≡ y
+      last = rw (← h.long) (get_or-append_seam queue y [] 0)
+
+      same : (j : ℕ) → j < count → get_or (queue ++ (y ∷ [])) j 0 ≡ get_or queue j 0
+      same j l = get_or-append queue (y ∷ []) 0 j (omega (arith, h.long))
 
       bound_at : (v : ℕ) → Dec (v ≡ y) → get_or (set depth y (suc d)) v 0 ≤ count + 1
       bound_at v (yes q) = rw (q, new) (omega arith)
@@ -238,24 +242,24 @@ module _ (depth queue : List ℕ) (count y d : ℕ) (long : length depth ≡ 21)
       still : (v : ℕ) → 1 ≤ get_or depth v 0 → 1 ≤ get_or (set depth y (suc d)) v 0
       still v l = rw (get_or-set_other depth y v (suc d) 0 (λ q. omega (arith, ap (λ (z : ℕ). get_or depth z 0) q))) l
 
-      hangs_at : (j : ℕ) → j < count + 1 → Dec (j ≡ count) → 1 ≤ get_or (set depth y (suc d)) (get_or (set queue count y) j 0) 0
+      hangs_at : (j : ℕ) → j < count + 1 → Dec (j ≡ count) → 1 ≤ get_or (set depth y (suc d)) (get_or (queue ++ (y ∷ [])) j 0) 0
       hangs_at j l (yes q) = rw (q, last, new) (omega arith)
-      hangs_at j l (no q) = rw (get_or-set_other queue count j y 0 q) (still (get_or queue j 0) (h.hangs j (omega arith)))
+      hangs_at j l (no q) = rw (same j (omega arith)) (still (get_or queue j 0) (h.hangs j (omega arith)))
 
       -- the root hangs
       not_root : y ≢ 2
       not_root q = omega (arith, rw h.first.1 at (h.hangs 0 h.first.0), ap (λ (z : ℕ). get_or depth z 0) q)
 
-      others_at : (j : ℕ) → 1 ≤ j → j < count + 1 → Dec (j ≡ count) → get_or (set queue count y) j 0 ≢ 2
+      others_at : (j : ℕ) → 1 ≤ j → j < count + 1 → Dec (j ≡ count) → get_or (queue ++ (y ∷ [])) j 0 ≢ 2
       others_at j i l (yes q) = rw (q, last) not_root
-      others_at j i l (no q) = rw (get_or-set_other queue count j y 0 q) (h.others j i (omega arith))
+      others_at j i l (no q) = rw (same j (omega arith)) (h.others j i (omega arith))
 
       each_at : (v : ℕ) → 1 ≤ get_or (set depth y (suc d)) v 0 → Dec (v ≡ y)
-          → (j : ℕ) × (j < count + 1) × (get_or (set queue count y) j 0 ≡ v)
+          → (j : ℕ) × (j < count + 1) × (get_or (queue ++ (y ∷ [])) j 0 ≡ v)
       each_at v l (yes q) = (count, omega arith, last ∙ sym q)
       each_at v l (no q) =
           let r = h.each v (omega (arith, get_or-set_other depth y v (suc d) 0 q)) in
-          (r.0, omega (arith, r.1), get_or-set_other queue count r.0 y 0 (λ z. omega (arith, r.1)) ∙ r.2)
+          (r.0, omega (arith, r.1), same r.0 r.1 ∙ r.2)
 
 -- ---- a visit of x, whose list is the row
 
@@ -323,7 +327,7 @@ module _ (a b row : List ℕ) (x : ℕ) (r : Rooting) (queue : List ℕ) (count 
       visited_room = lined_room s.depth queue' count' y 0 w.long.1 w.lined hy ly
 
       pub visited_hang : (k : ℕ) → k ≡ get_or row i 0 - 1 → Visited a b row x r queue count
-          (hung_on s x y (depth_at r x + 1) k) (set queue' count' y) (count' + 1) (i + 1)
+          (hung_on s x y (depth_at r x + 1) k) (queue' ++ (y ∷ [])) (count' + 1) (i + 1)
       unfolding cell
       visited_hang k place = rw place (record {
         long = (
@@ -334,7 +338,7 @@ module _ (a b row : List ℕ) (x : ℕ) (r : Rooting) (queue : List ℕ) (count 
         lined = rw add-one (lined_more s.depth queue' count' y (depth_at r x) w.long.1 w.lined hy ly
             (omega (arith, l.lined.bound x, w.more)));
         more = omega (arith, w.more);
-        old = λ j h. get_or-set_other queue' count' j y 0 (λ q. omega (arith, w.more)) ∙ w.old j h;
+        old = λ j h. get_or-append queue' (y ∷ []) 0 j (omega (arith, w.more, w.lined.long)) ∙ w.old j h;
         same = λ v h. still v (rw (w.same v h) h) ∙ w.same v h;
         all = λ j k. go j k (ℕ_discrete j i);
         kept = λ t n e d h.

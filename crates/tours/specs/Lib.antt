@@ -11,5 +11,7 @@ pub mod TourTree
 pub mod Degrees
 pub mod TwoEach
 pub mod DegreeTest
+-- the degrees of all vertices, counted in one loop over the edges
+pub mod Counted
 -- renumbered edges make the same tours
 pub mod Renumbering

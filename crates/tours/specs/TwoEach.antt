@@ -1,7 +1,7 @@
 -- A 1-tree in which every vertex touches two edges is a tour. From vertex 1 a trip goes on along the other edge at each vertex that it
 -- comes to; it closes before the vertices run out, and then it has them all, since the edges away from vertex 1 connect them.
 use Rattle.std.specs.Prelude.{◌≡◌, ◌≢◌, ◌⊎◌, ◌&&◌, ◌||◌}
-use Rattle.std.proofs.Math.Path.{refl, sym, ap, subst}
+use Rattle.std.proofs.Math.Path.{refl, sym, subst}
 use Rattle.std.proofs.Common.{◌∙◌, arith, eqb-true, eq-eqb}
 use Rattle.std.proofs.Math.Logic.{inl, inr}
 use Rattle.std.proofs.Math.Bool.{true, not}
@@ -9,17 +9,18 @@ use mathlib.Core.List.{List, [], ◌∷◌, ◌++◌}
 use Prim.Native.Nat.{ℕ, zero, suc, ◌+◌, ◌≤◌}
 use Rattle.std.proofs.Math.Decide.{ℕ_discrete}
 use Rattle.std.proofs.Math.Dec.{eqb}
-use Rattle.std.proofs.Math.ListN.{length, length-append}
+use Rattle.std.proofs.Math.ListN.{length}
 use Rattle.std.proofs.lemmas.Bool.{eqb-false, not-true}
 use Rattle.lists.specs.Bools.{and_both, or_case, or_left, or_right}
 use Rattle.lists.specs.Members.{◌∈◌, in_either}
-use Rattle.lists.specs.Select.{select, select_in, in_select, split_length}
+use Rattle.lists.specs.Select.{select, select_in, in_select}
 use Rattle.lists.specs.Distinct.{Distinct, distinct-select}
 use Rattle.lists.specs.Numbers.{up_to, up_to_in, distinct-up_to}
 use Rattle.integers.specs.Sums.{more}
 use Rattle.graph.specs.Network.{Network}
 use Rattle.spanning.specs.Walks.{Walk, stay, along as forth, back as backwards}
 use Rattle.tree_theory.specs.OneTree.{Edges, others, OneTree, at_one, away}
+use Rattle.tree_theory.specs.Ranges.{tree-size}
 use Rattle.tree_theory.specs.Valid.{Valid, others_in, in_others, length-others}
 use Rattle.tours.specs.Tours.{degree, Ends, Joined, Trip, Tour}
 use Rattle.tours.specs.Trips.{ends_turned, among_ends, distinct_end, along, along_in, along_ends, open_once}
@@ -375,11 +376,7 @@ module _ (g : Network) (t : Edges) where
 
           total : length (select t (up_to g.m)) ≡ g.n
           unfolding at_one away
-          total =
-              sym (split_length t (λ k. eqb (g.a k) 1) (up_to g.m))
-              ∙ length-append (at_one g t) (away g t)
-              ∙ ap (λ (n : ℕ). n + length (away g t)) o.two
-              ∙ o.rest
+          total = tree-size g t o
 
           as_tour : Tour g t
           as_tour = record { number = total; order = c.order; once = c.once; calls = λ v. (c.inside v, every v); trip = c.trip }

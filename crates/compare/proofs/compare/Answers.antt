@@ -1,7 +1,6 @@
 -- Each pair's count, behind the fault.
-use Rattle.std.proofs.Common.{◌≡◌, Err, sym, ap, ◌∙◌, rules, arith}
-use Rattle.graph.specs.Refusals.{number, positive}
-use Rattle.compare.specs.Comparison.{meaning}
+use Rattle.std.proofs.Common.{◌≡◌, Err, sym, ap, ◌∙◌, rules}
+use Rattle.search.specs.Replies.{means}
 use Rattle.compare.specs.Faults.{no_fault, reply-refused, refused-leaves, reply_accepted, counted-leaves}
 use Rattle.compare.proofs.compare.Goals as goal
 
@@ -9,10 +8,7 @@ pub returns-in_err-fault : goal.returns-in_err-fault
 returns-in_err-fault c =
     let refusal = c.in_err-fault.field-0.0 in
     let is : c.from_residual.result ≡ Err refusal = search rules in
-    let some : ¬ (number refusal ≡ 0) = λ z. omega (arith, positive refusal) in (
-      ap meaning is ∙ sym (reply-refused _ _ _ _ _ _ _ (sym c.in_err-fault.ensures) some),
-      sym (refused-leaves _ _ _ _ _ _ _ (sym c.in_err-fault.ensures) some),
-    )
+    (ap means is ∙ reply-refused _ _ _ _ _ _ refusal c.in_err-fault.ensures, refused-leaves _ _ _ _ _ _ refusal c.in_err-fault.ensures)
 
 pub count_all-requires : goal.count_all-requires
 count_all-requires c =

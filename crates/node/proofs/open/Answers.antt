@@ -4,7 +4,7 @@ use Rattle.std.proofs.lemmas.Result.{err_from_is_err_and}
 use Rattle.lists.specs.Filling.{Filling}
 use Rattle.graph.specs.declared.Graph.{Graph}
 use Rattle.graph.specs.declared.refusals.Refusal.{Refusal}
-use Rattle.graph.specs.Refusals.{positive}
+use Rattle.graph.specs.Refusals.{not-zero}
 use Rattle.graph.specs.Network.{free, excluded}
 use Rattle.machine.specs.declared.Settings.{Settings}
 use Rattle.machine.specs.Machine.{Marks}
@@ -17,7 +17,7 @@ use Rattle.node.specs.Marks.{bytes_of}
 use Rattle.node.specs.Opened.{opened, marked, taken}
 use Rattle.node.specs.Refusing.{EndsAs}
 use Rattle.node.specs.Expanding.{expanded_at, expanded_mark, expanded_tour}
-use Rattle.node.specs.CompactGraph.{left-padded, left_few, left-places, left_expanded}
+use Rattle.node.specs.CompactGraph.{left-padded, left-places, left_expanded}
 use Rattle.node.specs.Words.{kept_in, new_byte, Packed, packed_rows}
 use Rattle.node.specs.Opens.{opens_15, left-refused, left_shut, left_found, left_unclosed, canonical}
 use Rattle.node.proofs.open.Goals as goal
@@ -35,47 +35,43 @@ packed_is m rows few y w l e packed =
     (λ i h. ap (λ (x : List ℕ). expanded_at (bytes_of (marks_in_rows m rows)) x 2 i) e ∙ expanded_mark (bytes_of (marks_in_rows m rows)) m few y i h)
     packed
 
-pub returns-then-from-gt-MAX_VERTICES : goal.returns-then-from-gt-MAX_VERTICES
-returns-then-from-gt-MAX_VERTICES c = let a = c.args in
+pub returns-then-m-gt-MAX_EDGES : goal.returns-then-m-gt-MAX_EDGES
+returns-then-m-gt-MAX_EDGES c = let a = c.args in
     opens_15 (taken (marked a.g.now a.node.now.rows) a.multipliers.now a.settings) _
-    (λ b v. omega (arith, c.then-from-gt-MAX_VERTICES.either, c.from.ensures, c.from-m.ensures, v.high, b))
+    (λ b v. omega (arith, c.if-m-gt-MAX_EDGES.true, c.from-m.ensures, b))
 
-pub open_left-requires-clause-edges : goal.open_left-requires-clause-edges
-open_left-requires-clause-edges c =
-    rw c.without_excluded-left.ensures.graph (left_few (marked c.args.g.now c.args.node.now.rows) (omega (arith, c.from-m.ensures)))
-
-pub open_left-requires-clause-padded : goal.open_left-requires-clause-padded
-open_left-requires-clause-padded c =
-    rw c.without_excluded-left.ensures.graph (left-padded (marked c.args.g.now c.args.node.now.rows))
+pub open_left-requires : goal.open_left-requires
+open_left-requires c =
+    rw c.without_excluded.ensures.graph (left-padded (marked c.args.g.now c.args.node.now.rows))
 
 pub returns-in_err-open_left : goal.returns-in_err-open_left
 returns-in_err-open_left c = let a = c.args in
     let few : a.g.now.m ≤ 190 = omega (arith, c.from-m.ensures) in
     let r = c.in_err-open_left.field-0.0 in
     let v =
-    ended _ _ a.multipliers.now a.settings (Err r) c.open_left.new.g.mark _ _ c.without_excluded-left.ensures.graph
+    ended _ _ a.multipliers.now a.settings (Err r) c.open_left.new.g.mark _ _ c.without_excluded.ensures.graph
     c.in_err-open_left.ensures.ending
     in
     let p = err_from_is_err_and c.from_residual.result c.from_residual.ensures.1 in
     rw (p.1, p.2)
     ((λ i. opened (Err r) (record { rows = a.node.now.rows; top = a.node.now.top; tour = a.node.now.tour; last = v.1 i }))
     ∙ left-refused (taken (marked a.g.now a.node.now.rows) a.multipliers.now a.settings) _ few _ v.0
-    (λ z. absurd (omega (arith, positive r, z))))
+    (not-zero r))
 
 pub returns-in-Shut : goal.returns-in-Shut
 returns-in-Shut c = let a = c.args in
     let few : a.g.now.m ≤ 190 = omega (arith, c.from-m.ensures) in
     let v =
     ended _ _ a.multipliers.now a.settings (Ok ending.Shut) c.open_left.new.g.mark a.node.now.last c.open_left.new.last
-    c.without_excluded-left.ensures.graph (rw c.in-Shut.is at c.in_ok-open_left.ensures.ending)
+    c.without_excluded.ensures.graph (rw c.in-Shut.is at c.in_ok-open_left.ensures.ending)
     in
     c.close.ensures ∙ left_shut (taken (marked a.g.now a.node.now.rows) a.multipliers.now a.settings) _ few v.0 v.1
 
 pub expand-requires : goal.expand-requires
 expand-requires c = let a = c.args in
     let few : a.g.now.m ≤ 190 = omega (arith, c.from-m.ensures) in
-    rw (c.open_left.ensures.marks_alone, c.without_excluded-left.ensures.graph)
-    (left-places (bytes_of (marks_in_rows a.g.now.m a.node.now.rows)) _ few _ c.without_excluded-left.ensures.listed)
+    rw (c.open_left.ensures.marks_alone, c.without_excluded.ensures.graph)
+    (left-places (bytes_of (marks_in_rows a.g.now.m a.node.now.rows)) _ few _ c.without_excluded.ensures.listed)
 
 pub returns-in-Found : goal.returns-in-Found
 returns-in-Found c = let a = c.args in
@@ -84,12 +80,12 @@ returns-in-Found c = let a = c.args in
     let Tells : List ℕ → List ℕ → Type 0 = λ w r. Filling 0 190 a.g.now.m (expanded_at bytes w 0) r in
     let v =
     ended _ _ a.multipliers.now a.settings (Ok ending.Found) c.open_left.new.g.mark a.node.now.last c.open_left.new.last
-    c.without_excluded-left.ensures.graph (rw c.in-Found.is at c.in_ok-open_left.ensures.ending)
+    c.without_excluded.ensures.graph (rw c.in-Found.is at c.in_ok-open_left.ensures.ending)
     in
-    let placed = rw (c.open_left.ensures.marks_alone, c.without_excluded-left.ensures.graph) at c.expand.ensures in
+    let placed = rw (c.open_left.ensures.marks_alone, c.without_excluded.ensures.graph) at c.expand.ensures in
     let tour =
     expanded_tour bytes a.g.now.m few v.1.tour _ (subst (λ (w : List ℕ). Tells w c.expand.new.tour) v.1.bytes
-    (left_expanded bytes a.g.now.m few _ c.without_excluded-left.ensures.listed _ _ placed))
+    (left_expanded bytes a.g.now.m few _ c.without_excluded.ensures.listed _ _ placed))
     in
     (λ i. let blank = c.blank.ensures i in
     opened (Ok fate.Finds) (record { rows = blank.rows; top = blank.top; tour = c.expand.new.tour; last = blank.last }))
@@ -100,9 +96,9 @@ split-requires-clause-of_marks c = let a = c.args in
     let few : a.g.now.m ≤ 190 = omega (arith, c.from-m.ensures) in
     let v =
     ended _ _ a.multipliers.now a.settings (Ok ending.Unclosed) c.open_left.new.g.mark a.node.now.last c.open_left.new.last
-    c.without_excluded-left.ensures.graph (rw c.in-Unclosed.is at c.in_ok-open_left.ensures.ending)
+    c.without_excluded.ensures.graph (rw c.in-Unclosed.is at c.in_ok-open_left.ensures.ending)
     in
-    let packed = packed_is a.g.now.m a.node.now.rows few v.1.marks _ _ v.1.bytes (rw c.from-m.ensures at c.pack.ensures) in
+    let packed = packed_is a.g.now.m a.node.now.rows few v.1.marks _ _ v.1.bytes (rw c.from-m.ensures at c.pack-node.ensures) in
     rw c.from-m.ensures
     (canonical a.g.now.m _ _ few (spread-size (kept_in a.g.now.m a.node.now.rows) a.g.now.m excluded free v.1.marks) packed)
 
@@ -111,8 +107,8 @@ returns-in-Unclosed c = let a = c.args in
     let few : a.g.now.m ≤ 190 = omega (arith, c.from-m.ensures) in
     let v =
     ended _ _ a.multipliers.now a.settings (Ok ending.Unclosed) c.open_left.new.g.mark a.node.now.last c.open_left.new.last
-    c.without_excluded-left.ensures.graph (rw c.in-Unclosed.is at c.in_ok-open_left.ensures.ending)
+    c.without_excluded.ensures.graph (rw c.in-Unclosed.is at c.in_ok-open_left.ensures.ending)
     in
-    let packed = packed_is a.g.now.m a.node.now.rows few v.1.marks _ _ v.1.bytes (rw c.from-m.ensures at c.pack.ensures) in
+    let packed = packed_is a.g.now.m a.node.now.rows few v.1.marks _ _ v.1.bytes (rw c.from-m.ensures at c.pack-node.ensures) in
     (rw c.from-m.ensures at c.split.ensures) v.1.multipliers v.1.told
     ∙ left_unclosed (taken (marked a.g.now a.node.now.rows) a.multipliers.now a.settings) _ few v.0 _ _ v.1 _ packed

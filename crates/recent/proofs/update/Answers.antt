@@ -13,16 +13,16 @@ fresh : (x : Window) (cost : List ℤ) → x ≡ unused cost → x ≡ unused x.
 unfolding unused
 fresh x cost e = rw e
 
-pub returns-in_err-first_fault : goal.returns-in_err-first_fault
+pub returns-in_err-w : goal.returns-in_err-w
 unfolding meaning
-returns-in_err-first_fault c = (grind (arith, positive, first_refused), grind (arith, positive, first_leaves))
+returns-in_err-w c = (grind (arith, positive, first_refused), grind (arith, positive, first_leaves))
 
 pub replay-requires : goal.replay-requires
 replay-requires c =
     let a = c.args in
     let none : first_fault a.g.now a.w (length a.edges.now) (length a.times.now) ≡ 0 = grind arith in
     let fine = first_fine a.g.now a.w a.edges.now a.times.now none in
-    (fine.2.0, fine.2.1, omega (arith, fine.0), fine.1, fresh c.unused-window.result a.g.now.cost c.unused-window.ensures)
+    (omega (arith, fine.0), fine.1, fresh c.unused-window.result a.g.now.cost c.unused-window.ensures)
 
 pub returns-in_err-replay : goal.returns-in_err-replay
 unfolding meaning
@@ -37,7 +37,8 @@ returns c =
     let a = c.args in
     let none : first_fault a.g.now a.w (length a.edges.now) (length a.times.now) ≡ 0 = grind arith in
     let told : made ≡ unless_bad (bad_from a.g.now.m 1 (log_of a.edges.now a.times.now)) = grind arith in
+    let w : c.in_ok-w.w.places ≡ a.w = c.in_ok-w.ensures.same in
     let cost : c.unused-window.result.costs ≡ a.g.now.cost = ap (λ (x : Window). x.costs) c.unused-window.ensures in (
       told ∙ sym (log_reply a.g.now a.w a.edges.now a.times.now none),
-      made_leaves a.g.now a.w a.edges.now a.times.now none told _ (rw (c.from.ensures, cost) at c.replay.ensures.afresh),
+      made_leaves a.g.now a.w a.edges.now a.times.now none told _ (rw (c.from.ensures, cost, w) at c.replay.ensures.afresh),
     )

@@ -13,9 +13,10 @@ use Rattle.machine.specs.Outcomes as outcomes
 use Rattle.machine.specs.Outcomes.{Incumbent, no_tour, a_tour}
 use Rattle.machine.specs.Machine.{edges_of, cost_of, replaces, better}
 use Rattle.machine.specs.Kept.{Sized}
-use Rattle.search.specs.Record.{bits, best_of, has_incumbent, best_bytes}
+use Rattle.search.specs.Record.{bits, best_of, has_tour, has_incumbent, best_bytes}
 use Rattle.search.specs.Incumbents.{best_back}
 use Rattle.search.specs.Runs.Costs.{bits_edges, cost-bits}
+use Rattle.search.specs.declared.Search.{Search}
 
 -- a found tour f of cost x takes the place of the best tour b of cost y
 unfoldable pub replaces_by : ℕ → ℤ → ℤ → List ℕ → List ℕ → Bool
@@ -24,6 +25,13 @@ replaces_by m x y f b = cond (lt_z x y) true (cond (lt_z y x) false (lacks_first
 -- the bytes that are kept of a found tour's f and the best one's b; h says whether there is one
 unfoldable pub kept_of : Graph → Bool → List ℕ → List ℕ → List ℕ
 kept_of g h f b = cond h (cond (replaces (network g) (bits g.m f) (bits g.m b)) f b) f
+
+-- a record with a found tour: the upper bound is its cost
+abbrev pub with_best : Search → ℤ → List ℕ → Search
+with_best r upper w = record r { upper = upper; best = w; has_best = 1 }
+
+abbrev pub kept_in : Search → List ℕ → Search
+kept_in s f = with_best s (cost (network s.graph) (bytes f)) (kept_of s.graph (has_tour s) f s.best)
 
 -- ---- the comparison edge by edge
 

@@ -42,7 +42,7 @@ use Rattle.search.specs.Accepted.{range_fits, range_denominator}
 use Rattle.search.specs.Cells.{rows_places, carried_places, cells-size}
 use Rattle.search.specs.Pushing.{PutRows, PutCarried, rows_top, carried_top, pushed, replaced, popped, carried_pushed, carried_replaced, carried_popped}
 use Rattle.search.specs.Runs.Costs.{cost-bits}
-use Rattle.search.specs.Runs.Keeping.{kept_of, bits_back, kept_is}
+use Rattle.search.specs.Runs.Keeping.{kept_of, bits_back, kept_is, with_best, kept_in}
 
 -- r is the record of the search s
 pub record Holds (r : Search) (s : Progress) : Type 0 where
@@ -59,10 +59,6 @@ pub record Top (s : Progress) : Type 0 where
 -- a record with the stack's words, what the nodes carry, the depth and the count anew
 abbrev pub restacked : Search → List ℕ → List ℤ → ℕ → ℕ → Search
 restacked r l e depth count = record r { stack = l; carried = e; depth = depth; count = count }
-
--- and with a found tour
-abbrev pub with_best : Search → ℤ → List ℕ → Search
-with_best r upper w = record r { upper = upper; best = w; has_best = 1 }
 
 -- ---- what the record tells
 
@@ -319,15 +315,14 @@ module _ (r : Search) (s : Progress) (h : Holds r s) (t : Top s) where
         c = opened_closes (open_node s.opening s.upper t.node) o is f
 
     -- of the tour and the incumbent the better is kept
-    pub next_finds : (l : List ℕ) (e : List ℤ) (upper : ℤ) (w : List ℕ) → o.fate ≡ fated fate.Finds
+    pub next_finds : (l : List ℕ) (e : List ℤ) → o.fate ≡ fated fate.Finds
         → PutRows (r.depth - 1) o.node.rows r.stack l → PutCarried (r.depth - 1) o.node.last r.carried e
-        → upper ≡ cost (network r.graph) (bytes o.node.tour) → w ≡ kept_of r.graph (has_tour r) o.node.tour r.best
-        → with_best (restacked r l e (r.depth - 1) (r.count + 1)) upper w ≡ record_of (open_top s s.stack)
+        → kept_in (restacked r l e (r.depth - 1) (r.count + 1)) o.node.tour ≡ record_of (open_top s s.stack)
     unfolding record_of settled lowered cost_of has_incumbent
-    next_finds l e upper w f put carry u k =
+    next_finds l e f put carry =
         (λ i.
-        with_best (restacked (h.is i) (wiped l c.rows put i) (wiped_carried e c.last carry i) (sym place i) (count_next i)) ((u ∙ same-cost) i)
-        ((k ∙ same-best) i))
+        with_best (restacked (h.is i) (wiped l c.rows put i) (wiped_carried e c.last carry i) (sym place i) (count_next i)) (same-cost i)
+        (same-best i))
         ∙ there-is s.incumbent
         ∙ ap record_of (sym (settles (finds c.tour) c.is))
       where

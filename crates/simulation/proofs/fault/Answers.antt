@@ -1,29 +1,15 @@
--- Each test is the one that the definition makes, in its order.
-use Rattle.std.proofs.Common.{arith, sym, ◌∙◌}
-use Rattle.std.proofs.lemmas.Bool.Decides.{nat_tests}
-use Rattle.graph.specs.Meaning.{valid_true}
+-- The graph's fault is the first.
+use Rattle.std.specs.Prelude.{◌≡◌, Err}
+use Rattle.std.proofs.Common.{ap, ◌∙◌, rules}
+use Rattle.graph.specs.Meaning.{graph_refused}
+use Rattle.graph.specs.Refusals.{fault_of}
 use Rattle.sailing.specs.Simulation.{simulation_fault}
 use Rattle.simulation.proofs.fault.Goals as goal
 
-pub returns-then-not-check : goal.returns-then-not-check
+pub returns-in_err-fault : goal.returns-in_err-fault
 unfolding simulation_fault
-returns-then-not-check c = grind (arith, nat_tests)
-
-pub returns-then-edges-n : goal.returns-then-edges-n
-unfolding simulation_fault
-returns-then-edges-n c = grind (arith, nat_tests)
-
-pub in_order-requires : goal.in_order-requires
-in_order-requires c = (valid_true c.args.g.now (sym c.check.ensures ∙ c.if-not-check.false), omega arith)
-
-pub returns-then-not-in_order : goal.returns-then-not-in_order
-unfolding simulation_fault
-returns-then-not-in_order c = grind (arith, nat_tests)
-
-pub returns-then-spread-gt-MAX_SPREAD : goal.returns-then-spread-gt-MAX_SPREAD
-unfolding simulation_fault
-returns-then-spread-gt-MAX_SPREAD c = grind (arith, nat_tests)
-
-pub returns : goal.returns
-unfolding simulation_fault
-returns c = grind (arith, nat_tests)
+returns-in_err-fault c =
+    let refusal = c.in_err-fault.field-0.0 in
+    let is : c.from_residual.result ≡ Err refusal = search rules in
+    let p = graph_refused c.args.g.now refusal c.in_err-fault.ensures in
+    rw p.0 (ap fault_of is ∙ p.1)

@@ -11,7 +11,7 @@ use Rattle.sailing.specs.Draws.{max_spread, delay}
 use Rattle.sailing.specs.Totals.{add_range}
 use Rattle.sailing.specs.Simulation.{times_of}
 use Rattle.sailing.specs.Refusals.{no_fault}
-use Rattle.simulation.specs.Listed.{leg_at, cost-at}
+use Rattle.simulation.specs.Listed.{listed_at, cost-at}
 use Rattle.simulation.specs.Steps.{cost_in, sailed_none, sailed_next, sailed_all}
 use Rattle.simulation.proofs.sail.Goals as goal
 
@@ -26,46 +26,46 @@ loop-i-init c = (refl, sailed_none _ _ _ _ _)
 
 pub next-drawn-requires : goal.next-drawn-requires
 next-drawn-requires c =
-    let leg = leg_at _ _ _ _ _ c.requires c.loop-i.i c.loop-i-test.true in
-    omega (arith, leg.state, c.loop-i.invariant.1.state)
+    let edge = listed_at _ _ _ _ _ c.requires c.loop-i.i c.loop-i-test.true in
+    omega (arith, edge.state, c.loop-i.invariant.1.state)
 
 pub overflow_sub-k : goal.overflow_sub-k
-overflow_sub-k c = (leg_at _ _ _ _ _ c.requires c.loop-i.i c.loop-i-test.true).low
+overflow_sub-k c = (listed_at _ _ _ _ _ c.requires c.loop-i.i c.loop-i-test.true).low
 
 pub offset_bounds-g-k : goal.offset_bounds-g-k
 offset_bounds-g-k c =
-    let leg = leg_at _ _ _ _ _ c.requires c.loop-i.i c.loop-i-test.true in
-    record { fits = omega (arith, leg.high) }
+    let edge = listed_at _ _ _ _ _ c.requires c.loop-i.i c.loop-i-test.true in
+    record { fits = omega (arith, edge.high) }
 
 pub bounds-g-k : goal.bounds-g-k
 bounds-g-k c =
-    let leg = leg_at _ _ _ _ _ c.requires c.loop-i.i c.loop-i-test.true in
-    omega (arith, leg.low, leg.high)
+    let edge = listed_at _ _ _ _ _ c.requires c.loop-i.i c.loop-i-test.true in
+    omega (arith, edge.low, edge.high)
 
 pub time-t-requires : goal.time-t-requires
 time-t-requires c =
-    let leg = leg_at _ _ _ _ _ c.requires c.loop-i.i c.loop-i-test.true in
-    (rw (back32 (cost_in c.args.g.now.cost (get_or c.args.edges.now c.loop-i.i 0)) (search rules)) leg.cost, leg.spread, c.next-drawn.ensures.1)
+    let edge = listed_at _ _ _ _ _ c.requires c.loop-i.i c.loop-i-test.true in
+    (rw (back32 (cost_in c.args.g.now.cost (get_or c.args.edges.now c.loop-i.i 0)) (search rules)) edge.cost, edge.spread, c.next-drawn.ensures.1)
 
 pub bounds-times-i : goal.bounds-times-i
 bounds-times-i c =
-    let leg = leg_at _ _ _ _ _ c.requires c.loop-i.i c.loop-i-test.true in
-    omega (arith, leg.room, c.loop-i.invariant.0)
+    let edge = listed_at _ _ _ _ _ c.requires c.loop-i.i c.loop-i-test.true in
+    omega (arith, edge.room, c.loop-i.invariant.0)
 
 pub overflow_add-total : goal.overflow_add-total
 overflow_add-total c =
-    let leg = leg_at _ _ _ _ _ c.requires c.loop-i.i c.loop-i-test.true in
+    let edge = listed_at _ _ _ _ _ c.requires c.loop-i.i c.loop-i-test.true in
     rw (back64 c.time-t.result c.time-t.type_inv)
-    (sum_fits c.loop-i.i (to_z w64 c.loop-i.total-bits) c.time-t.result leg.few c.loop-i.invariant.1.range c.time-t.ensures.1)
+    (sum_fits c.loop-i.i (to_z w64 c.loop-i.total-bits) c.time-t.result edge.few c.loop-i.invariant.1.range c.time-t.ensures.1)
 
 pub loop-i-preserved : goal.loop-i-preserved
 loop-i-preserved c =
     let l = c.loop-i in
-    let leg = leg_at _ _ _ _ _ c.requires l.i c.loop-i-test.true in
-    let edge : ℕ = get_or c.args.edges.now l.i 0 in
-    let time-is : c.time-t.result ≡ cost_in c.args.g.now.cost edge +ℤ delay c.args.spread c.next-drawn.result = rw (back32 (cost_in c.args.g.now.cost edge) (search rules)) at c.time-t.ensures.0 in
-    let room : l.i < length l.times = omega (arith, leg.room, l.invariant.0) in
-    rw (back64 c.time-t.result c.time-t.type_inv, to_z-of_z (sum_fits l.i (to_z w64 l.total-bits) c.time-t.result leg.few l.invariant.1.range c.time-t.ensures.1)) (
+    let edge = listed_at _ _ _ _ _ c.requires l.i c.loop-i-test.true in
+    let k : ℕ = get_or c.args.edges.now l.i 0 in
+    let time-is : c.time-t.result ≡ cost_in c.args.g.now.cost k +ℤ delay c.args.spread c.next-drawn.result = rw (back32 (cost_in c.args.g.now.cost k) (search rules)) at c.time-t.ensures.0 in
+    let room : l.i < length l.times = omega (arith, edge.room, l.invariant.0) in
+    rw (back64 c.time-t.result c.time-t.type_inv, to_z-of_z (sum_fits l.i (to_z w64 l.total-bits) c.time-t.result edge.few l.invariant.1.range c.time-t.ensures.1)) (
       length-set l.times l.i c.time-t.result ∙ l.invariant.0,
       sailed_next _ _ _ _ l.i l.times (to_z w64 l.total-bits) c.time-t.result l.state _ c.loop-i-test.true room l.invariant.1
           c.next-drawn.ensures.0 time-is c.time-t.ensures.1,

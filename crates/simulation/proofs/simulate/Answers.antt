@@ -1,6 +1,6 @@
 -- The sailing, behind the fault.
 use Rattle.std.proofs.Common.{◌≡◌, Err, sym, ap, ◌∙◌, rules, arith}
-use Rattle.graph.specs.Refusals.{number, positive}
+use Rattle.graph.specs.Refusals.{number, not-zero}
 use Rattle.sailing.specs.Refusals.{reply-refused, refused-leaves, reply_sailed, sailed_leaves}
 use Rattle.simulation.specs.Answers.{simulation_meaning}
 use Rattle.simulation.proofs.simulate.Goals as goal
@@ -10,7 +10,7 @@ unfolding simulation_meaning
 returns-in_err-fault c =
     let refusal = c.in_err-fault.field-0.0 in
     let is : c.from_residual.result ≡ Err refusal = search rules in
-    let some : ¬ (number refusal ≡ 0) = λ z. omega (arith, positive refusal) in (
+    let some = not-zero refusal in (
       ap simulation_meaning is ∙ sym (reply-refused _ _ _ _ _ _ (sym c.in_err-fault.ensures) some),
       sym (refused-leaves _ _ _ _ _ _ (sym c.in_err-fault.ensures) some),
     )

@@ -1,10 +1,10 @@
--- Where the record is read, its faults are those of its bytes.
+-- The faults of the record are those of its bytes.
 use Rattle.std.specs.Prelude.{◌+◌, ◌-◌, ◌*◌}
 use Rattle.std.proofs.Common.{arith}
 use Rattle.std.proofs.lemmas.Bool.Decides.{nat_tests}
 use Rattle.graph.specs.Refusals.{positive}
 use Rattle.charts.specs.Chart.{start_of, record_fault}
-use Rattle.charts.specs.Records.{record_at, body_is}
+use Rattle.charts.specs.Records.{body_is}
 use Rattle.charts.proofs.reader.checked.Goals as goal
 
 pub returns-in_err-fault-clause-fault : goal.returns-in_err-fault-clause-fault
@@ -12,15 +12,3 @@ unfolding record_fault start_of
 returns-in_err-fault-clause-fault c =
     let body = body_is c.args.s.now c.args.g.now.n (8 + 12 * (c.args.k - 1)) c.at-record.result c.at-record.ensures in
     grind (arith, nat_tests, positive)
-
-pub returns-then-pair_met-clause-fault : goal.returns-then-pair_met-clause-fault
-unfolding record_fault start_of record_at
-returns-then-pair_met-clause-fault c =
-    let body = body_is c.args.s.now c.args.g.now.n (8 + 12 * (c.args.k - 1)) c.at-record.result c.at-record.ensures in
-    grind (arith, nat_tests)
-
-pub returns-clause-fault : goal.returns-clause-fault
-unfolding record_fault start_of record_at
-returns-clause-fault c =
-    let body = body_is c.args.s.now c.args.g.now.n (8 + 12 * (c.args.k - 1)) c.at-record.result c.at-record.ensures in
-    grind (arith, nat_tests)

@@ -3,6 +3,7 @@ use Rattle.std.specs.Prelude.{◌≡◌, ◌+◌, ◌-◌, ◌*◌, length, drop
 use Rattle.std.proofs.Common.{◌∙◌, ap, sym, arith, take_all}
 use Rattle.std.proofs.lemmas.Slice.{take-put_mid}
 use Rattle.charts.specs.Chart.{size_of, header_bytes, record_bytes, file_bytes}
+use Rattle.charts.specs.NoFault.{write_ok}
 use Rattle.charts.specs.WriterLoop.{write_start, write_step}
 use Rattle.charts.proofs.writer.put_all.Goals as goal
 
@@ -20,7 +21,8 @@ loop-k-preserved c =
     let new = c.copy_from_slice-in-loop-k in
     let put = new.ensures.after ∙ c.record.ensures in
     let at : 8 + 12 * l.k ≡ start = omega arith in
-    take-put_mid start (start + 12 - start) l.out new.new.self (size_of (l.k + 1)) (omega (arith, ap length put)) (omega arith)
+    let size = (write_ok g _ c.requires).1 in
+    take-put_mid start (start + 12 - start) l.out new.new.self (size_of (l.k + 1)) (omega (arith, ap length put, size)) (omega (arith, size))
     ∙ rw (put, rw at at l.invariant) (write_step (header_bytes g.n g.m) g l.k)
 
 pub returns : goal.returns
@@ -28,4 +30,4 @@ unfolding file_bytes
 returns c =
     let l = c.loop-k in
     let e : l.k ≡ c.args.g.now.m = omega arith in
-    sym (take_all (size_of c.args.g.now.m) l.out (omega arith)) ∙ rw e at l.invariant
+    sym (take_all (size_of c.args.g.now.m) l.out (omega (arith, (write_ok c.args.g.now _ c.requires).1))) ∙ rw e at l.invariant

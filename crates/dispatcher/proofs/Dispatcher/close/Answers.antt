@@ -1,6 +1,5 @@
 -- The cases of `reply` at close, one for each return (specs/Cases).
-use Rattle.std.proofs.Common.{◌≡◌, Err, set, ap, ◌∙◌, rules, arith}
-use Rattle.graph.specs.Refusals.{number, positive}
+use Rattle.std.proofs.Common.{◌≡◌, Err, set, ap, ◌∙◌, rules}
 use Rattle.machine.specs.Calls.{Answer}
 use Rattle.search.specs.declared.Search.{Search}
 use Rattle.dispatch_theory.specs.Dispatcher.{said}
@@ -8,38 +7,20 @@ use Rattle.dispatcher.specs.Replies.{means, Outcome}
 use Rattle.dispatcher.specs.Cases.{close_refused, close_done}
 use Rattle.dispatcher.proofs.Dispatcher.close.Goals as goal
 
-pub returns-in_err-at-clause-answer : goal.returns-in_err-at-clause-answer
-returns-in_err-at-clause-answer c =
+pub returns-in_err-at : goal.returns-in_err-at
+returns-in_err-at c =
     let refusal = c.in_err-at.field-0.0 in
     let is : c.from_residual.result ≡ Err refusal = search rules in
     let e = c.in_err-at.ensures in
-    ap means is ∙ ap (λ (o : Outcome). o.answer) (close_refused c.args.self.now e.laid c.args.place (number refusal) e.held (λ z. omega (arith, positive refusal)))
+    let reply = close_refused c.args.self.now e.laid c.args.place refusal e.held in
+    record { answer = ap means is ∙ ap (λ (o : Outcome). o.answer) reply; left = ap (λ (o : Outcome). o.dispatcher) reply }
 
-pub returns-in_err-at-clause-left : goal.returns-in_err-at-clause-left
-returns-in_err-at-clause-left c =
-    let refusal = c.in_err-at.field-0.0 in
-    let e = c.in_err-at.ensures in
-    ap (λ (o : Outcome). o.dispatcher) (close_refused c.args.self.now e.laid c.args.place (number refusal) e.held (λ z. omega (arith, positive refusal)))
-
-pub returns-in_err-closed-clause-answer : goal.returns-in_err-closed-clause-answer
-returns-in_err-closed-clause-answer c =
+pub returns : goal.returns
+returns c =
     let e = c.in_ok-at.ensures in
-    let is : c.from_residual-in_err-closed.result ≡ Err c.in_err-closed.field-0.0 = search rules in
-    ap means is ∙ ap (λ (a : Answer). said a) c.in_err-closed.ensures.answer ∙ ap (λ (o : Outcome). o.answer) (close_done c.args.self.now e.laid c.args.place c.in_ok-at.at e.held _)
-
-pub returns-in_err-closed-clause-left : goal.returns-in_err-closed-clause-left
-returns-in_err-closed-clause-left c =
-    let e = c.in_ok-at.ensures in
-    ap (λ (s : Search). record { last = c.args.self.now.last; places = set c.args.self.now.places c.in_ok-at.at s }) c.close.ensures.left
-    ∙ ap (λ (o : Outcome). o.dispatcher) (close_done c.args.self.now e.laid c.args.place c.in_ok-at.at e.held _)
-
-pub returns-clause-answer : goal.returns-clause-answer
-returns-clause-answer c =
-    let e = c.in_ok-at.ensures in
-    ap (λ (a : Answer). said a) c.in_ok-closed.ensures.answer ∙ ap (λ (o : Outcome). o.answer) (close_done c.args.self.now e.laid c.args.place c.in_ok-at.at e.held _)
-
-pub returns-clause-left : goal.returns-clause-left
-returns-clause-left c =
-    let e = c.in_ok-at.ensures in
-    ap (λ (s : Search). record { last = c.args.self.now.last; places = set c.args.self.now.places c.in_ok-at.at s }) c.close.ensures.left
-    ∙ ap (λ (o : Outcome). o.dispatcher) (close_done c.args.self.now e.laid c.args.place c.in_ok-at.at e.held _)
+    let d = c.args.self.now in
+    record {
+      answer = ap (λ (a : Answer). said a) c.close.ensures.answer ∙ ap (λ (o : Outcome). o.answer) (close_done d e.laid c.args.place c.in_ok-at.at e.held _);
+      left = ap (λ (s : Search). record { last = d.last; places = set d.places c.in_ok-at.at s }) c.close.ensures.left
+          ∙ ap (λ (o : Outcome). o.dispatcher) (close_done d e.laid c.args.place c.in_ok-at.at e.held _);
+    }

@@ -1,5 +1,5 @@
 -- The loop keeps: the degrees in the first k edges.
-use Rattle.node.specs.Counting.{DegreesTo}
+use Rattle.tours.specs.Counted.{DegreesTo}
 use Rattle.node.proofs.passes.count_degrees.Given as goal
 
 abbrev pub invariant-loop-k : goal.invariant-loop-k

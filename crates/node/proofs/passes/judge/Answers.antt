@@ -1,15 +1,18 @@
 -- By what the tree part found.
-use Rattle.std.proofs.Common.{sym, ◌∙◌, true≢false}
-use Rattle.node.specs.Marks.{marks_back}
+use Rattle.std.proofs.Common.{sym, ◌∙◌, true≢false, arith}
 use Rattle.node.specs.Faults.{fault-fit}
-use Rattle.node.specs.Counting.{ends_of}
 use Rattle.node.specs.OnePass.{tree_found, tree-ruled}
 use Rattle.node.proofs.passes.judge.Goals as goal
 
-pub count_degrees-degrees-requires-clause-ends : goal.count_degrees-degrees-requires-clause-ends
-count_degrees-degrees-requires-clause-ends c =
+pub count_degrees-degrees-requires : goal.count_degrees-degrees-requires
+count_degrees-degrees-requires c =
     let least = rw c.in-Some.is at c.in_ok-found.ensures in
-    ends_of c.args.g.now (fault-fit _ least.none).valid
+    (fault-fit _ least.none).valid
+
+pub slice_bounds-two_each-end : goal.slice_bounds-two_each-end
+slice_bounds-two_each-end c =
+    let least = rw c.in-Some.is at c.in_ok-found.ensures in
+    omega (arith, c.from.ensures, (fault-fit _ least.none).valid.high)
 
 pub returns-then-two_each-clause-verdict : goal.returns-then-two_each-clause-verdict
 returns-then-two_each-clause-verdict c =
@@ -20,16 +23,16 @@ returns-then-two_each-clause-verdict c =
       tree_found _ _ (fault-fit _ least.none).valid _ _ _ w.tree w.least w.low _ _ least.bytes c.count_degrees-degrees.ensures two,
     )
 
-pub apply-requires-clause-of_marks : goal.apply-requires-clause-of_marks
-apply-requires-clause-of_marks c =
+pub apply-requires-clause-valid : goal.apply-requires-clause-valid
+apply-requires-clause-valid c =
     let least = rw c.in-Some.is at c.in_ok-found.ensures in
-    rw c.from-2.ensures (marks_back c.args.g.now (fault-fit _ least.none).valid c.requires.padded)
+    (fault-fit _ least.none).valid
 
 pub returns-clause-verdict : goal.returns-clause-verdict
 returns-clause-verdict c =
     let least = rw c.in-Some.is at c.in_ok-found.ensures in
     let w = least.within in
-    let made = rw c.from-2.ensures at c.apply.ensures in (
+    let made = c.apply.ensures.marks in (
       least.none,
       tree-ruled _ _ (fault-fit _ least.none).valid _ _ _ w.tree w.least w.low _ _ least.bytes c.count_degrees-degrees.ensures _ _ least.ruled
           made (λ two. true≢false (sym ((rw c.from.ensures at c.two_each.ensures.1) two) ∙ c.if-two_each.false)),

@@ -1,9 +1,9 @@
 -- The tree is hung, so the loops are ready; specs/Ruled.antt says what they come to.
-use Rattle.swaps.specs.Visiting.{Rooting, rooting}
 use Rattle.swaps.specs.Swaps.{Below}
 use Rattle.onetree.specs.Candidates.{BelowRoot}
 use Rattle.onetree.specs.Outside.{Ready}
 use Rattle.onetree.specs.Forcing.{forcing_as}
+use Rattle.onetree.specs.HungTree.{rooting_of, queue_of, count_of}
 use Rattle.onetree.specs.Ruled.{ruled_by_lem}
 use Rattle.onetree.proofs.rulings.rulings.Goals as goal
 
@@ -13,16 +13,14 @@ returns c =
     let l = c.args.lists.now in
     let h = c.hang.new.self in
     let t = c.hang.ensures.0 in
-    let near = c.of-near.result in
-    let r : Rooting = rooting h.parent h.depth h.edge in
-    let ready : Ready c.args.g.now l.tree l.charges l.labels r h.weight near.dearest near.cheapest = record {
+    let ready : Ready c.args.g.now l.tree l.charges l.labels (rooting_of h) h.weight c.of-near.result.dearest c.of-near.result.cheapest = record {
       valid = p.0.valid;
       tree = p.0.tree;
       rooted = t.rooted;
       weights = c.hang.ensures.1;
       one = c.of-near.ensures;
     } in (
-      ruled_by_lem _ _ _ _ r _ _ _ ready _ _ _ c.judge_outside.ensures _
-          (forcing_as (BelowRoot h.queue h.count) (Below r) _ _ _ _ _ _ t.below t.queued c.judge_inside.ensures) _ c.finish.ensures,
+      ruled_by_lem _ _ _ _ (rooting_of h) _ _ _ ready _ _ _ c.outside.ensures _
+          (forcing_as (BelowRoot (queue_of h) (count_of h)) (Below (rooting_of h)) _ _ _ _ _ _ t.below t.queued c.inside.ensures) _ c.finish.ensures,
       c.finish.array_long,
     )

@@ -7,7 +7,7 @@ use Rattle.recent.specs.Windows.{ring_of, stored, entered_at}
 use Rattle.recent.proofs.Window.enter.Goals as goal
 
 pub enter-requires : goal.enter-requires
-enter-requires c = (c.requires.low, c.requires.high, c.requires.room)
+enter-requires c = (c.requires.next, c.requires.held)
 
 pub greatest-requires : goal.greatest-requires
 unfolding stored
@@ -15,7 +15,7 @@ greatest-requires c =
     let rings = c.args.self.now.rings in
     let size : length rings ≡ 190 = search (rules, c.well_formed) in
     let own : ring_of (set rings c.args.k c.enter.new.self) c.args.k ≡ c.enter.new.self = get_or-set_same rings c.args.k c.enter.new.self _ (omega arith) in
-    rw (own, c.enter.ensures) (omega arith, omega arith, omega arith)
+    rw (own, c.enter.ensures) (omega (arith, c.requires.next), omega (arith, c.args.w.fits.1))
 
 pub returns : goal.returns
 unfolding entered_at

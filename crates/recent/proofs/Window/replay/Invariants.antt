@@ -5,4 +5,4 @@ use Rattle.recent.specs.Replay.{Replaying}
 use Rattle.recent.proofs.Window.replay.Given as goal
 
 abbrev pub invariant-loop-i : goal.invariant-loop-i
-invariant-loop-i l = Replaying l.w l.m l.initial.self.costs (log_of l.edges l.times) (length l.yielded) l.self
+invariant-loop-i l = Replaying l.w.places l.m l.initial.self.costs (log_of l.edges l.times) (length l.yielded) l.self

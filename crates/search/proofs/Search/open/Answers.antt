@@ -1,7 +1,7 @@
 -- The cases of `reply` at an opening, one for each return.
 use Rattle.std.proofs.Common.{rules, ◌≡◌, refl, sym, ap, ◌∙◌, Err, arith}
 use borrow.Author.Tests.{eq-eqb, ne_eqb}
-use Rattle.graph.specs.Refusals.{number, positive}
+use Rattle.graph.specs.Refusals.{number, not-zero}
 use Rattle.machine.specs.Machine.{Opening}
 use Rattle.machine.specs.Calls.{opens}
 use Rattle.search.specs.Record.{opening_of}
@@ -35,7 +35,7 @@ returns-in_err-fault c =
     let e : c.from_residual.result ≡ Err r = search rules in
     let a : Opening = opening_of c.args.g.now c.args.multipliers.now c.args.settings in
     rw e (parts s s a _
-    (open_fault s (c.is_sound.ensures.typed passed) passed (ne_eqb _ 1 c.if-self-eq1.false) a (number r) (sym c.in_err-fault.ensures) (λ z. omega (arith, positive r, z))) refl)
+    (open_fault s (c.is_sound.ensures.typed passed) passed (ne_eqb _ 1 c.if-self-eq1.false) a (number r) (sym c.in_err-fault.ensures) (not-zero r)) refl)
 
 pub returns : goal.returns
 returns c =

@@ -44,8 +44,8 @@ overflow_sub-p c = top_depth _ _ c.requires.1 c.requires.2
 
 pub get-multipliers-requires : goal.get-multipliers-requires
 get-multipliers-requires c =
-    let k : 20 * (c.args.self.now.depth - 1) + 20 ≤ length c.args.self.now.carried
-    = omega (arith, top-high _ _ c.requires.1 c.requires.2, holds_carried-size _ _ c.requires.1) in (omega arith, k)
+    let high = top-high _ _ c.requires.1 c.requires.2 in
+    let size = holds_carried-size _ _ c.requires.1 in (omega (arith, high, size), omega (arith, high, size))
 
 pub get-node-requires : goal.get-node-requires
 get-node-requires c =
@@ -74,8 +74,8 @@ overflow_sub-self c = top_depth _ _ c.requires.1 c.requires.2
 pub overflow_add-self : goal.overflow_add-self
 overflow_add-self c = record { fits = omega (arith, top-room _ _ c.requires.1 c.requires.2) }
 
-pub keep-self-requires : goal.keep-self-requires
-keep-self-requires c = holds_valid _ _ c.requires.1
+pub keep-requires : goal.keep-requires
+keep-requires c = holds_valid _ _ c.requires.1
 
 pub put-requires-in-Splits : goal.put-requires-in-Splits
 put-requires-in-Splits c =
@@ -108,8 +108,8 @@ pub returns-in-Finds : goal.returns-in-Finds
 returns-in-Finds c = λ s h t.
     let e = came _ s h t _ _ _ _ _ _ (c.get-node.ensures 0) (c.get-multipliers.ensures (pos 0))
     (back64 c.args.self.now.upper (holds_mag _ _ h)) c.open.ensures in
-    next_finds _ s h t _ e _ _ _ _ (ap meaning (c.unwrap-fate.ensures ∙ ap (λ (a : Fate). Ok a) c.in-Finds.is)) (c.put.ensures 0) (c.put-2.ensures (pos 0))
-    (back64 c.keep-self.result c.keep-self.type_inv ∙ c.keep-self.ensures.0) c.keep-self.ensures.1
+    c.keep.ensures
+    ∙ next_finds _ s h t _ e _ _ (ap meaning (c.unwrap-fate.ensures ∙ ap (λ (a : Fate). Ok a) c.in-Finds.is)) (c.put.ensures 0) (c.put-2.ensures (pos 0))
 
 pub returns-in-Splits : goal.returns-in-Splits
 returns-in-Splits c = λ s h t.

@@ -1,7 +1,7 @@
 -- The cases of `reply` and `lent` at show, one for each return; the record is left as it is in each.
-use Rattle.std.proofs.Common.{rules, ◌≡◌, refl, sym, ap, ◌∙◌, Err, List, ℕ, arith}
-use borrow.Author.Tests.{eq-eqb, ne_eqb}
+use Rattle.std.proofs.Common.{rules, ◌≡◌, refl, sym, ap, ◌∙◌, Err, List, ℕ, take, length, arith}
 use Rattle.lists.specs.Fill.{fit}
+use Rattle.lists.specs.Filling.{take-fit}
 use Rattle.machine.specs.Calls.{show}
 use Rattle.search.specs.Replies.{Outcome, reply, lent}
 use Rattle.search.specs.ReplyCases.{IsOpen, show_22, show_23, show_11, show_done, graph-valid}
@@ -30,23 +30,23 @@ returns-then-self-ne0 c =
     let o : IsOpen s = c.in_ok-opened.ensures.passed in
     parts s c.args.out.now c.args.out.now _ (show_22 s o.typed o.passes o.opened c.args.out.now c.if-self-ne0.true) refl
 
-pub returns-then-self-ne1 : goal.returns-then-self-ne1
-returns-then-self-ne1 c =
+pub returns-in_default : goal.returns-in_default
+returns-in_default c =
     let s = c.args.self.now in
     let o : IsOpen s = c.in_ok-opened.ensures.passed in
     parts s c.args.out.now c.args.out.now _
-    (show_23 s o.typed o.passes o.opened c.args.out.now c.if-self-ne0.false (ne_eqb _ 1 c.if-self-ne1.true)) refl
+    (show_23 s o.typed o.passes o.opened c.args.out.now c.if-self-ne0.false (rw c.in_default.is at c.incumbent.ensures)) refl
 
 pub returns-then-out-from : goal.returns-then-out-from
 returns-then-out-from c =
     let s = c.args.self.now in
     let o : IsOpen s = c.in_ok-opened.ensures.passed in
     parts s c.args.out.now c.args.out.now _
-    (show_11 s o.typed o.passes o.opened c.args.out.now c.if-self-ne0.false (eq-eqb _ 1 c.if-self-ne1.false)
+    (show_11 s o.typed o.passes o.opened c.args.out.now c.if-self-ne0.false c.in-Some.ensures.0
     (λ e. c.if-out-from.true (e ∙ sym c.from.ensures))) refl
 
-pub show_tour-requires : goal.show_tour-requires
-show_tour-requires c =
+pub shared_ref_as_front-copy_from_slice : goal.shared_ref_as_front-copy_from_slice
+shared_ref_as_front-copy_from_slice c =
     let s = c.args.self.now in
     let o : IsOpen s = c.in_ok-opened.ensures.passed in
     omega (arith, c.if-out-from.false, c.from.ensures, (graph-valid s o.typed o.passes o.opened).few)
@@ -56,5 +56,9 @@ returns c =
     let s = c.args.self.now in
     let o : IsOpen s = c.in_ok-opened.ensures.passed in
     let long = c.if-out-from.false ∙ c.from.ensures in
-    let h = show_done s o.typed o.passes o.opened c.args.out.now c.if-self-ne0.false (eq-eqb _ 1 c.if-self-ne1.false) long in
-    parts s c.args.out.now _ _ (h.0, h.1 ∙ ap (λ (n : ℕ). fit n 0 s.best) (sym long) ∙ sym c.show_tour.ensures) refl
+    let h = show_done s o.typed o.passes o.opened c.args.out.now c.if-self-ne0.false c.in-Some.ensures.0 long in
+    parts s c.args.out.now _ _ (
+      h.0,
+      h.1 ∙ ap (λ (n : ℕ). fit n 0 s.best) (sym long) ∙ sym (c.copy_from_slice.ensures.after ∙ ap (λ (l : List ℕ). take (length c.args.out.now) l) c.in-Some.ensures.1
+          ∙ take-fit (length c.args.out.now) 0 s.best (omega (arith, long, o.typed.best, (graph-valid s o.typed o.passes o.opened).few))),
+    ) refl

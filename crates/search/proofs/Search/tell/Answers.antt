@@ -1,6 +1,5 @@
 -- The cases of `reply` at tell, one for each return; the record is left as it is in each.
 use Rattle.std.proofs.Common.{rules, ◌≡◌, refl, sym, ap, ◌∙◌, Err}
-use borrow.Author.Tests.{eq-eqb, ne_eqb}
 use Rattle.integers.specs.Words.{back64}
 use Rattle.machine.specs.Calls.{tell}
 use Rattle.search.specs.Replies.{Outcome, reply}
@@ -26,14 +25,14 @@ returns-then-self-ne0 c =
     let o : IsOpen s = c.in_ok-opened.ensures.passed in
     parts s _ (tell_going s o.typed o.passes o.opened c.if-self-ne0.true) refl
 
-pub returns-then-self-ne1 : goal.returns-then-self-ne1
-returns-then-self-ne1 c =
+pub returns-in_default : goal.returns-in_default
+returns-in_default c =
     let s = c.args.self.now in
     let o : IsOpen s = c.in_ok-opened.ensures.passed in
-    parts s _ (tell_none s o.typed o.passes o.opened c.if-self-ne0.false (ne_eqb _ 1 c.if-self-ne1.true)) refl
+    parts s _ (tell_none s o.typed o.passes o.opened c.if-self-ne0.false (rw c.in_default.is at c.incumbent.ensures)) refl
 
-pub tour_cost-cost-requires : goal.tour_cost-cost-requires
-tour_cost-cost-requires c =
+pub tour_cost-requires : goal.tour_cost-requires
+tour_cost-requires c =
     let s = c.args.self.now in
     let o : IsOpen s = c.in_ok-opened.ensures.passed in
     graph-valid s o.typed o.passes o.opened
@@ -42,5 +41,5 @@ pub returns : goal.returns
 returns c =
     let s = c.args.self.now in
     let o : IsOpen s = c.in_ok-opened.ensures.passed in
-    rw (back64 c.tour_cost-cost.result c.tour_cost-cost.type_inv ∙ c.tour_cost-cost.ensures.0)
-    (parts s _ (tell_best s o.typed o.passes o.opened c.if-self-ne0.false (eq-eqb _ 1 c.if-self-ne1.false)) refl)
+    rw (back64 c.tour_cost.result c.tour_cost.type_inv ∙ c.tour_cost.ensures.0, c.in-Some.ensures.1)
+    (parts s _ (tell_best s o.typed o.passes o.opened c.if-self-ne0.false c.in-Some.ensures.0) refl)

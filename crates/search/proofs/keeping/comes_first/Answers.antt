@@ -1,42 +1,48 @@
--- By the highest-numbered edge that is left: it decides where the two differ there.
-use Rattle.std.proofs.Common.{◌≡◌, refl, ℕ, ◌+◌, ◌-◌, ◌<◌, List, get_or, eqb, Bool, true, false, not, sym, ap, ◌∙◌, arith}
-use Rattle.std.proofs.Math.Bool.{beq}
+-- By the highest-numbered edge in which the two differ, if there is one.
+use Rattle.std.proofs.Common.{◌≡◌, refl, ℕ, zero, suc, ◌<◌, List, get_or, eqb, Bool, true, false, sym, ap, ◌∙◌, arith}
+use Rattle.std.proofs.Math.Decide.{ℕ_discrete}
 use Rattle.tree_theory.specs.OneTree.{lacks_first, unless}
 use Rattle.tree_theory.specs.Arrays.{bytes}
 use Rattle.search.specs.Runs.Keeping.{first_none, first_more}
 use Rattle.search.proofs.keeping.comes_first.Goals as goal
 
-decides : (x y r : Bool) → not (beq x y) ≡ true → unless x y r ≡ y
-decides true true r e = cc
-decides false false r e = cc
-decides true false r e = refl
-decides false true r e = refl
+module _ (f b : List ℕ) where
+  abbrev one : List ℕ → ℕ → Bool
+  one l j = eqb (get_or l j 0) 1
 
-passes : (x y r : Bool) → not (beq x y) ≡ false → unless x y r ≡ r
-passes true true r e = refl
-passes false false r e = refl
-passes true false r e = cc
-passes false true r e = cc
+  abbrev Same : ℕ → Type 0
+  Same j = one f j ≡ one b j
 
-below : (k : ℕ) (f b : List ℕ) → 0 < k
-    → lacks_first k (bytes f) (bytes b) ≡ unless (eqb (get_or f (k - 1) 0) 1) (eqb (get_or b (k - 1) 0) 1) (lacks_first (k - 1) (bytes f) (bytes b))
-below k f b h = let e : k ≡ k - 1 + 1 = omega arith in ap (λ (j : ℕ). lacks_first j (bytes f) (bytes b)) e ∙ first_more (k - 1) f b
+  decides : (x y r : Bool) → ¬ (x ≡ y) → unless x y r ≡ y
+  decides true true r e = absurd (e refl)
+  decides false false r e = absurd (e refl)
+  decides true false r e = refl
+  decides false true r e = refl
 
-pub returns-then-f-k : goal.returns-then-f-k
-returns-then-f-k c =
-    let f = c.args.f.now in
-    let b = c.args.b.now in
-    sym (decides _ _ _ c.if-f-k.true) ∙ sym (below c.loop-k.k f b (omega arith)) ∙ c.loop-k.invariant
+  passes : (x y r : Bool) → x ≡ y → unless x y r ≡ r
+  passes true true r e = refl
+  passes false false r e = refl
+  passes true false r e = cc
+  passes false true r e = cc
 
-pub loop-k-preserved : goal.loop-k-preserved
-loop-k-preserved c =
-    let f = c.args.f.now in
-    let b = c.args.b.now in
-    sym (passes _ _ _ c.if-f-k.false) ∙ sym (below c.loop-k.k f b (omega arith)) ∙ c.loop-k.invariant
+  -- m edges, of which those from edge k + 1 on, if it is given, do not differ
+  none : (m : ℕ) → ((j : ℕ) → j < m → Same j) → lacks_first m (bytes f) (bytes b) ≡ false
+  none zero h = first_none (bytes f) (bytes b)
+  none (suc m) h = ap (λ (j : ℕ). lacks_first j (bytes f) (bytes b)) (omega arith) ∙ first_more m f b ∙ passes _ _ _ (h m (omega arith)) ∙ none m (λ j l. h j (omega arith))
 
-pub returns : goal.returns
-returns c =
-    let f = c.args.f.now in
-    let b = c.args.b.now in
-    let e : 0 ≡ c.loop-k.k = omega arith in
-    sym (first_none (bytes f) (bytes b)) ∙ ap (λ (j : ℕ). lacks_first j (bytes f) (bytes b)) e ∙ c.loop-k.invariant
+  some : (m k : ℕ) → k < m → ¬ Same k → ((j : ℕ) → k < j → j < m → Same j) → lacks_first m (bytes f) (bytes b) ≡ one b k
+  some zero k l d h = absurd (omega arith)
+  some (suc m) k l d h = ap (λ (j : ℕ). lacks_first j (bytes f) (bytes b)) (omega arith) ∙ first_more m f b
+      ∙ go (λ n. some m k (omega (arith, n, l)) d (λ j a c. h j a (omega arith))) (ℕ_discrete k m)
+    where
+      go : (¬ (k ≡ m) → lacks_first m (bytes f) (bytes b) ≡ one b k) → Dec (k ≡ m) → unless (one f m) (one b m) (lacks_first m (bytes f) (bytes b)) ≡ one b k
+      go rest (yes e) = decides _ _ _ (λ s. d (ap (one f) e ∙ s ∙ ap (one b) (sym e))) ∙ ap (one b) (sym e)
+      go rest (no n) = passes _ _ _ (h m (omega (arith, n, l)) (omega arith)) ∙ rest n
+
+pub returns-in-Some : goal.returns-in-Some
+returns-in-Some c =
+    let d = c.in-Some.ensures in
+    sym (some c.args.f.now c.args.b.now c.args.m c.in-Some.k d.0 d.1 d.2)
+
+pub returns-in-None : goal.returns-in-None
+returns-in-None c = sym (none c.args.f.now c.args.b.now c.args.m c.in-None.ensures)

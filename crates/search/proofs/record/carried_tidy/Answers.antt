@@ -1,30 +1,35 @@
 -- The nodes in use, then all that is past them.
-use Rattle.std.proofs.Common.{pos, below_more, arith}
-use Rattle.lists.specs.Bools.{says_yes, says_no}
+use Rattle.std.proofs.Common.{ℕ, ◌<◌, List, ℤ, pos, refl, arith, rules, tests}
+use Rattle.std.proofs.lemmas.Iterator.{YieldsList-from_range, cases_from_all}
+use Rattle.lists.specs.Bools.{Says, says_yes}
+use Rattle.search.specs.Canonical.{Zeros}
 use Rattle.search.specs.Record.{multipliers_at}
 use Rattle.search.specs.CheckParts.{carried_nodes, carried_past, carried_whole}
-use Rattle.search.specs.CheckLoops.{says_both}
+use Rattle.search.specs.CheckLoops.{says_both, says_fails, says_below}
 use Rattle.search.proofs.record.carried_tidy.Goals as goal
 
-pub get-d-requires : goal.get-d-requires
-get-d-requires c = (omega arith, omega (arith, c.min-used.ensures))
+-- what node p carries is zero past n
+abbrev Tidied : ℕ → List ℤ → ℕ → Type 0
+Tidied n e p = Zeros (pos 0) 20 n (multipliers_at 20 e p)
 
-pub returns-then-not-zero_from : goal.returns-then-not-zero_from
-unfolding multipliers_at
-returns-then-not-zero_from c = λ t.
-    says_no c.zero_from.result c.zero_from.ensures c.if-not-zero_from.true
-    (rw (c.get-d.ensures (pos 0)) (carried_nodes _ _ _ c.args.carried.now c.min-used.ensures t c.loop-p.p (omega arith)))
-
-pub loop-p-preserved : goal.loop-p-preserved
-unfolding multipliers_at
-loop-p-preserved c =
-    let h = says_yes c.zero_from.result c.zero_from.ensures c.if-not-zero_from.false in
-    let e = c.get-d.ensures (pos 0) in
-    below_more _ _ c.loop-p.invariant (rw e at h)
-
-pub returns : goal.returns
-returns c =
+pub returns-then-all : goal.returns-then-all
+returns-then-all c =
+    let a = c.args in
     let u = c.min-used.ensures in
-    says_both c.zero_from-2.result
-    (λ z. carried_whole _ _ _ c.args.carried.now u z (λ k h. c.loop-p.invariant k (omega arith)))
-    (carried_past _ _ _ c.args.carried.now u) c.zero_from-2.ensures
+    let nodes : Says c.all.result ((p : ℕ) → p < c.min-used.result → Tidied a.n a.carried.now p) =
+    says_below _ (Tidied a.n a.carried.now) _
+    (cases_from_all _ _ _ (Tidied a.n a.carried.now) (λ p. Tidied a.n a.carried.now p → ⊥) c.all.ensures.ran
+    (YieldsList-from_range 0 c.min-used.result c.min-used.result refl (omega arith)) (λ p q k. search (rules, tests)) (λ p q k. search (rules, tests))) in
+    says_both c.zero_from.result
+    (λ z. carried_whole _ _ _ a.carried.now u z (says_yes c.all.result nodes c.if-all.true))
+    (carried_past _ _ _ a.carried.now u) c.zero_from.ensures
+
+pub returns-else-all : goal.returns-else-all
+returns-else-all c =
+    let a = c.args in
+    let u = c.min-used.ensures in
+    let nodes : Says c.all.result ((p : ℕ) → p < c.min-used.result → Tidied a.n a.carried.now p) =
+    says_below _ (Tidied a.n a.carried.now) _
+    (cases_from_all _ _ _ (Tidied a.n a.carried.now) (λ p. Tidied a.n a.carried.now p → ⊥) c.all.ensures.ran
+    (YieldsList-from_range 0 c.min-used.result c.min-used.result refl (omega arith)) (λ p q k. search (rules, tests)) (λ p q k. search (rules, tests))) in
+    says_fails c.all.result nodes c.if-all.false (λ t p l. carried_nodes _ _ _ a.carried.now u t p l)

@@ -1,24 +1,22 @@
--- A word more: it has at most 64 set bits.
-use Rattle.std.proofs.Common.{rules, get_or, sym, ap, ◌∙◌, arith, Fits, w64}
-use Rattle.std.proofs.lemmas.List.{get_or-take}
+-- The sum of the words' set bits, each at most 64.
+use Rattle.std.proofs.Common.{refl, ◌∙◌, take, length, get_or, ◌<◌, ◌^◌, ℕ, ◌≡◌, rules, tests, arith, Fits, w64}
 use Rattle.std.specs.Int.Count.{ones}
-use lib.Count.{ones-le}
-use Rattle.search.specs.CheckRows.{ones_to, ones_none, ones_more, ones_row}
+use Rattle.std.proofs.lemmas.Iterator.{YieldsList-from_slice, YieldsList-from_map}
+use Rattle.std.proofs.lemmas.Iterator.Consumers.{sum_from_yields_List, fits_from_yields_list}
+use Rattle.search.specs.CheckRows.{ones_summed, ones_few}
 use Rattle.search.proofs.record.required_edges.Goals as goal
 
-pub loop-x-init : goal.loop-x-init
-loop-x-init c = (sym (ones_none c.args.rows.now), omega arith)
-
-pub loop-x-preserved : goal.loop-x-preserved
-loop-x-preserved c = let l = c.loop-x in
+pub sum-requires-clause-fits : goal.sum-requires-clause-fits
+sum-requires-clause-fits c =
     let rows = c.args.rows.now in
-    let f : Fits w64 (get_or rows l.x-index 0) = search rules in
-    let here = ap ones (get_or-take 3 rows l.x-index 0 (omega arith)) in (
-      omega (arith, here, l.invariant.0, ones_more rows l.x-index),
-      omega (arith, here, l.invariant.1, ones-le 64 _ f.fits),
-    )
+    let long : length rows ≡ 6 = search (rules, c.well_formed) in
+    let small : (i : ℕ) → get_or rows i 0 < 2 ^ 64 = λ i. let f : Fits w64 (get_or rows i 0) = search rules in f.fits in
+    fits_from_yields_list _ _ (YieldsList-from_map _ ones (YieldsList-from_slice (take 3 rows) cc) refl (λ x r q k. search (rules, tests)))
+    (ones_few rows (omega (arith, long)) small)
 
 pub returns : goal.returns
-returns c = let l = c.loop-x in
+returns c =
     let rows = c.args.rows.now in
-    l.invariant.0 ∙ ap (ones_to rows) (omega arith) ∙ ones_row rows
+    let long : length rows ≡ 6 = search (rules, c.well_formed) in
+    sum_from_yields_List _ _ c.sum.ensures.ran (YieldsList-from_map _ ones (YieldsList-from_slice (take 3 rows) cc) refl (λ x r q k. search (rules, tests)))
+    ∙ ones_summed rows (omega (arith, long))

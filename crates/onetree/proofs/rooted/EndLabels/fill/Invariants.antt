@@ -1,9 +1,10 @@
 -- The loop fills both arrays.
-use Rattle.std.proofs.Common.{◌≡◌, ℕ, ◌<◌, length, get_or}
+use Rattle.std.proofs.Common.{get_or}
+use Rattle.lists.specs.FilledFrom.{Updated}
 use Rattle.swaps.specs.RootedTree.{label_of}
 use Rattle.onetree.proofs.rooted.EndLabels.fill.Given as goal
 
 abbrev pub invariant-loop-k : goal.invariant-loop-k
 invariant-loop-k l =
-    (length l.self.from ≡ 190) × ((j : ℕ) → j < l.k → get_or l.self.from j 0 ≡ label_of l.labels (get_or l.g.a j 0))
-    × (length l.self.to ≡ 190) × ((j : ℕ) → j < l.k → get_or l.self.to j 0 ≡ label_of l.labels (get_or l.g.b j 0))
+    Updated (λ k. label_of l.tree.lists.now.labels (get_or l.tree.graph.now.a k 0)) l.initial.self.from l.self.from l.k
+    × Updated (λ k. label_of l.tree.lists.now.labels (get_or l.tree.graph.now.b k 0)) l.initial.self.to l.self.to l.k

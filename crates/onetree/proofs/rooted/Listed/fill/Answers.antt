@@ -14,43 +14,43 @@ pub push-requires : goal.push-requires
 push-requires c =
     let s = c.args in
     let p = c.requires in
-    let here : c.loop-k.k < s.g.now.m = omega arith in
-    let i = test_inner s.g.now s.tree.now c.loop-k.k (sym c.swappable.ensures ∙ c.if-swappable.true) in
+    let here : c.loop-k.k < s.tree.now.graph.now.m = omega arith in
+    let i = test_inner s.tree.now.graph.now s.tree.now.lists.now.tree c.loop-k.k (sym c.swappable.ensures ∙ c.if-swappable.true) in
     let e = p.1 c.loop-k.k here i in
-    let room = table_room s.g.now p.0.valid s.tree.now p.0.tree _ _ p.1 _ _ _ here c.loop-k.invariant i c.from.result in
+    let room = table_room s.tree.now.graph.now p.0.valid s.tree.now.lists.now.tree p.0.tree _ _ p.1 _ _ _ here c.loop-k.invariant i c.from.result in
     (omega (arith, e.low, c.from.ensures), omega (arith, e.high, p.0.valid.high, c.from.ensures), omega (arith, room))
 
 pub push-requires-then-swappable : goal.push-requires-then-swappable
 push-requires-then-swappable c =
     let s = c.args in
     let p = c.requires in
-    let here : c.loop-k.k < s.g.now.m = omega arith in
-    let i = test_inner s.g.now s.tree.now c.loop-k.k (sym c.swappable.ensures ∙ c.if-swappable.true) in
+    let here : c.loop-k.k < s.tree.now.graph.now.m = omega arith in
+    let i = test_inner s.tree.now.graph.now s.tree.now.lists.now.tree c.loop-k.k (sym c.swappable.ensures ∙ c.if-swappable.true) in
     let e = p.1 c.loop-k.k here i in
     let to = c.from-then-swappable.ensures in
-    let room = room_b s.g.now p.0.valid s.tree.now p.0.tree _ _ p.1 _ _ _ here c.loop-k.invariant i _ _ (sym c.from.ensures) (sym to) in
+    let room = room_b s.tree.now.graph.now p.0.valid s.tree.now.lists.now.tree p.0.tree _ _ p.1 _ _ _ here c.loop-k.invariant i _ _ (sym c.from.ensures) (sym to) in
     (omega (arith, e.low', to), omega (arith, e.high', p.0.valid.high, to), rw c.push.ensures.1 room)
 
 pub loop-k-preserved : goal.loop-k-preserved
 loop-k-preserved c =
     let s = c.args in
     let p = c.requires in
-    let here : c.loop-k.k < s.g.now.m = omega arith in
+    let here : c.loop-k.k < s.tree.now.graph.now.m = omega arith in
     let said = c.swappable.ensures in
     elim c.if-swappable.branch [
       | then-swappable w ↦
-          let i = test_inner s.g.now s.tree.now c.loop-k.k (sym said ∙ w.if-swappable.true) in
-          let more = table_more s.g.now p.0.valid s.tree.now p.0.tree _ _ p.1 _ _ _ here c.loop-k.invariant i _ _ (sym w.from.ensures)
+          let i = test_inner s.tree.now.graph.now s.tree.now.lists.now.tree c.loop-k.k (sym said ∙ w.if-swappable.true) in
+          let more = table_more s.tree.now.graph.now p.0.valid s.tree.now.lists.now.tree p.0.tree _ _ p.1 _ _ _ here c.loop-k.invariant i _ _ (sym w.from.ensures)
           (sym w.from-then-swappable.ensures) in
           rw (w.self-is, w.push-then-swappable.ensures.0, w.push-then-swappable.ensures.1, w.push.ensures.0, w.push.ensures.1, add-one c.loop-k.k)
           (rw (add-one c.loop-k.k) at more)
-      | else-swappable w ↦ rw w.self-is (table_skip s.g.now p.0.valid s.tree.now p.0.tree _ _ p.1 _ _ _ here c.loop-k.invariant
-          (λ i. true≢false (sym (inner_test s.g.now s.tree.now c.loop-k.k i) ∙ sym said ∙ w.if-swappable.false)))
+      | else-swappable w ↦ rw w.self-is (table_skip s.tree.now.graph.now p.0.valid s.tree.now.lists.now.tree p.0.tree _ _ p.1 _ _ _ here c.loop-k.invariant
+          (λ i. true≢false (sym (inner_test s.tree.now.graph.now s.tree.now.lists.now.tree c.loop-k.k i) ∙ sym said ∙ w.if-swappable.false)))
     ]
 
 pub returns : goal.returns
 returns c =
     let s = c.args in
     let p = c.requires in
-    let e : c.loop-k.k ≡ s.g.now.m = omega arith in
-    table_lists s.g.now p.0.valid s.tree.now p.0.tree _ _ p.1 _ c.loop-k.self.count (rw e at c.loop-k.invariant)
+    let e : c.loop-k.k ≡ s.tree.now.graph.now.m = omega arith in
+    table_lists s.tree.now.graph.now p.0.valid s.tree.now.lists.now.tree p.0.tree _ _ p.1 _ c.loop-k.self.count (rw e at c.loop-k.invariant)

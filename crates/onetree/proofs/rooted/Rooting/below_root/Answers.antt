@@ -3,6 +3,7 @@ use Rattle.std.proofs.Common.{◌≡◌, ◌∙◌, ◌+◌, ◌-◌, ◌<◌, �
 use Rattle.std.proofs.lemmas.List.{get_or-take, length-take-le, length-drop}
 use Rattle.std.proofs.lemmas.Grind.{get_or_after_one}
 use Rattle.onetree.specs.Candidates.{AfterRoot}
+use Rattle.onetree.specs.HungTree.{queue_of, count_of}
 use Rattle.onetree.proofs.rooted.Rooting.below_root.Goals as goal
 
 after_root : (queue : List ℕ) (count : ℕ) → 1 ≤ count → count ≤ length queue → AfterRoot queue count (take (count - 1) (drop 1 queue))
@@ -17,6 +18,4 @@ after_root queue count low high = record { long = rw long (omega arith); same = 
         get_or-take (count - 1) (drop 1 queue) i 0 h ∙ get_or_after_one queue i 0 ∙ ap (λ (k : ℕ). get_or queue k 0) next
 
 pub returns : goal.returns
-returns c =
-    let long : length c.args.self.now.queue ≡ 21 = omega arith in
-    after_root c.args.self.now.queue c.args.self.now.count c.requires.0 (omega (arith, c.requires.1))
+returns c = rw c.as_slice.ensures.value (after_root (queue_of c.args.self.now) (count_of c.args.self.now) c.requires (omega arith))

@@ -9,20 +9,20 @@ fill-requires c = let p = c.requires in (p.0, ends_in _ _ _ _ _ p.0 p.1 p.2, c.b
 pub walk-requires : goal.walk-requires
 walk-requires c =
     let p = c.requires in
-    ((c.args.g.now.n, omega (arith, p.0.valid.low), p.0.valid.high, rows_in _ _ _ _ _ p.0 p.1 p.2 _ c.fill.ensures), p.3)
+    ((c.args.tree.now.graph.now.n, omega (arith, p.0.valid.low), p.0.valid.high, rows_in _ _ _ _ _ p.0 p.1 p.2 _ c.fill.ensures), p.3)
 
 pub weigh-requires : goal.weigh-requires
 weigh-requires c =
     let p = c.requires in
     let h = c.walk.ensures in
-    let low : 2 ≤ c.args.g.now.n = omega (arith, p.0.valid.low) in
-    let t = hung_tree _ _ _ _ _ p.0 p.1 p.2 _ c.fill.ensures _ _ _ (h.0 c.args.g.now.n low (rows_in _ _ _ _ _ p.0 p.1 p.2 _ c.fill.ensures)) h.1 h.2 in
-    (t.some, t.few, t.each)
+    let low : 2 ≤ c.args.tree.now.graph.now.n = omega (arith, p.0.valid.low) in
+    let t = hung_tree _ _ _ _ _ p.0 p.1 p.2 _ c.fill.ensures _ _ _ (h.0 c.args.tree.now.graph.now.n low (rows_in _ _ _ _ _ p.0 p.1 p.2 _ c.fill.ensures)) h.1 h.2 in
+    (t.some, t.each)
 
 pub returns : goal.returns
 returns c =
     let p = c.requires in
     let h = c.walk.ensures in
-    let low : 2 ≤ c.args.g.now.n = omega (arith, p.0.valid.low) in
-    let t = hung_tree _ _ _ _ _ p.0 p.1 p.2 _ c.fill.ensures _ _ _ (h.0 c.args.g.now.n low (rows_in _ _ _ _ _ p.0 p.1 p.2 _ c.fill.ensures)) h.1 h.2 in
+    let low : 2 ≤ c.args.tree.now.graph.now.n = omega (arith, p.0.valid.low) in
+    let t = hung_tree _ _ _ _ _ p.0 p.1 p.2 _ c.fill.ensures _ _ _ (h.0 c.args.tree.now.graph.now.n low (rows_in _ _ _ _ _ p.0 p.1 p.2 _ c.fill.ensures)) h.1 h.2 in
     rw c.weigh.ensures.1 (t, λ v b. c.weigh.ensures.0 v (t.queued v b))

@@ -12,24 +12,24 @@ before_last row i stop f l = go (ℕ_discrete i 19)
     go (yes e) = absurd (f (ap (λ (z : ℕ). get_or row z 0) e ∙ stop))
     go (no e) = omega arith
 
-pub bounds-self-self : goal.bounds-self-self
-bounds-self-self c =
+pub push-requires : goal.push-requires
+push-requires c =
     let s = c.args in
-    let other : (c.from.result + c.from-in-loop-i.result) - s.x ≡ opposite s.ends.now.from s.ends.now.to s.x (get_or (row_of s.listed.now.rows s.x) c.loop-i.i 0 - 1) =
-    rw (c.from.ensures, c.from-in-loop-i.ensures, c.from-k.ensures) refl in
-    visited_room _ _ _ _ _ _ _ c.requires _ _ _ c.loop-i.i c.loop-i.invariant.1 c.if-e-eq0.false _ other c.if-self-y-eq0.true
+    let other : (c.from.result + c.from-in-loop-e.result) - s.x ≡ opposite s.ends.now.from s.ends.now.to s.x (get_or (row_of s.listed.now.rows s.x) c.loop-e.e-index 0 - 1) =
+    rw (c.from.ensures, c.from-in-loop-e.ensures, c.from-k.ensures) refl in
+    (omega arith, visited_room _ _ _ _ _ _ _ c.requires _ _ _ c.loop-e.e-index c.loop-e.invariant.1 c.if-e-eq0.false _ other c.if-self-y-eq0.true)
 
-pub loop-i-preserved : goal.loop-i-preserved
-loop-i-preserved c =
+pub loop-e-preserved : goal.loop-e-preserved
+loop-e-preserved c =
     let s = c.args in
-    let i = c.loop-i.invariant in
-    let other : (c.from.result + c.from-in-loop-i.result) - s.x ≡ opposite s.ends.now.from s.ends.now.to s.x (get_or (row_of s.listed.now.rows s.x) c.loop-i.i 0 - 1) =
-    rw (c.from.ensures, c.from-in-loop-i.ensures, c.from-k.ensures) refl in
-    let inside = before_last _ c.loop-i.i c.requires.stops c.if-e-eq0.false i.0 in (
+    let i = c.loop-e.invariant in
+    let other : (c.from.result + c.from-in-loop-e.result) - s.x ≡ opposite s.ends.now.from s.ends.now.to s.x (get_or (row_of s.listed.now.rows s.x) c.loop-e.e-index 0 - 1) =
+    rw (c.from.ensures, c.from-in-loop-e.ensures, c.from-k.ensures) refl in
+    let inside = before_last _ c.loop-e.e-index c.requires.stops c.if-e-eq0.false i.0 in (
       inside,
       elim c.if-self-y-eq0.branch [
-        | then-self-y-eq0 w ↦ rw w.self-is (visited_hang _ _ _ _ _ _ _ c.requires _ _ _ c.loop-i.i i.1 c.if-e-eq0.false _ other w.if-self-y-eq0.true
+        | then-self-y-eq0 w ↦ rw (w.self-is, w.push.ensures.len, w.push.ensures.items) (visited_hang _ _ _ _ _ _ _ c.requires _ _ _ c.loop-e.e-index i.1 c.if-e-eq0.false _ other w.if-self-y-eq0.true
             (c.from-k.result - 1) (rw c.from-k.ensures refl))
-        | else-self-y-eq0 w ↦ rw w.self-is (visited_on _ _ _ _ _ _ _ c.requires _ _ _ c.loop-i.i i.1 (rw (← other) (omega (arith, w.if-self-y-eq0.false))))
+        | else-self-y-eq0 w ↦ rw w.self-is (visited_on _ _ _ _ _ _ _ c.requires _ _ _ c.loop-e.e-index i.1 (rw (← other) (omega (arith, w.if-self-y-eq0.false))))
       ],
     )

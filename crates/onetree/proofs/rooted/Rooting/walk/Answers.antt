@@ -1,12 +1,13 @@
 -- A visit more.
-use Rattle.std.proofs.Common.{◌≤◌, refl, get_or, arith}
+use Rattle.std.proofs.Common.{◌∙◌, ℕ, List, ap, ◌≤◌, refl, get_or, arith}
 use Rattle.swaps.specs.Grid.{cell}
-use Rattle.swaps.specs.Visiting.{rooting, Among, leads_more, Hung, hung_root, lined_root, closed_more}
+use Rattle.swaps.specs.Visiting.{Among, leads_more, Hung, hung_root, lined_root, closed_more}
+use Rattle.onetree.specs.HungTree.{rooting_of, queue_of, count_of}
 use Rattle.onetree.proofs.rooted.Rooting.walk.Goals as goal
 
 pub loop-i-init : goal.loop-i-init
 loop-i-init c = let u = c.requires.1 in
-    rw (u.parent, u.depth, u.edge, u.queue) (omega arith, lined_root, λ n l d. hung_root _ _ _ n l, λ p j h. absurd (omega arith))
+    rw (u.parent, u.depth, u.edge, c.push.ensures.items, u.queue) (omega arith, lined_root, λ n l d. hung_root _ _ _ n l, λ p j h. absurd (omega arith))
 
 pub visit-requires : goal.visit-requires
 unfolding cell
@@ -14,8 +15,8 @@ visit-requires c =
     let p = c.requires.0 in
     let t = c.loop-i in
     let x = c.from-x.result in
-    let hung : Hung c.args.ends.now.from c.args.ends.now.to c.args.listed.now.rows p.0 (rooting t.self.parent t.self.depth t.self.edge) = t.invariant.2 p.0 p.1 p.3 in
-    let hangs : 1 ≤ get_or t.self.depth x 0 = rw c.from-x.ensures (t.invariant.1.hangs t.i c.loop-i-test.true) in
+    let hung : Hung c.args.ends.now.from c.args.ends.now.to c.args.listed.now.rows p.0 (rooting_of t.self) = t.invariant.2 p.0 p.1 p.3 in
+    let hangs : 1 ≤ get_or t.self.depth x 0 = rw (c.from-x.ensures, c.as_slice.ensures.value) (t.invariant.1.hangs t.i (rw c.len.ensures.value at c.loop-i-test.true)) in
     let v : Among p.0 x = hung.inside x hangs in
     let low : 1 ≤ x = omega (arith, v.0) in
     record {
@@ -33,13 +34,13 @@ loop-i-preserved c =
     let p = c.requires.0 in
     let t = c.loop-i in
     let x = c.from-x.result in
-    let hung : Hung c.args.ends.now.from c.args.ends.now.to c.args.listed.now.rows p.0 (rooting t.self.parent t.self.depth t.self.edge) = t.invariant.2 p.0 p.1 p.3 in
-    let hangs : 1 ≤ get_or t.self.depth x 0 = rw c.from-x.ensures (t.invariant.1.hangs t.i c.loop-i-test.true) in
+    let hung : Hung c.args.ends.now.from c.args.ends.now.to c.args.listed.now.rows p.0 (rooting_of t.self) = t.invariant.2 p.0 p.1 p.3 in
+    let hangs : 1 ≤ get_or t.self.depth x 0 = rw (c.from-x.ensures, c.as_slice.ensures.value) (t.invariant.1.hangs t.i (rw c.len.ensures.value at c.loop-i-test.true)) in
     let v : Among p.0 x = hung.inside x hangs in
     let w = c.visit.ensures.2 in (
       omega (arith, w.more),
       w.lined,
       λ n l d. w.kept _ n refl (d.leading x (omega (arith, v.0))) (t.invariant.2 n l d),
-      closed_more _ _ _ x (rooting t.self.parent t.self.depth t.self.edge) t.self.queue t.self.count _ _ _ t.i c.loop-i-test.true c.from-x.ensures
+      closed_more _ _ _ x (rooting_of t.self) (queue_of t.self) (count_of t.self) _ _ _ t.i (rw c.len.ensures.value at c.loop-i-test.true) (c.from-x.ensures ∙ ap (λ (l : List ℕ). get_or l t.i 0) c.as_slice.ensures.value)
           t.invariant.3 c.visit.ensures,
     )

@@ -3,4 +3,4 @@ use Rattle.onetree.specs.Candidates.{NearIs}
 use Rattle.onetree.proofs.rulings.Near.of.Given as goal
 
 abbrev pub invariant-loop-k : goal.invariant-loop-k
-invariant-loop-k l = NearIs l.g.a l.g.mark l.lists.tree l.lists.charges l.near.dearest l.near.cheapest l.k
+invariant-loop-k l = NearIs l.tree.graph.now.a l.tree.graph.now.mark l.tree.lists.now.tree l.tree.lists.now.charges l.near.dearest l.near.cheapest l.k

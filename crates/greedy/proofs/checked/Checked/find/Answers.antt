@@ -1,0 +1,88 @@
+-- What the choice comes to (found, missing), and the bound that its charges stand for (bound_is).
+use Rattle.std.proofs.Common.{◌≡◌, sym, subst, List, ℕ, ◌*◌, ◌<◌, ◌≤◌, length, get_or, ℤ, None, Some, arith}
+use Rattle.std.specs.Int.Signed.{mag}
+use Rattle.integers.specs.Differences.{diff_range}
+use Rattle.integers.specs.Words.{back64}
+use Rattle.graph.specs.declared.Graph.{Graph}
+use Rattle.graph.specs.Limits.{max_edges}
+use Rattle.graph.specs.Network.{Network, network}
+use Rattle.graph.specs.Valid.{Valid}
+use Rattle.tree_theory.specs.OneTree.{Least, bound}
+use Rattle.tree_theory.specs.Inputs.{multiplier}
+use Rattle.tree_theory.specs.Scaled.{scaled_by}
+use Rattle.tree_theory.specs.Arrays.{bytes}
+use Rattle.tree_theory.specs.Merges.{Merges}
+use Rattle.greedy.specs.declared.Lists.{Lists}
+use Rattle.greedy.specs.declared.Found.{Found}
+use Rattle.greedy.specs.declared.kruskal.Chosen.{Chosen}
+use Rattle.greedy.specs.Charged.{max_charge, Charged}
+use Rattle.greedy.specs.Charging.{BoundOf, ChargesOf, charged_of, bound_is}
+use Rattle.greedy.specs.Hint.{Hinted}
+use Rattle.greedy.specs.Hinting.{keyed_hinted}
+use Rattle.greedy.specs.Kruskal.{Whole, found, missing, weighs, bit_at, past_none}
+use Rattle.greedy.specs.Chosen.{ChosenIs, SumOf}
+use Rattle.greedy.specs.Least.{Weighed, TreeFound}
+use Rattle.greedy.proofs.checked.Checked.find.Goals as goal
+
+module _ (q : ℕ) (g : Graph) (d : List ℤ) (after : Lists) (r : Chosen) (k : ChosenIs g after.charges after.tree after.labels r)
+    (v : Valid g) (weighed : Weighed q g d after) (live : ℕ) (hinted : Hinted g.mark g.m after.order live) where
+  abbrev H : Network
+  H = scaled_by q (network g)
+
+  charged : Charged q g d k.made.charges
+  charged = subst (λ (c : List ℕ). Charged q g d c) (sym k.charges_are) weighed.charged
+
+  tree_found : (f : Found) → f.live ≡ live → (sum : ℕ) → Whole g k.made × (k.made.sum ≡ sum) × (sum ≤ max_charge * max_edges) → BoundOf g.n d sum f.bound
+      → mag f.bound < 9223372036854775808 → TreeFound q g d f after
+  tree_found f live_is sum s low fits =
+      let l = found g k.made q d charged s.0 in
+      let b = bound_is q g v d k.made.charges k.made.tree f.bound k.made.sum low.0 charged l.tree (weighs g k.made) low.1 (rw s.1 low.2) in
+      let range = diff_range f.bound _ _ low.2 in
+      record {
+        weighed = weighed;
+        least = subst (λ (w : List ℕ). Least H (multiplier d) (bytes w)) k.tree_is l;
+        bound_is = subst (λ (w : List ℕ). f.bound ≡ bound H (multiplier d) (bytes w)) k.tree_is b;
+        fits = fits;
+        high = omega (arith, range.0, s.2);
+        low = omega (arith, range.1, low.1.1, v.high);
+        bits = λ i. rw k.tree_is at (bit_at g k.made i);
+        past = λ i h. rw k.tree_is at (past_none g k.made i h);
+        long = k.long;
+        hinted = rw live_is hinted;
+      }
+
+weighed_of : (q : ℕ) (g : Graph) (d : List ℤ) (after : Lists) → ChargesOf q g d after.charges g.m
+    → ((k : ℕ) → g.m ≤ k → get_or after.charges k 0 ≡ 0) → length after.charges ≡ 190 → Merges g after.labels → Weighed q g d after
+weighed_of q g d after each rest long merges = record { charged = charged_of q g d after.charges each; rest = rest; long = long; merges = merges }
+
+pub returns-in_default : goal.returns-in_default
+returns-in_default c =
+    let q = c.args.q in
+    let g = c.args.self.now.graph.now in
+    let chosen = c.choose-chosen in
+    let made = c.charge.ensures in
+    let weighed = weighed_of q g c.args.self.now.multipliers.now _ made.0 made.1 made.2 chosen.ensures.merges in
+    let none : SumOf g chosen.ensures.made None = rw c.in_default.is at chosen.ensures.sum in
+    ((weighed, missing g chosen.ensures.made q none), chosen.ensures.looked q _ weighed.charged)
+
+pub returns : goal.returns
+returns c =
+    let q = c.args.q in
+    let me = c.args.self.now in
+    let g = me.graph.now in
+    let d = me.multipliers.now in
+    let keys = c.order.new.keys.items in
+    let chosen = c.choose-chosen in
+    let low = c.bound in
+    let after : Lists = record { tree = chosen.new.tree; charges = c.charge.new.charges; order = c.places.new.order; labels = chosen.new.labels } in
+    let made = c.charge.ensures in
+    let weighed : Weighed q g d after = weighed_of q g d after made.0 made.1 made.2 chosen.ensures.merges in
+    let hinted : Hinted g.mark g.m after.order (length keys) =
+    keyed_hinted g after.charges keys (length keys) after.order me.valid.few c.order.ensures.0
+    (rw c.as_slice.ensures.value at c.places.ensures.0) c.places.ensures.1 in
+    let whole : SumOf g chosen.ensures.made (Some c.in-Some.sum) = rw c.in-Some.is at chosen.ensures.sum in
+    rw (back64 low.result low.type_inv) (
+      tree_found q g d after chosen.result chosen.ensures me.valid weighed (length keys) hinted (record { bound = low.result; live = c.len.result }) c.len.ensures.value
+          c.in-Some.sum whole low.ensures low.type_inv,
+      chosen.ensures.looked q d weighed.charged,
+    )

@@ -1,7 +1,0 @@
--- The loop keeps: none below word w is free.
-use Rattle.node.specs.Walking.{cut}
-use Rattle.node.specs.Words.{NoneBelow}
-use Rattle.node.proofs.rows.first_free.Given as goal
-
-abbrev pub invariant-loop-w : goal.invariant-loop-w
-invariant-loop-w l = NoneBelow l.m l.rows (cut l.m l.w 0)

@@ -1,0 +1,26 @@
+-- One label more has its edge judged.
+use Rattle.std.proofs.Common.{◌+◌, ◌∙◌, sym, arith}
+use Rattle.std.proofs.lemmas.List.{map-set, length-map}
+use Rattle.onetree.specs.Answers.{byte_of, ruling_bytes}
+use Rattle.onetree.specs.HungTree.{queue_of, count_of}
+use Rattle.onetree.specs.Forcing.{forcing_more}
+use Rattle.onetree.proofs.rulings.Judging.inside.Goals as goal
+
+pub bounds-self-v : goal.bounds-self-v
+bounds-self-v c =
+    let rest = c.below_root-v-items.ensures in
+    c.requires.0.below.each.small _ (c.loop-v.v-index + 1, omega arith, omega (arith, rest.long), sym (c.from-v.ensures ∙ rest.same c.loop-v.v-index c.loop-v-test.true))
+
+pub bounds-cheapest-v : goal.bounds-cheapest-v
+bounds-cheapest-v c =
+    let rest = c.below_root-v-items.ensures in
+    c.requires.0.below.each.small _ (c.loop-v.v-index + 1, omega arith, omega (arith, rest.long), sym (c.from-v.ensures ∙ rest.same c.loop-v.v-index c.loop-v-test.true))
+
+pub loop-v-preserved : goal.loop-v-preserved
+loop-v-preserved c =
+    let a = c.args in
+    let rest = c.below_root-v-items.ensures in
+    rw (map-set byte_of c.loop-v.res c.from-k.result _)
+    (forcing_more (queue_of a.self.now.hung.now) a.self.now.tree.lists.now.charges a.self.now.hung.now.edge a.cheapest.now a.self.now.slack (ruling_bytes a.res.now) (ruling_bytes c.loop-v.res) (c.loop-v.v-index + 1) (count_of a.self.now.hung.now) _ _ _
+    (omega arith) (omega (arith, rest.long)) (c.from-v.ensures ∙ rest.same c.loop-v.v-index c.loop-v-test.true) c.requires.0.below.each c.loop-v.invariant
+    (length-map a.res.now byte_of ∙ c.requires.1) c.from-k.ensures c.force.ensures)

@@ -1,0 +1,2 @@
+-- laws that no proof cites today
+mod Further

@@ -16,6 +16,7 @@ ghost use Rattle.charts.specs.Chart.{
 use crate::{HEADER_SIZE, RECORD_SIZE};
 use graph::{Graph, Refusal};
 
+// The record after record k, as the file numbers them: 0, the file's own number, where there is none.
 #[tactic(auto, unfolding(crate::specs::Chart::after))]
 fn after(k: u8, m: u8) -> u8
     ensures { result ≡ after k m }

@@ -7,7 +7,6 @@ use Rattle.lists.specs.All.{every_of}
 use Rattle.graph.specs.Network.{network}
 use Rattle.machine.specs.Outcomes.{Incumbent, no_tour, a_tour}
 use Rattle.machine.specs.Machine.{State, no_search, searching, finished}
-use Rattle.machine.specs.Calls as calls
 use Rattle.machine.specs.Calls.{tell, Answer, refused, accepted, runs, going_on, none, best, tells, verdict_of, verdict, step}
 use Rattle.dispatch_theory.specs.Dispatcher.{following, first_after}
 use Rattle.dispatch_theory.specs.Records.{check_all}
@@ -17,6 +16,7 @@ use Rattle.search.specs.Inverse.{Typed}
 use Rattle.search.specs.Replies as search
 use Rattle.search.specs.declared.Search.{Search}
 use Rattle.dispatcher.specs.Searches.{held, made, codec}
+use Rattle.dispatcher.specs.Cases.{answer_is}
 use Rattle.dispatcher.specs.Replies.{form}
 use Rattle.dispatcher.specs.declared.Dispatcher.{Dispatcher}
 
@@ -48,10 +48,6 @@ told_is (searching p) = go (finished p) p.incumbent
     go true no_tour = refl
     go true (a_tour r) = refl
     go false i = refl
-
-answer_is : (s : Search) (c : calls.Call) → check s ≡ true → (search.reply s c).answer ≡ (step (decode s) c).answer
-unfolding search.reply
-answer_is s c e = rw e
 
 seen_passes : (s : Search) → check s ≡ true → seen_in s ≡ seen_of (decode s)
 unfolding seen_in

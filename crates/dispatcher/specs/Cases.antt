@@ -51,7 +51,7 @@ use Rattle.dispatcher.specs.declared.Dispatcher.{Dispatcher}
 -- ---- one place, by what its record is seen to hold
 
 -- the search's call, where its record passes its check, and where it does not
-answer_is : (s : Search) (c : calls.Call) → check s ≡ true → (search.reply s c).answer ≡ (step (decode s) c).answer
+pub answer_is : (s : Search) (c : calls.Call) → check s ≡ true → (search.reply s c).answer ≡ (step (decode s) c).answer
 unfolding search.reply
 answer_is s c e = rw e
 

@@ -5,13 +5,13 @@ use Rattle.std.proofs.Common.{ap, ◌∙◌, true≢false}
 use Rattle.lists.specs.Bools.{by_cases}
 use Rattle.graph.specs.declared.refusals.Refusal.{Refusal}
 use Rattle.graph.specs.declared.refusals.Refusal.TheVariants.{Record, NotOpen, NoNodes, Full, Place}
-use Rattle.graph.specs.Refusals.{number, number-injective}
+use Rattle.graph.specs.Refusals.{number}
 use Rattle.machine.specs.Machine.{State}
 use Rattle.machine.specs.Calls as calls
 use Rattle.machine.specs.Calls.{refused, step}
 use Rattle.search.specs.Replies as search
 use Rattle.search.specs.Theorem as search-theorem
-use Rattle.search.specs.Theorem.{means-injective, tell_means-injective}
+use Rattle.search.specs.Theorem.{refusal_is, means-injective, tell_means-injective}
 use Rattle.search.specs.declared.Verdict.{Verdict}
 use Rattle.lent_records.specs.Places.{is_name}
 use Rattle.lent_records.specs.Records as records
@@ -41,9 +41,6 @@ meaning (close_at i) x = means x
 
 same_said : (a b : calls.Answer) → said a ≡ said b → a ≡ b
 same_said a b e = cc
-
-refusal_is : (r q : Refusal) → refused (number r) 0 ≡ refused (number q) 0 → r ≡ q
-refusal_is r q e = number-injective r q cc
 
 pub add_means-injective : (a b : Result ℕ Refusal) → add_means a ≡ add_means b → a ≡ b
 add_means-injective (Err r) (Err q) e = ap (λ x. Err x) (refusal_is r q (same_said _ _ e))

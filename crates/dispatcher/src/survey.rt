@@ -10,7 +10,6 @@ use crate::Dispatcher;
 use graph::Refusal;
 use lent_records::{PLACES, place_of};
 use search::State;
-use std::array;
 
 // Where the first place after `last`, in cyclic order, stands that is seen to hold what is wanted, counted from 0.
 pub(crate) fn first_after(seen: &[State; PLACES], last: usize, wanted: State) -> Option<usize>
@@ -37,7 +36,7 @@ impl Dispatcher {
         ensures laid { Laid self.now }
         ensures seen { result ≡ map state_in self.now.places }
     {
-        array::from_fn(|k| self.places[k].state())
+        self.places.each_ref().map(|x| x.state())
     }
 
     // Every place, if each is such as its own check accepts, and the last served one of them, or 0.

@@ -10,8 +10,8 @@ ghost use Rattle.node.specs.Words.{kept_in};
 use crate::rows::Rows;
 use graph::{Graph, MAX_EDGES};
 
-// The ends and costs of the edges at the places that are listed, as many as `left` has edges, into its blank arrays. By number, here and below: place,
-// ends, cost and mark of the edge that is j-th among those left stand j-th in arrays of one length, and `left.m` counts them all.
+// The ends and costs of the edges at the places that are listed, as many as `left` has edges, into its blank arrays. These are written by number: the
+// library says nothing of what `zip` over `iter_mut` leaves.
 fn gather(place: &[u8; MAX_EDGES], g: &Graph, left: &mut Graph)
     requires few { left.old.m ≤ max_edges }
     requires places { (j : ℕ) → j < left.old.m → get_or place.now j 0 < max_edges }
@@ -20,8 +20,8 @@ fn gather(place: &[u8; MAX_EDGES], g: &Graph, left: &mut Graph)
     requires blank_cost { left.old.cost ≡ replicate max_edges (pos 0) }
     ensures { Gathered left.old.m place.now g.now left.old left.new }
 {
-    for j in 0..usize::from(left.m) {
-        let k = usize::from(place[j]);
+    for (j, &at) in place[..usize::from(left.m)].iter().enumerate() {
+        let k = usize::from(at);
         left.a[j] = g.a[k];
         left.b[j] = g.b[k];
         left.cost[j] = g.cost[k];
@@ -52,7 +52,8 @@ pub(crate) fn expand(place: &[u8; MAX_EDGES], left: &Graph, tour: &mut [u8; MAX_
     ensures { Placed left.now.m place.now left.now.mark (replicate max_edges 0) tour.new }
 {
     *tour = [0; MAX_EDGES];
-    for j in 0..usize::from(left.m) {
-        tour[usize::from(place[j])] = left.mark[j];
+    let f = usize::from(left.m);
+    for (&k, &mark) in place[..f].iter().zip(&left.mark[..f]) {
+        tour[usize::from(k)] = mark;
     }
 }

@@ -1,4 +1,5 @@
-// The opening of a node: document 01's passes, made on the edges that the node does not exclude. One call, `open`.
+// The opening of a node, `open`: document 01's passes, made on the edges that the node does not exclude. Beside it, what a search has before it:
+// the settings' fault, a multiplier for each place, and the words of a graph's own marks.
 #![tactic(auto)]
 
 ghost use Rattle.std.specs.Prelude.{◌≡◌, ◌≤◌, length, replicate};
@@ -80,7 +81,8 @@ impl Workspace {
     }
 }
 
-// What becomes of a node that is opened.
+// What becomes of a node that is opened. No one generic enum with those of a pass and of all passes (passes.rt): the first two cases say something else
+// in each, as the tour is then in the workspace or in the graph's marks, and the third would lose its name.
 #[derive(Clone, Copy, Debug, PartialEq, Eq)]
 pub enum Fate {
     Closes,
@@ -91,7 +93,7 @@ pub enum Fate {
 // The node with the marks in `rows` is opened, on the graph of its edges that are not excluded: they are listed from the words, the loops of a
 // pass go over them alone, and what they come to is packed into words again. The graph's own marks count for nothing, and words that make no
 // marks are read as marks all the same. The ceiling of the settings is the upper bound. `lists` are for the passes to work in: whatever they
-// hold, the answers are the same, so a search makes them once for all its nodes.
+// hold, the answers are the same, and what they hold afterwards is free, so a search makes them once for all its nodes.
 // Ruled out: an edge that the node excludes, and that a node below it does not; multipliers that gain after the last pass; a byte written
 // where the node is refused.
 pub fn open(

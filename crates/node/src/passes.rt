@@ -22,17 +22,17 @@ use graph::{Graph, MAX_EDGES, MAX_VERTICES, Refusal, VERTEX_PLACES};
 use machine::Settings;
 use onetree::{Found, MAX_MULTIPLIER, PassLists, Ruling};
 
-// The degree of each vertex in the edges that are in, vertex v's at place v. By number, here and in the loops below: what an edge or a vertex has
-// stands in several arrays, as C lays a graph out.
+// The degree of each vertex in the edges that are in, vertex v's at place v.
 fn count_degrees(g: &Graph, tree: &[u8; MAX_EDGES]) -> [u8; VERTEX_PLACES]
     requires { Valid g.now }
     ensures { DegreesTo g.now.m g.now tree.now result }
 {
     let mut degrees = [0u8; VERTEX_PLACES];
-    for k in 0..usize::from(g.m) {
-        if tree[k] == 1 {
-            degrees[usize::from(g.a[k])] += 1;
-            degrees[usize::from(g.b[k])] += 1;
+    let m = usize::from(g.m);
+    for ((&a, &b), &w) in g.a[..m].iter().zip(&g.b[..m]).zip(&tree[..m]) {
+        if w == 1 {
+            degrees[usize::from(a)] += 1;
+            degrees[usize::from(b)] += 1;
         }
     }
     degrees
@@ -54,7 +54,7 @@ fn gain(step: u32, degree: u8) -> i32
     (step as i32) * (i32::from(degree) - 2)
 }
 
-// A multiplier with its gain, held to its range.
+// A multiplier with its gain, held to its range. That it is within it is asked, not a type: it lies as a bare i32 in the C interface's array.
 fn gained(x: i32, gain: i32) -> i32
     requires multiplier { InRange max_multiplier x }
     requires gain { InRange max_gain gain }
@@ -64,6 +64,7 @@ fn gained(x: i32, gain: i32) -> i32
 }
 
 // The next multipliers of n vertices: vertex 1 keeps its own. By number, as `apply`.
+#[tactic(auto, using(crate::specs::Gains::gains_none, crate::specs::Gains::gains_to))]
 fn gains(degrees: &[u8; VERTEX_PLACES], n: usize, step: u32, d: &mut [i32; MAX_VERTICES])
     requires some { 1 ≤ n }
     requires few { n ≤ max_vertices }
@@ -90,7 +91,8 @@ fn mark_by(ruling: Ruling) -> u8
 }
 
 // The marks of the edges, once the rulings are applied; zero past them before and after. By number: `iter_mut` with `zip` was tried, and after such
-// a loop nothing is known of the marks.
+// a loop nothing is known of the marks. `padded`, here and in the two functions that call it, is no ghost field of a struct around the graph: each
+// write of a mark would have to show it again, and the tree part takes a graph; `marks_alone` says what a call changes, which no field can.
 fn apply(rulings: &[Ruling; MAX_EDGES], g: &mut Graph)
     requires valid { Valid g.old }
     requires padded { Padded g.old.m g.old.mark }
@@ -123,18 +125,15 @@ fn ask(
 ) -> Result<Option<Found>, Refusal>
     ensures { TreeIs (taken g.now d.now settings) result lists.new.least.tree (ruling_bytes lists.new.rulings) }
 {
-    let answer = onetree::pass(
+    let found = onetree::pass(
         g,
         &d[..usize::from(g.n).min(MAX_VERTICES)],
         settings.ceiling,
         settings.denominator,
         hint,
         lists,
-    );
-    let found = match answer {
-        Err(refusal) => return Err(lastly(refusal, settings)),
-        Ok(found) => found,
-    };
+    )
+    .map_err(|refusal| lastly(refusal, settings))?;
     settings_fault(settings)?;
     Ok(found)
 }
@@ -188,8 +187,8 @@ pub(crate) enum Ending {
 }
 
 // The passes of the node with the graph's marks, on all edges given: 0 to `sweeps`, from the node's multipliers on. Then the graph's marks are
-// the tour that is found, or the marks after the last pass, of which `last` gets the multipliers. The hint is the tree part's order, as an array, and
-// `live`, how much of it counts: both as the tree part hands them on.
+// the tour that is found, or the marks after the last pass, of which `last` gets the multipliers. The hint is the tree part's order, and
+// `live`, how much of it counts: as an `ArrayVec` it takes 165 instructions more a node of 8 vertices and 5 sweeps, in zeroing alone.
 pub(crate) fn open_left(
     g: &mut Graph,
     multipliers: &[i32; MAX_VERTICES],

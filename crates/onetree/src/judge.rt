@@ -30,7 +30,8 @@ fn slack_of(ceiling: i64, bound: i64) -> u64
 }
 
 // The fault of the ceiling or the denominator; or else one tree, and from it everything: a ruling for each edge and 'keep' past them, 'keep' at every
-// place where no 1-tree is within the ceiling.
+// place where no 1-tree is within the ceiling. The numbers come one by one, as `rule` and `pass` have them: a struct would be made in these two and taken
+// apart here alone.
 pub(crate) fn judge(
     checked: &Checked,
     ceiling: i64,

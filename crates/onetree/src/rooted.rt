@@ -100,7 +100,7 @@ impl Listed {
     }
 
     // Each edge of the tree that may give way to another, at both its ends.
-    // By place: five arrays are read at each, and as many zips would be no plainer.
+    // By place: five arrays are read at each. As zips they are five ranges `[..m]` and the pattern `((((&a, &mark), &member), &from), &to)`.
     fn fill(&mut self, tree: &LeastTree, ends: &EndLabels)
         requires { Spans tree.now.graph.now tree.now.lists.now.tree × Ends tree.now.graph.now tree.now.lists.now.tree ends.now.from ends.now.to
             × (self.old.rows ≡ empty_table) × (self.old.count ≡ replicate 21 0) }

@@ -118,7 +118,7 @@ struct Near {
 }
 
 impl Near {
-    // By place: four arrays are read at each, and as many zips would be no plainer.
+    // By place: four arrays are read at each. As zips they are four ranges `[..m]` and the pattern `(((&a, &mark), &charge), &member)`.
     fn of(tree: &LeastTree) -> Near
         ensures { NearIs tree.now.graph.now.a tree.now.graph.now.mark tree.now.lists.now.tree tree.now.lists.now.charges result.dearest
             result.cheapest tree.now.graph.now.m }
@@ -176,7 +176,8 @@ struct Judging<'a> {
     slack: u64,
 }
 
-// Each loop goes by place: what it writes stands in another order than what it reads, or no proof knows of it after `zip`.
+// `outside` and `finish` go by place: of the rulings that they write no proof knows after `zip`, as after any adapter of iter_mut. `inside` goes over
+// the queue, and writes at the places of its edges.
 impl<'a> Judging<'a> {
     ghost use Rattle.std.specs.Prelude.{◌≡◌, length, replicate};
     ghost use Rattle.graph.specs.Limits.{max_edges};

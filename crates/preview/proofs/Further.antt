@@ -1,11 +1,11 @@
 -- Laws that no proof cites today: the fault of a preview, test by test, and what is known where there is none. Assumes nothing.
-use Rattle.std.specs.Prelude.{◌≡◌, refl, Bool, true, false, not, cond, ◌&&◌, ◌||◌, List, ℕ, ◌≤◌, ◌<◌, eqb, leb, length, ℤ}
+use Rattle.std.specs.Prelude.{◌≡◌, refl, Bool, true, false, ◌&&◌, ◌||◌, List, ℕ, ◌≤◌, ◌<◌, eqb, leb, length, ℤ}
 use Rattle.std.proofs.Common.{sym, ◌∙◌, arith, leb-true, eqb-true}
 use Rattle.lists.specs.Bools.{by_cases}
 use Rattle.graph.specs.declared.Graph.{Graph}
 use Rattle.graph.specs.Valid.{Valid, valid}
 use Rattle.graph.specs.Meaning.{valid_true}
-use Rattle.tree_theory.specs.Inputs.{input_fault, multipliers_fit, denominator_fits}
+use Rattle.tree_theory.specs.Inputs.{multipliers_fit, denominator_fits}
 use Rattle.preview.specs.Preview.{can_be_marked, is_free_edge, preview_fault}
 
 module _ (g : Graph) (d : List ℤ) (q k mark len : ℕ) where

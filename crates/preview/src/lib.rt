@@ -17,7 +17,8 @@ fn is_edge(g: &Graph, edge: usize) -> bool
     (1..=usize::from(g.m)).contains(&edge)
 }
 
-// A new mark as a graph has it: 1 or 2.
+// A new mark as a graph has it: 1 or 2. It comes in C's 32 bits, so that no caller's number is cut to a right one, and is refused here and not on the
+// way in, since 15, 11, 12 and 32 come before its 30 (document 02, C-11 and C-17).
 fn new_mark(mark: u32) -> Result<u8, Refusal>
     ensures fault { fault_of result ≡ cond (eqb mark 1 || eqb mark 2) 0 30 }
     ensures same { IfOk result (λ m. m ≡ mark) }

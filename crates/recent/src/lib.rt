@@ -38,8 +38,9 @@ impl Width {
     }
 }
 
-// The last times of one edge, of which the place of the oldest is `next`. No queue of the kit's: circular_buffer takes memory, and an ArrayVec keeps
-// no place to overwrite.
+// The last times of one edge, of which the place of the oldest is `next`. No queue of the kit's: circular_buffer takes memory; an ArrayVec would be
+// written in two ways, by `push` until w times are held and by `as_mut_slice` from then on, where this is one store, and is no Copy value, as
+// `[ring; MAX_EDGES]` asks.
 #[derive(Clone, Copy)]
 struct Ring {
     times: [i32; MAX_WINDOW],

@@ -1,11 +1,12 @@
 // The lines that the programs print, each in a string of fixed capacity, so that its size is its type's. std's `write!` is not used: its contract
 // says what was written where it answers Ok, and never that it does.
-ghost use Rattle.std.specs.Prelude.{◌≡◌, ◌++◌, ◌+◌, ◌≤◌, length};
+ghost use Rattle.std.specs.Prelude.{◌≡◌, ◌++◌, ◌+◌, ◌<◌, ◌≤◌, length};
 ghost use Rattle.std.specs.Option.{unwrap_or};
 ghost use Rattle.arrayvec.specs.ArrayString.{array_string_len};
 ghost use Rattle.graph.specs.Refusals.{number};
 ghost use Rattle.machine.specs.Calls.{best};
-ghost use Rattle.reports.specs.Text.{refused_line, bound_line, ruling_word, edge_line, verdict_line, nodes_line};
+ghost use Rattle.onetree.specs.Answers.{byte_of};
+ghost use Rattle.reports.specs.Text.{ascii, refused_line, bound_line, ruling_word, edge_line, verdict_line, nodes_line};
 
 use arrayvec::ArrayString;
 use graph::Refused;
@@ -22,18 +23,18 @@ pub(crate) type Line = ArrayString<LINE_SIZE>;
 
 pub(crate) type EdgeLine = ArrayString<EDGE_LINE_SIZE>;
 
-// The word of a ruling's byte, as the list has it that the rule call is lent.
+// The word of a ruling.
 #[tactic(auto, unfolding(crate::specs::Text::ruling_word))]
-fn word_of(byte: u8) -> &'static str
-    ensures word { result.now ≡ ruling_word byte }
+fn word_of(ruling: Ruling) -> &'static str
+    ensures word { result.now ≡ ruling_word (byte_of ruling) }
     ensures len { length result.now ≤ 8 }
 {
-    match Ruling::try_from(byte) {
-        Ok(Ruling::Keep) => "keep",
-        Ok(Ruling::Force) => "force",
-        Ok(Ruling::Bar) => "bar",
-        Ok(Ruling::WasRequired) => "required",
-        Ok(Ruling::WasExcluded) | Err(_) => "struck",
+    match ruling {
+        Ruling::Keep => "keep",
+        Ruling::Force => "force",
+        Ruling::Bar => "bar",
+        Ruling::WasRequired => "required",
+        Ruling::WasExcluded => "struck",
     }
 }
 
@@ -73,8 +74,8 @@ pub(crate) fn bound(bound: i64, ceiling: i64) -> Line
 }
 
 // The line of edge k, which joins a and b.
-pub(crate) fn edge(k: u8, a: u8, b: u8, ruling: u8) -> EdgeLine
-    ensures { result.bytes ≡ edge_line k a b ruling }
+pub(crate) fn edge(k: u8, a: u8, b: u8, ruling: Ruling) -> EdgeLine
+    ensures { result.bytes ≡ edge_line k a b (byte_of ruling) }
 {
     let mut line = EdgeLine::new();
     push_number(&mut line, k);
@@ -88,24 +89,28 @@ pub(crate) fn edge(k: u8, a: u8, b: u8, ruling: u8) -> EdgeLine
     line
 }
 
+// A word and a number.
+fn labelled<I: Integer>(word: &str, n: I) -> Line
+    requires { length word.now + I.MAX_STR_LEN < 56 }
+    ensures { result.bytes ≡ word.now ++ I.text n ++ ascii "\n" }
+{
+    let mut line = Line::new();
+    line.push_str(word);
+    push_number(&mut line, n);
+    line.push_str("\n");
+    line
+}
+
 // 'cost C'
 pub(crate) fn cost(cost: i64) -> Line
     ensures { result.bytes ≡ verdict_line (best cost) }
 {
-    let mut line = Line::new();
-    line.push_str("cost ");
-    push_number(&mut line, cost);
-    line.push_str("\n");
-    line
+    labelled("cost ", cost)
 }
 
 // 'nodes K'
 pub(crate) fn nodes(count: u64) -> Line
     ensures { result.bytes ≡ nodes_line count }
 {
-    let mut line = Line::new();
-    line.push_str("nodes ");
-    push_number(&mut line, count);
-    line.push_str("\n");
-    line
+    labelled("nodes ", count)
 }

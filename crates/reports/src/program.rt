@@ -23,6 +23,7 @@ pub trait Program {
 
     ghost says: { ℤ → Graph → List ℕ };
 
+    // Ruled out: a byte beside the text that `says` names; a line of another input.
     fn text(input: &Input) -> Text
         ensures { result.bytes ≡ says input.now.ceiling input.now.graph };
 }

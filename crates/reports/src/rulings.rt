@@ -1,12 +1,24 @@
 // What program 'rulings' prints.
 ghost use Rattle.std.specs.Prelude.{◌≡◌, ◌++◌, ◌+◌, ◌*◌, ◌≤◌, length};
 ghost use Rattle.arrayvec.specs.ArrayString.{array_string_len};
+ghost use Rattle.onetree.specs.Answers.{byte_of};
 ghost use Rattle.reports.specs.Rulings.{edge_lines};
+ghost use Rattle.reports.specs.Text.{ruling_word};
 
 use crate::input::Input;
 use crate::program::{Program, Text};
 use crate::{PLAIN_DENOMINATOR, lines};
 use graph::{MAX_EDGES, Refused};
+use onetree::Ruling;
+
+// The ruling of a byte of the list that the rule call is lent. It leaves none above 4; of such a byte the text would say what it says of 4, as
+// `ruling_word` has it.
+#[tactic(auto, unfolding(crate::specs::Text::ruling_word))]
+fn ruling_of(byte: u8) -> Ruling
+    ensures { ruling_word (byte_of result) ≡ ruling_word byte }
+{
+    Ruling::try_from(byte).unwrap_or(Ruling::WasExcluded)
+}
 
 // One line an edge.
 fn push_edges(text: &mut Text, input: &Input, rulings: &[u8])
@@ -17,7 +29,7 @@ fn push_edges(text: &mut Text, input: &Input, rulings: &[u8])
     // By place: k is printed too, and the lists of ends are longer than that of rulings.
     for k in 0..g.m {
         let at = usize::from(k);
-        text.push_str(lines::edge(k + 1, g.a[at], g.b[at], rulings[at]).as_str());
+        text.push_str(lines::edge(k + 1, g.a[at], g.b[at], ruling_of(rulings[at])).as_str());
     }
 }
 

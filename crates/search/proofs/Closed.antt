@@ -1,7 +1,7 @@
 -- What is refused before all input, where a search has to be open, leaves the record and the lent list. Assumes nothing.
 use Rattle.std.specs.Prelude.{◌≡◌, true}
 use Rattle.std.proofs.Math.Path.{refl}
-use Rattle.std.proofs.Common.{◌∙◌, arith}
+use Rattle.std.proofs.Common.{◌∙◌}
 use Rattle.lists.specs.Bools.{by_cases}
 use Rattle.graph.specs.declared.refusals.Refusal.{Refusal}
 use Rattle.graph.specs.Refusals.{number, not-zero}

@@ -2,13 +2,12 @@
 -- show leave the record in any case (tell_same, show_same), and every record that an accepted call leaves passes the check
 -- (accepted_passes), as a fresh one does (fresh-passes). `Typed` says only that the record's arrays have the lengths of their types.
 -- Assumes nothing.
-use Rattle.std.specs.Prelude.{◌≡◌, refl, Bool, true, false, List, ℕ, eqb, length}
+use Rattle.std.specs.Prelude.{◌≡◌, refl, true, false, List, ℕ}
 use Rattle.std.proofs.Common.{sym, ap, ◌∙◌}
 use Rattle.std.proofs.lemmas.Bool.{false≢true}
 use Rattle.lists.specs.Bools.{by_cases}
-use Rattle.machine.specs.Outcomes.{Incumbent, no_tour, a_tour}
-use Rattle.machine.specs.Machine.{Progress, State, no_search, searching, finished}
-use Rattle.machine.specs.Calls.{Call, tell, show, lent_by, refused, is_accepted, shown_by, step}
+use Rattle.machine.specs.Machine.{no_search}
+use Rattle.machine.specs.Calls.{Call, tell, show, lent_by, refused, is_accepted, step}
 use Rattle.machine.specs.Preserved.{tell_leaves, show_leaves}
 use Rattle.machine.proofs.Preserved.{step_kept}
 use Rattle.machine.specs.Refusals.{refused-leaves}

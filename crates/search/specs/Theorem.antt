@@ -48,7 +48,7 @@ meaning tell x = tell_means x
 meaning (show l) x = means x
 meaning close x = means x
 
-refusal_is : (r q : Refusal) → refused (number r) 0 ≡ refused (number q) 0 → r ≡ q
+pub refusal_is : (r q : Refusal) → refused (number r) 0 ≡ refused (number q) 0 → r ≡ q
 refusal_is r q e = number-injective r q cc
 
 -- no two answers mean the same

@@ -30,10 +30,7 @@ fn comes_first(m: usize, f: &[u8; MAX_EDGES], b: &[u8; MAX_EDGES]) -> bool
     requires { m ≤ max_edges }
     ensures { result ≡ lacks_first m (bytes f.now) (bytes b.now) }
 {
-    match last_difference(m, f, b) {
-        Some(k) => b[k] == 1,
-        None => false,
-    }
+    last_difference(m, f, b).is_some_and(|k| b[k] == 1)
 }
 
 // Whether a found tour f of cost x takes the place of the best tour b of cost y.
@@ -53,11 +50,7 @@ impl Search {
     pub(crate) fn incumbent(&self) -> Option<&[u8; MAX_EDGES]>
         ensures { MatchOption result (has_tour self.now ≡ false) (λ best. (has_tour self.now ≡ true) × (best.now ≡ self.now.best)) }
     {
-        if self.has_best == 1 {
-            Some(&self.best)
-        } else {
-            None
-        }
+        (self.has_best == 1).then_some(&self.best)
     }
 
     // A found tour: the upper bound is its cost, and it is the incumbent, unless the one that is there stays.

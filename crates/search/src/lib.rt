@@ -127,16 +127,11 @@ impl Search {
         ensures state { result ≡ state_in self.now }
         ensures again { Again self.now }
     {
-        if !self.is_sound() {
-            return State::Broken;
-        }
-        if self.open != 1 {
-            return State::Empty;
-        }
-        if self.depth == 0 {
-            State::Finished
-        } else {
-            State::Waiting
+        match (self.is_sound(), self.open, self.depth) {
+            (false, _, _) => State::Broken,
+            (true, 1, 0) => State::Finished,
+            (true, 1, _) => State::Waiting,
+            (true, _, _) => State::Empty,
         }
     }
 

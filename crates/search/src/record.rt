@@ -52,7 +52,7 @@ impl Number for i32 {
 }
 
 // Is every place from `from` on zero? The loop has no way out in the middle, and so takes many places at a time: `all` was tried, and takes up to
-// ten times as long.
+// ten times as long. By place: `a[from..]` asks that from is at most N, which a record that is not yet checked need not keep to.
 fn zero_from<T: Number, const N: usize>(a: &[T; N], from: usize) -> bool
     ensures { Says result (Zeros T.zero N from a.now) }
 {
@@ -63,7 +63,8 @@ fn zero_from<T: Number, const N: usize>(a: &[T; N], from: usize) -> bool
     !met
 }
 
-// Is each byte 0 or 1? As above.
+// Is each byte 0 or 1? As above. A `fold` over `iter` was tried and is no shorter: its proof asks for an induction of its own, and here one line of
+// invariant does.
 fn bits(a: &[u8; MAX_EDGES]) -> bool
     ensures { Says result (Bits a.now) }
 {
@@ -185,7 +186,8 @@ impl Search {
             && zero_from(&self.best, shown)
     }
 
-    // With `is_tidy`, the fresh record.
+    // With `is_tidy`, the fresh record: by fields, since `*self == Search::fresh()` would make a record and read each array again, as `is_tidy` just
+    // has: 1,300 instructions for 33, in a copy of the two in Rust.
     fn is_idle(&self) -> bool
         ensures { Says result (Idle self.now) }
     {

@@ -57,20 +57,20 @@ fn time(cost: i32, spread: u64, s: u64) -> i64
 }
 
 // Where edge k leads from vertex u: nowhere if there is no such edge, or u is no end of it.
+#[tactic(auto, using(crate::specs::Steps::leads_not_listed, crate::specs::Steps::leads_from_a, crate::specs::Steps::leads_from_b, crate::specs::Steps::leads_nowhere))]
 fn leads(g: &Graph, k: usize, u: u8) -> Option<u8>
     requires { Valid g.now }
     ensures { result ≡ leads_to (network g.now) k u }
 {
     if !(1..=usize::from(g.m)).contains(&k) {
-        return None;
+        None
+    } else if g.a[k - 1] == u {
+        Some(g.b[k - 1])
+    } else if g.b[k - 1] == u {
+        Some(g.a[k - 1])
+    } else {
+        None
     }
-    if g.a[k - 1] == u {
-        return Some(g.b[k - 1]);
-    }
-    if g.b[k - 1] == u {
-        return Some(g.a[k - 1]);
-    }
-    None
 }
 
 // Are the edges a tour of all vertices in sailing order from vertex 1? Each leads to a vertex not come to before, the last to vertex 1.
@@ -95,43 +95,54 @@ fn in_order(g: &Graph, edges: &[usize]) -> bool
     at == 1
 }
 
-// The first fault of a simulation, in document 02's order.
-#[tactic(auto, using(graph::specs::Meaning::graph_fine), unfolding(sailing::specs::Simulation::simulation_fault))]
-fn fault(g: &Graph, edges: &[usize], student: u64, spread: u64, len: usize) -> Result<(), Refusal>
-    ensures { fault_of result ≡ simulation_fault g.now edges.now student spread len }
-{
-    g.fault()?;
-    let n = usize::from(g.n);
-    if edges.len() != n || len != n {
-        return Err(Refusal::Length);
-    }
-    if !in_order(g, edges) {
-        return Err(Refusal::Tour);
-    }
-    if spread > MAX_SPREAD || student > MAX_STUDENT {
-        return Err(Refusal::StudentOrSpread);
-    }
-    Ok(())
+// What is simulated: a tour, sailed by a student with delays of this spread.
+#[derive(Clone, Copy)]
+struct Simulation<'a> {
+    g: &'a Graph,
+    edges: &'a [usize],
+    student: u64,
+    spread: u64,
 }
 
-// The sailing itself: each edge's time, their total and the last state.
-fn sail(g: &Graph, edges: &[usize], student: u64, spread: u64, times: &mut [i64]) -> Sailed
-    requires { simulation_fault g.now edges.now student spread (length times.old) ≡ 0 }
-    ensures { (result.total ≡ total (times_of g.now edges.now student spread))
-        × (result.state ≡ after (length edges.now) student)
-        × (times.new ≡ times_of g.now edges.now student spread) }
-{
-    let mut total = 0;
-    let mut state = student;
-    // by the place in `times`: of a list that is written through an adapter of iter_mut (zip) a proof knows nothing afterwards
-    for (i, &k) in edges.iter().enumerate() {
-        let drawn = next(state);
-        let t = time(g.cost[k - 1], spread, drawn);
-        times[i] = t;
-        total += t;
-        state = drawn;
+impl<'a> Simulation<'a> {
+    // The first fault, in document 02's order; `len` is the length of the lent list.
+    #[tactic(auto, using(graph::specs::Meaning::graph_fine), unfolding(sailing::specs::Simulation::simulation_fault))]
+    fn fault(&self, len: usize) -> Result<(), Refusal>
+        ensures { fault_of result ≡ simulation_fault self.now.g.now self.now.edges.now self.now.student self.now.spread len }
+    {
+        self.g.fault()?;
+        let n = usize::from(self.g.n);
+        if self.edges.len() != n || len != n {
+            return Err(Refusal::Length);
+        }
+        if !in_order(self.g, self.edges) {
+            return Err(Refusal::Tour);
+        }
+        if self.spread > MAX_SPREAD || self.student > MAX_STUDENT {
+            return Err(Refusal::StudentOrSpread);
+        }
+        Ok(())
     }
-    Sailed { total, state }
+
+    // The sailing itself: each edge's time, their total and the last state.
+    fn sail(&self, times: &mut [i64]) -> Sailed
+        requires { simulation_fault self.now.g.now self.now.edges.now self.now.student self.now.spread (length times.old) ≡ 0 }
+        ensures { (result.total ≡ total (times_of self.now.g.now self.now.edges.now self.now.student self.now.spread))
+            × (result.state ≡ after (length self.now.edges.now) self.now.student)
+            × (times.new ≡ times_of self.now.g.now self.now.edges.now self.now.student self.now.spread) }
+    {
+        let mut total = 0;
+        let mut state = self.student;
+        // by the place in `times`: of a list that is written through an adapter of iter_mut (zip) a proof knows nothing afterwards
+        for (i, &k) in self.edges.iter().enumerate() {
+            let drawn = next(state);
+            let t = time(self.g.cost[k - 1], self.spread, drawn);
+            times[i] = t;
+            total += t;
+            state = drawn;
+        }
+        Sailed { total, state }
+    }
 }
 
 // A given tour sailed edge by edge: each edge's time in `times`, the total and the last state.
@@ -147,6 +158,12 @@ pub fn simulate(
         ≡ simulation_reply g.now edges.now student spread (length times.old))
         × (times.new ≡ simulation_leaves g.now edges.now student spread times.old) }
 {
-    fault(g, edges, student, spread, times.len())?;
-    Ok(sail(g, edges, student, spread, times))
+    let simulation = Simulation {
+        g,
+        edges,
+        student,
+        spread,
+    };
+    simulation.fault(times.len())?;
+    Ok(simulation.sail(times))
 }

@@ -1,6 +1,6 @@
 -- The sailing, behind the fault.
-use Rattle.std.proofs.Common.{◌≡◌, Err, sym, ap, ◌∙◌, rules, arith}
-use Rattle.graph.specs.Refusals.{number, not-zero}
+use Rattle.std.proofs.Common.{◌≡◌, Err, sym, ap, ◌∙◌, rules}
+use Rattle.graph.specs.Refusals.{not-zero}
 use Rattle.sailing.specs.Refusals.{reply-refused, refused-leaves, reply_sailed, sailed_leaves}
 use Rattle.simulation.specs.Answers.{simulation_meaning}
 use Rattle.simulation.proofs.simulate.Goals as goal

@@ -1,6 +1,7 @@
--- The loop keeps: the degrees in the first k edges.
+-- The loop keeps: the degrees in the edges that are met.
+use Rattle.std.proofs.Common.{length}
 use Rattle.tours.specs.Counted.{DegreesTo}
 use Rattle.node.proofs.passes.count_degrees.Given as goal
 
-abbrev pub invariant-loop-k : goal.invariant-loop-k
-invariant-loop-k l = DegreesTo l.k l.g l.tree l.degrees
+abbrev pub invariant-loop-a : goal.invariant-loop-a
+invariant-loop-a l = DegreesTo (length l.yielded) l.g l.tree l.degrees

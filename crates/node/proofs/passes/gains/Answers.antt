@@ -2,11 +2,8 @@
 use Rattle.std.proofs.Common.{◌<◌, pos, get_or, arith}
 use lib.Signed.{mag}
 use Rattle.integers.specs.Words.{back32}
-use Rattle.node.specs.Gains.{gains_none, gains_more, gains_to}
+use Rattle.node.specs.Gains.{gains_more}
 use Rattle.node.proofs.passes.gains.Goals as goal
-
-pub loop-v-init : goal.loop-v-init
-loop-v-init c = gains_none _ _ _ c.told-d
 
 pub gained-requires-clause-multiplier : goal.gained-requires-clause-multiplier
 gained-requires-clause-multiplier c = let l = c.loop-v in
@@ -25,6 +22,3 @@ loop-v-preserved c = let l = c.loop-v in
     ) at c.gained.ensures
     in
     rw (back32 c.gained.result c.gained.type_inv) (gains_more l.v c.args.step _ _ l.d c.gained.result (omega arith) (omega arith) e l.invariant)
-
-pub returns : goal.returns
-returns c = gains_to c.loop-v.v _ _ _ _ _ (omega arith) c.loop-v.invariant

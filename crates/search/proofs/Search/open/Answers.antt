@@ -1,5 +1,5 @@
 -- The cases of `reply` at an opening, one for each return.
-use Rattle.std.proofs.Common.{rules, ◌≡◌, refl, sym, ap, ◌∙◌, Err, arith}
+use Rattle.std.proofs.Common.{rules, ◌≡◌, refl, sym, ap, ◌∙◌, Err}
 use borrow.Author.Tests.{eq-eqb, ne_eqb}
 use Rattle.graph.specs.Refusals.{number, not-zero}
 use Rattle.machine.specs.Machine.{Opening}

@@ -1,5 +1,6 @@
 -- By the highest-numbered edge in which the two differ, if there is one.
-use Rattle.std.proofs.Common.{◌≡◌, refl, ℕ, zero, suc, ◌<◌, List, get_or, eqb, Bool, true, false, sym, ap, ◌∙◌, arith}
+use Rattle.std.proofs.Common.{◌≡◌, refl, ℕ, zero, suc, ◌<◌, List, get_or, eqb, Bool, true, false, sym, ap, ◌∙◌, arith, rules}
+use Rattle.std.specs.Prelude.{Option, Some, None, MatchOption}
 use Rattle.std.proofs.Math.Decide.{ℕ_discrete}
 use Rattle.tree_theory.specs.OneTree.{lacks_first, unless}
 use Rattle.tree_theory.specs.Arrays.{bytes}
@@ -39,10 +40,10 @@ module _ (f b : List ℕ) where
       go rest (yes e) = decides _ _ _ (λ s. d (ap (one f) e ∙ s ∙ ap (one b) (sym e))) ∙ ap (one b) (sym e)
       go rest (no n) = passes _ _ _ (h m (omega (arith, n, l)) (omega arith)) ∙ rest n
 
-pub returns-in-Some : goal.returns-in-Some
-returns-in-Some c =
-    let d = c.in-Some.ensures in
-    sym (some c.args.f.now c.args.b.now c.args.m c.in-Some.k d.0 d.1 d.2)
+  by_option : (m : ℕ) (o : Option ℕ) (r : Bool) → MatchOption o ((j : ℕ) → j < m → Same j) (λ k. (k < m) × ¬ Same k × ((j : ℕ) → k < j → j < m → Same j))
+      → MatchOption o (r ≡ false) (λ k. r ≡ one b k) → r ≡ lacks_first m (bytes f) (bytes b)
+  by_option m None r d s = s ∙ sym (none m d)
+  by_option m (Some k) r d s = s ∙ sym (some m k d.0 d.1 d.2)
 
-pub returns-in-None : goal.returns-in-None
-returns-in-None c = sym (none c.args.f.now c.args.b.now c.args.m c.in-None.ensures)
+pub returns : goal.returns
+returns c = by_option c.args.f.now c.args.b.now c.args.m c.last_difference.result c.is_some_and.result c.last_difference.ensures (search rules)

@@ -7,9 +7,9 @@ use Rattle.std.proofs.Math.Decide.{dec_le}
 use Rattle.std.proofs.lemmas.Bool.{not-true, not-false}
 use Rattle.lists.specs.Bools.{and_both, cond_zero}
 use Rattle.lists.specs.All.{every_of}
+use Rattle.lists.specs.Fill.{replicate-at}
 use Rattle.lists.specs.Members.{◌∈◌}
 use Rattle.lists.specs.Numbers.{up_to, up_to_in}
-use Rattle.lists.specs.Rows.{zeros}
 use Rattle.graph.specs.declared.Graph.{Graph}
 use Rattle.graph.specs.Network.{Network, network}
 use Rattle.graph.specs.Places.{place_zero, place_past}
@@ -66,4 +66,4 @@ module _ (g : Graph) (l : List ℕ) where
 pub none_ashore : (n v : ℕ) → ashore (replicate n 0) v ≡ false
 unfolding ashore
 none_ashore n zero = refl
-none_ashore n (suc v) = ap (λ (b : ℕ). eqb b 1) (zeros n v)
+none_ashore n (suc v) = ap (λ (b : ℕ). eqb b 1) (replicate-at n 0 v)

@@ -18,7 +18,7 @@ use Rattle.graph.specs.Network.{Network}
 use Rattle.tree_theory.specs.OneTree.{Edges, others}
 use Rattle.tours.specs.Tours.{Ends, Joined, Trip, Tour, Allowed, Feasible, cost}
 use Rattle.tours.specs.Renumbering.{distinct-map}
-use Rattle.tours.specs.Trips.{along, along-length, along_in, along_ends, closed_once, distinct_end}
+use Rattle.tours.specs.Trips.{along, along-length, along_in, along_ends, trip_once}
 use Rattle.compaction.specs.Ranks.{rank, nth}
 use Rattle.afloat.specs.Over.{Ashore, active, active_count, others_over, touched, TourOver, AllowedOver, FeasibleOver}
 use Rattle.afloat.specs.Reduced.{reduced, Fit, Live, live_back, live_same, count_is, rank-one, nth-one, over_live, others_there, others_again}
@@ -195,12 +195,7 @@ module _ (s : Ashore) (g : Network) (f : Fit s g) where
 
     way_once : Distinct way
     unfolding way
-    way_once = go o.order o.trip o.once not-one (omega (arith, order_length, f.three))
-      where
-        go : (vs : List ℕ) (j : Trip g t 1 vs 1) → Distinct vs → ¬ (1 ∈ vs) → 2 ≤ length vs → Distinct (along g t 1 vs 1 j)
-        go [] j d new l = absurd (let z : 2 ≤ 0 = l in omega arith)
-        go (v ∷ []) j d new l = absurd (let z : 2 ≤ 1 = l in omega arith)
-        go (v ∷ z ∷ vs) j d new l = closed_once g t 1 v z vs j (distinct_end (v ∷ z ∷ vs) 1 d new)
+    way_once = trip_once g t 1 o.order o.trip o.once not-one (omega (arith, order_length, f.three))
 
     edges : Whole way (select t (up_to g.m))
     unfolding way

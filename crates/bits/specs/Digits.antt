@@ -4,7 +4,7 @@ use Rattle.std.specs.Prelude.{◌≡◌, refl, Bool, true, false, ℕ, zero, suc
 use Rattle.std.proofs.Common.{sym, ap, ◌∙◌, lt_of_lt_of_le, div-one, arith, pow_mono, eq-eqb, ne_eqb, eqb-true}
 use Rattle.std.proofs.Math.Nat.{pow-succ', div-div-eq-div-mul, div-eq_of_lt}
 use Rattle.std.proofs.lemmas.Bool.{eqb-false}
-use Rattle.lists.specs.Bools.{bit, by_cases}
+use Rattle.lists.specs.Bools.{bit, bit_most, by_cases}
 
 -- digit j of x is set
 unfoldable pub bit_of : ℕ → ℕ → Bool
@@ -43,14 +43,10 @@ unfoldable pub word_of : ℕ → (ℕ → Bool) → ℕ
 word_of zero f = 0
 word_of (suc n) f = bit (f 0) + 2 * word_of n (λ j. f (suc j))
 
-bit_le : (b : Bool) → bit b ≤ 1
-bit_le true = omega arith
-bit_le false = omega arith
-
 pub word_lt : (n : ℕ) (f : ℕ → Bool) → word_of n f < 2 ^ n
 unfolding word_of
 word_lt zero f = omega arith
-word_lt (suc n) f = omega (arith, bit_le (f 0), word_lt n (λ j. f (suc j)), pow-succ' 2 n)
+word_lt (suc n) f = omega (arith, bit_most (f 0), word_lt n (λ j. f (suc j)), pow-succ' 2 n)
 
 pub word_same : (n : ℕ) (f h : ℕ → Bool) → ((j : ℕ) → j < n → f j ≡ h j) → word_of n f ≡ word_of n h
 unfolding word_of

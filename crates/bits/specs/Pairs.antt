@@ -2,6 +2,7 @@
 -- test it, and how many numbers are in neither: proofs/Pairs.) Assumes nothing.
 use Rattle.std.specs.Prelude.{◌≡◌, refl, Bool, true, false, not, ◌&&◌, List, ℕ, zero, suc, ◌+◌, ◌*◌, ◌≤◌, ◌<◌}
 use Rattle.std.proofs.Common.{◌∙◌, true≢false, arith}
+use Rattle.std.proofs.Math.Bool.{and_comm}
 use Rattle.lists.specs.Bools.{bit}
 use Rattle.lists.specs.Select.{select}
 use Rattle.lists.specs.Numbers.{up_to}
@@ -57,13 +58,7 @@ swapped W m r s p = record {
   within = p.within;
   first = p.second;
   second = p.first;
-  apart = λ k. and-swap (digit s k) (digit r k) ∙ p.apart k;
+  apart = λ k. and_comm (digit s k) (digit r k) ∙ p.apart k;
   clear₁ = p.clear₂;
   clear₂ = p.clear₁;
 }
-  where
-    and-swap : (x y : Bool) → x && y ≡ y && x
-    and-swap true true = refl
-    and-swap true false = refl
-    and-swap false true = refl
-    and-swap false false = refl

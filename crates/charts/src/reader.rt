@@ -31,21 +31,12 @@ fn u16_at(s: &[u8], i: usize) -> u16
 fn header_fault(s: &[u8]) -> Result<(), Refusal>
     ensures { fault_of result ≡ header_fault s.now }
 {
-    if s.len() < HEADER_SIZE {
-        return Err(Refusal::TooShort);
-    }
+    Refusal::TooShort.unless(s.len() >= HEADER_SIZE)?;
     let n = usize::from(s[0]);
-    if !(MIN_VERTICES..=MAX_VERTICES).contains(&n) {
-        return Err(Refusal::VertexCount);
-    }
-    if s[1] != 0 || s[6] != 0 || s[7] != 0 {
-        return Err(Refusal::HeaderPadding);
-    }
+    Refusal::VertexCount.unless((MIN_VERTICES..=MAX_VERTICES).contains(&n))?;
+    Refusal::HeaderPadding.unless(s[1] == 0 && s[6] == 0 && s[7] == 0)?;
     let r = usize::from(u16_at(s, 4));
-    if r > MAX_RECORDS || s.len() != HEADER_SIZE + RECORD_SIZE * r {
-        return Err(Refusal::RecordCount);
-    }
-    Ok(())
+    Refusal::RecordCount.unless(r <= MAX_RECORDS && s.len() == HEADER_SIZE + RECORD_SIZE * r)
 }
 
 // A record of a file: an edge, the record after it, and the bytes that are to be zero.
@@ -81,20 +72,13 @@ impl Record {
     fn fault(&self, n: usize) -> Result<(), Refusal>
         ensures { fault_of result ≡ body_of self.now n }
     {
-        if !ends_ok(n, self.a, self.b) {
-            return Err(Refusal::Ends);
-        }
-        if self.mark > EXCLUDED || self.padding != [0; 3] {
-            return Err(Refusal::MarkOrPadding);
-        }
-        if !cost_ok(self.cost) {
-            return Err(Refusal::Cost);
-        }
-        Ok(())
+        Refusal::Ends.unless(ends_ok(n, self.a, self.b))?;
+        Refusal::MarkOrPadding.unless(self.mark <= EXCLUDED && self.padding == [0; 3])?;
+        Refusal::Cost.unless(cost_ok(self.cost))
     }
 }
 
-// Is the pair x, y among the edges?
+// Is the pair x, y among the edges? That these are few is asked here and of `checked`, and told by no type: `append` asks for one fewer all the same.
 fn pair_met(g: &Graph, x: u8, y: u8) -> bool
     requires { g.now.m ≤ max_edges }
     ensures { result ≡ pair_met g.now.a g.now.b g.now.m x y }
@@ -113,17 +97,11 @@ fn checked(s: &[u8], met: &[bool; MAX_RECORDS], g: &Graph, k: usize) -> Result<R
     ensures fault { fault_of result ≡ record_fault s.now met.now g.now k }
     ensures read { IfOk result (λ r. r ≡ record_at s.now (start_of k)) }
 {
-    if usize::from(u16_at(s, 4)) < k {
-        return Err(Refusal::NoSuchRecord);
-    }
-    if met[k - 1] {
-        return Err(Refusal::RecordAgain);
-    }
+    Refusal::NoSuchRecord.unless(k <= usize::from(u16_at(s, 4)))?;
+    Refusal::RecordAgain.unless(!met[k - 1])?;
     let record = Record::at(s, HEADER_SIZE + RECORD_SIZE * (k - 1));
     record.fault(usize::from(g.n))?;
-    if pair_met(g, record.a, record.b) {
-        return Err(Refusal::PairAgain);
-    }
+    Refusal::PairAgain.unless(!pair_met(g, record.a, record.b))?;
     Ok(record)
 }
 
@@ -152,10 +130,7 @@ fn follow(s: &[u8]) -> Result<Graph, Refused>
     let mut k = usize::from(u16_at(s, 2));
     // no `for`: each record names the next
     while k != 0 {
-        let found = checked(s, &met, &g, k).map_err(|refusal| Refused {
-            refusal,
-            place: Some(k as u64),
-        })?;
+        let found = checked(s, &met, &g, k).map_err(|refusal| refusal.at(k as u64))?;
         met[k - 1] = true;
         append(&mut g, &found);
         k = usize::from(found.next);

@@ -1,5 +1,5 @@
 // Writing 'the chart as bytes': edge k in record k.
-ghost use Rattle.std.specs.Prelude.{◌≡◌, ◌+◌, ◌*◌, ◌<◌, ◌≤◌, length};
+ghost use Rattle.std.specs.Prelude.{◌≡◌, ◌<◌, length};
 ghost use Rattle.graph.specs.Limits.{max_edges};
 ghost use Rattle.graph.specs.Refusals.{fault_of};
 ghost use Rattle.charts.specs.Answers.{write_meaning};
@@ -66,10 +66,7 @@ fn write_fault(g: &Graph, len: usize) -> Result<(), Refusal>
     ensures { fault_of result ≡ write_fault g.now len }
 {
     g.fault()?;
-    if len != HEADER_SIZE + RECORD_SIZE * usize::from(g.m) {
-        return Err(Refusal::Length);
-    }
-    Ok(())
+    Refusal::Length.unless(len == HEADER_SIZE + RECORD_SIZE * usize::from(g.m))
 }
 
 // The graph as bytes, in a list of just the right length; on a refusal the list stays as it was.

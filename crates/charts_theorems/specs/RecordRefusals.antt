@@ -18,7 +18,7 @@ use Rattle.graph.specs.Meaning.{pair_new}
 use Rattle.charts.specs.NoFault.{HeaderOk, RecordOk}
 use Rattle.charts.specs.Appending.{Sound, sound-edgeless, record_room, sound_record}
 use Rattle.charts_theorems.specs.Along.{link}
-use Rattle.charts_theorems.specs.RoundTrip.{past_all}
+use Rattle.lists.specs.Fill.{replicate-at}
 use Rattle.charts_theorems.specs.FirstFault.{
   start_at,
   MetBefore,
@@ -131,7 +131,7 @@ track_start s o =
       n = refl;
       size = refl;
       there = λ i l. absurd (omega arith);
-      only = λ k l t. absurd (true≢false (sym t ∙ past_all false max_records (k - 1)));
+      only = λ k l t. absurd (true≢false (sym t ∙ replicate-at max_records false (k - 1)));
       a = λ i l. absurd (omega arith);
       b = λ i l. absurd (omega arith);
       fine = λ i l. absurd (omega arith);

@@ -7,11 +7,11 @@ use Rattle.std.proofs.Common.{sym, ◌∙◌, ap, get_or-set_same}
 use Rattle.std.proofs.Math.Bool.{false}
 use native.Mathlib.Omega.{arith}
 use Rattle.std.proofs.Math.Numerals.{add-one}
-use Rattle.std.proofs.Math.ListN.{length-set, get_or-eq_default}
-use Rattle.std.proofs.lemmas.List.{length-replicate, get_or-replicate}
+use Rattle.std.proofs.Math.ListN.{length-set}
 use Rattle.std.proofs.Math.Seq.{get_or-set_other}
 use borrow.Author.Tests.{ltb-true, ltb-false, eqb-true, eqb-false}
 use Rattle.lists.specs.Bools.{by_cases}
+use Rattle.lists.specs.Fill.{replicate-at}
 use Rattle.graph.specs.declared.Graph.{Graph}
 use Rattle.graph.specs.Limits.{max_edges, max_records}
 use Rattle.graph.specs.Valid.{Valid, pair_met}
@@ -39,13 +39,6 @@ use Rattle.charts_theorems.specs.Written.{
 
 -- ---- the first k places of a list, and d from there on, 190 in all
 
-pub past_all : {A : Type 0} (d : A) (n i : ℕ) → get_or (replicate n d) i d ≡ d
-past_all d n i =
-    by_cases (ltb i n) (λ t. get_or-replicate n i d d (ltb-true i n t)) (λ t. get_or-eq_default (replicate n d) d (long t))
-  where
-    long : ltb i n ≡ false → length (replicate n d) ≤ i
-    long t = omega (arith, length-replicate n d, ltb-false i n t)
-
 module _ {A : Type 0} (l : List A) (d : A) where
   unfoldable fill : ℕ → List A
   fill zero = replicate max_edges d
@@ -69,7 +62,7 @@ module _ {A : Type 0} (l : List A) (d : A) where
 
   fill_past : (k i : ℕ) → k ≤ i → get_or (fill k) i d ≡ d
   unfolding fill
-  fill_past zero i h = past_all d max_edges i
+  fill_past zero i h = replicate-at max_edges d i
   fill_past (suc k) i h = get_or-set_other (fill k) k i (get_or l k d) d (λ e. omega arith) ∙ fill_past k i (omega arith)
 
 -- the graph of g's first k edges, zero past them
@@ -161,7 +154,7 @@ module _ (g : Graph) (v : Valid g) where
   read_is =
       rw (header_none (file_bytes g) (header_written g v), n_written g v, head_written g v, firsts_none)
       (walk (suc max_edges) g.m 0 (replicate max_records false) (omega arith) (omega (arith, v.few))
-      (λ i h. past_all false max_records i))
+      (λ i h. replicate-at max_records false i))
 
 -- what reading gives of the bytes s: g again
 pub record ReadBack (g : Graph) (s : List ℕ) : Type 0 where

@@ -13,7 +13,7 @@ use Rattle.charts.specs.Chart.{vertices, chain_head, start_of, cost_at, next_of,
 use Rattle.graph.specs.Edgeless.{edgeless}
 use Rattle.charts.specs.NoFault.{header_ok, record_ok}
 use Rattle.charts.specs.Appending.{Sound, sound-edgeless, sound_record}
-use Rattle.charts_theorems.specs.RoundTrip.{past_all}
+use Rattle.lists.specs.Fill.{replicate-at}
 
 -- ---- one turn
 
@@ -68,10 +68,10 @@ clear_edgeless : (n : ℕ) → Clear (edgeless n)
 unfolding edgeless
 clear_edgeless n =
     record {
-      a = λ k l. past_all 0 max_edges k;
-      b = λ k l. past_all 0 max_edges k;
-      cost = λ k l. past_all (pos 0) max_edges k;
-      mark = λ k l. past_all 0 max_edges k;
+      a = λ k l. replicate-at max_edges 0 k;
+      b = λ k l. replicate-at max_edges 0 k;
+      cost = λ k l. replicate-at max_edges (pos 0) k;
+      mark = λ k l. replicate-at max_edges 0 k;
     }
 
 clear_record : (s : List ℕ) (h : Graph) (p : ℕ) → Clear h → Clear (with_record s h p)

@@ -86,7 +86,7 @@ module _ (c : Edges) where
   unfolding nth
   nth-same m e = pick_same (c (suc m)) (rank c (suc m)) (suc m) (nth c m (rank c (suc m))) e
 
-  nth_other : (m j : ℕ) → (c (suc m) ≡ true → j ≢ rank c (suc m)) → nth c (suc m) j ≡ nth c m j
+  pub nth_other : (m j : ℕ) → (c (suc m) ≡ true → j ≢ rank c (suc m)) → nth c (suc m) j ≡ nth c m j
   unfolding nth
   nth_other m j h = pick_other (c (suc m)) (rank c (suc m)) j (suc m) (nth c m j) h
 

@@ -13,7 +13,8 @@ use Rattle.lists.specs.Rows.{row, row-size, row_at}
 use Rattle.graph.specs.Network.{Mark, free, required, excluded}
 use Rattle.tree_theory.specs.OneTree.{Edges}
 use Rattle.machine.specs.Outcomes.{closes, finds, splits}
-use Rattle.machine.specs.Machine.{Marks, Node, node_of, Opened, is_free, first_free, branch}
+use Rattle.tree_theory.specs.Valid.{is_free}
+use Rattle.machine.specs.Machine.{Marks, Node, node_of, Opened, first_free, branch}
 use Rattle.machine.specs.Branching.{first_free_lem, first-before, first_is}
 use Rattle.compaction.specs.Ranks.{rank, Kept, rank_yes, rank_less, rank-nth}
 

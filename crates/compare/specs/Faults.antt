@@ -2,7 +2,7 @@
 -- the fault. Assumes nothing.
 use Rattle.std.specs.Prelude.{◌≡◌, Bool, true, false, not, cond, ◌&&◌, List, eqb, leb, length, ℤ}
 use Rattle.std.proofs.Math.Path.{refl}
-use Rattle.std.proofs.Common.{sym, ap, ◌∙◌, arith, eqb-true, eq-eqb}
+use Rattle.std.proofs.Common.{sym, ap, ◌∙◌, arith, eqb-true}
 use Prim.Native.Nat.{ℕ, zero, suc, ◌<◌}
 use Rattle.lists.specs.Bools.{by_cases, and_both}
 use Rattle.std.specs.List.{list_all}
@@ -26,9 +26,6 @@ told false n r e = (refl, e)
 pub passed : (b : Bool) (n : ℕ) → 0 ≡ cond (not b) (suc n) 0 → b ≡ true
 passed true n e = refl
 passed false n e = absurd (omega arith)
-
-pub sizes_are : (m n : ℕ) (p : Bool) → m ≡ n → p ≡ true → eqb m n && p ≡ true
-sizes_are m n p e q = rw (eq-eqb m n e, q)
 
 -- ---- test by test
 

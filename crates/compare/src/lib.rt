@@ -8,7 +8,9 @@ ghost use Rattle.std.specs.Option.{unwrap_or};
 ghost use Rattle.graph.specs.Refusals.{fault_of};
 ghost use Rattle.search.specs.Record.{opening_of};
 ghost use Rattle.search.specs.Replies.{means, run_means};
-ghost use Rattle.compare.specs.Comparison.{settings_of, pairs_fit, settings_fit, finished_in, finishes, finishes_with, counts, compare_fault, compare_reply, compare_leaves};
+ghost use Rattle.compare.specs.Faults.{sizes_fit};
+ghost use Rattle.compare.specs.Comparison.{settings_of, pairs_fit, settings_fit, finished_in, finishes, finishes_with};
+ghost use Rattle.compare.specs.Comparison.{counts, compare_fault, compare_reply, compare_leaves};
 
 use graph::{Graph, Refusal};
 use machine::Settings;
@@ -16,7 +18,7 @@ use node::{MAX_STEP, MAX_SWEEPS};
 use search::{Progress, Search};
 
 // As specs/Comparison.antt has it.
-pub const MAX_PAIRS: usize = 16;
+const MAX_PAIRS: usize = 16;
 
 // What all pairs have alike. The ceiling and the denominator stand in `Settings` too, since C has both structs.
 #[repr(C)]
@@ -44,7 +46,7 @@ fn count_in(answer: Result<Progress, Refusal>) -> Option<u64>
     }
 }
 
-// What is compared. The pairs are two lists beside each other, and none of pairs, since C lends them so.
+// What is compared, and how many entries the report has. The pairs are two lists beside each other, and none of pairs, since C lends them so.
 #[derive(Clone, Copy)]
 struct Comparison<'a> {
     g: &'a Graph,
@@ -52,15 +54,23 @@ struct Comparison<'a> {
     terms: Terms,
     sweeps: &'a [u32],
     steps: &'a [u32],
+    entries: usize,
 }
 
 impl<'a> Comparison<'a> {
     // Are there 1 to 16 pairs, and an entry of the report for each?
-    fn pairs_fit(&self, report: usize) -> bool
-        ensures { result ≡ pairs_fit (length self.now.sweeps.now) (length self.now.steps.now) report }
+    fn pairs_fit(&self) -> bool
+        ensures { result ≡ pairs_fit (length self.now.sweeps.now) (length self.now.steps.now) self.now.entries }
     {
         let pairs = self.sweeps.len();
-        (1..=MAX_PAIRS).contains(&pairs) && self.steps.len() == pairs && report == pairs
+        (1..=MAX_PAIRS).contains(&pairs) && self.steps.len() == pairs && self.entries == pairs
+    }
+
+    // And a multiplier for each vertex?
+    fn sizes_fit(&self) -> bool
+        ensures { result ≡ sizes_fit self.now.g.now self.now.multipliers.now self.now.sweeps.now self.now.steps.now self.now.entries }
+    {
+        self.multipliers.len() == usize::from(self.g.n) && self.pairs_fit()
     }
 
     // Every pair is looked at.
@@ -72,27 +82,26 @@ impl<'a> Comparison<'a> {
     }
 
     // The first fault, in document 02's order.
-    fn fault(&self, report: usize) -> Result<(), Refusal>
+    #[tactic(auto, using(graph::specs::Refusals::positive), unfolding(crate::specs::Comparison::compare_fault))]
+    fn fault(&self) -> Result<(), Refusal>
         ensures { fault_of result
             ≡ compare_fault self.now.g.now self.now.multipliers.now self.now.terms.ceiling self.now.terms.denominator
-            self.now.sweeps.now self.now.steps.now report }
+            self.now.sweeps.now self.now.steps.now self.now.entries }
     {
         self.g.fault()?;
-        if self.multipliers.len() != usize::from(self.g.n) || !self.pairs_fit(report) {
-            return Err(Refusal::Length);
-        }
+        Refusal::Length.unless(self.sizes_fit())?;
         onetree::multipliers_fault(self.multipliers)?;
         onetree::ceiling_fault(self.terms.ceiling)?;
-        if !self.settings_fit() {
-            return Err(Refusal::Settings);
-        }
+        Refusal::Settings.unless(self.settings_fit())?;
         onetree::denominator_fault(self.terms.denominator)
     }
 
     // One pair: a fresh record, one opening and one run with the whole budget. None where the search is still going on.
     fn count(&self, sweeps: u32, step: u32) -> Option<u64>
-        ensures finished { result ≡ finishes_with (opening_of self.now.g.now self.now.multipliers.now (settings_of self.now.terms sweeps step)) self.now.terms.budget }
-        ensures reported { unwrap_or result 0 ≡ finishes (opening_of self.now.g.now self.now.multipliers.now (settings_of self.now.terms sweeps step)) self.now.terms.budget }
+        ensures finished { result
+            ≡ finishes_with (opening_of self.now.g.now self.now.multipliers.now (settings_of self.now.terms sweeps step)) self.now.terms.budget }
+        ensures reported { unwrap_or result 0
+            ≡ finishes (opening_of self.now.g.now self.now.multipliers.now (settings_of self.now.terms sweeps step)) self.now.terms.budget }
     {
         let settings = Settings {
             ceiling: self.terms.ceiling,
@@ -106,7 +115,8 @@ impl<'a> Comparison<'a> {
         count_in(s.run(self.terms.budget))
     }
 
-    // Each pair's count, in the report; 0 where there is none. By places, since the library says nothing of what `zip` over `iter_mut` leaves.
+    // Each pair's count, in the report; 0 where there is none, since C's list has no `Option`. By places, since the library says nothing of what
+    // `zip` over `iter_mut` leaves.
     fn count_all(&self, report: &mut [u64])
         requires { (length self.now.steps.now ≡ length self.now.sweeps.now) × (length report.old ≡ length self.now.sweeps.now) }
         ensures { report.new ≡ counts self.now.g.now self.now.multipliers.now self.now.terms self.now.sweeps.now self.now.steps.now }
@@ -137,8 +147,9 @@ pub fn compare(
         terms,
         sweeps,
         steps,
+        entries: report.len(),
     };
-    comparison.fault(report.len())?;
+    comparison.fault()?;
     comparison.count_all(report);
     Ok(())
 }

@@ -38,6 +38,7 @@ impl Dispatcher {
         }
     }
 
+    // Adding: a search is opened at the free place with the smallest number, which is the answer.
     // Ruled out: a ninth search; a place other than the free one with the smallest number; a part of a refused opening in a place.
     pub fn add(
         &mut self,
@@ -49,13 +50,13 @@ impl Dispatcher {
         ensures left { self.new ≡ (reply self.old (Calls.add (opening_of g.now multipliers.now settings))).dispatcher }
     {
         let seen = self.survey()?;
-        let Some(at) = first_after(&seen, 0, State::Empty) else {
-            return Err(Refusal::Full);
-        };
+        let at = first_after(&seen, 0, State::Empty).ok_or(Refusal::Full)?;
         self.places[at].open(g, multipliers, settings)?;
         Ok(at + 1)
     }
 
+    // A turn: up to p nodes of the first search after the place last served, in cyclic order, that has nodes waiting. Its place is the answer, or
+    // none where every search is finished.
     // Ruled out: a turn for a finished search, or for one that stands behind another unfinished one; more nodes than p; an idle turn that forgets
     // the place last served; a place named that was not served.
     pub fn turn(&mut self, p: u64) -> Result<Option<usize>, Refusal>
@@ -63,9 +64,7 @@ impl Dispatcher {
         ensures left { self.new ≡ (reply self.old (Calls.turn p)).dispatcher }
     {
         let seen = self.survey()?;
-        if p == 0 {
-            return Err(Refusal::NoNodes);
-        }
+        Refusal::NoNodes.unless(p != 0)?;
         let Some(at) = first_after(&seen, self.last, State::Waiting) else {
             return Ok(None);
         };
@@ -77,6 +76,7 @@ impl Dispatcher {
 
     // Telling at a place.
     // Ruled out: the verdict of another place; a place that holds nothing told as going on.
+    #[tactic(auto, using(crate::specs::Cases::tell_refused, crate::specs::Cases::tell_done))]
     pub fn tell(&self, place: usize) -> Result<Verdict, Refusal>
         ensures answer { tell_means result ≡ (reply self.now (Calls.tell_at place)).answer }
         ensures left { self.now ≡ (reply self.now (Calls.tell_at place)).dispatcher }
@@ -87,6 +87,7 @@ impl Dispatcher {
 
     // Showing at a place.
     // Ruled out: the tour of another place; a refusal with a byte of `out` changed.
+    #[tactic(auto, using(crate::specs::Cases::show_refused, crate::specs::Cases::show_done))]
     pub fn show(&self, place: usize, out: &mut [u8]) -> Result<(), Refusal>
         ensures answer { means result ≡ (reply self.now (Calls.show_at place out.old)).answer }
         ensures left { self.now ≡ (reply self.now (Calls.show_at place out.old)).dispatcher }
@@ -98,6 +99,7 @@ impl Dispatcher {
 
     // Closing at a place.
     // Ruled out: a byte of the search left in the place; another place, or the place last served, changed.
+    #[tactic(auto, using(crate::specs::Cases::close_refused, crate::specs::Cases::close_done))]
     pub fn close(&mut self, place: usize) -> Result<(), Refusal>
         ensures answer { means result ≡ (reply self.old (Calls.close_at place)).answer }
         ensures left { self.new ≡ (reply self.old (Calls.close_at place)).dispatcher }

@@ -13,9 +13,9 @@ use search::State;
 
 // Where the first place after `last`, in cyclic order, stands that is seen to hold what is wanted, counted from 0.
 pub(crate) fn first_after(seen: &[State; PLACES], last: usize, wanted: State) -> Option<usize>
-    requires { last ≤ 8 }
-    ensures found { result ≡ place_of (first_after (is_at seen.now wanted) 8 last) }
-    ensures within { IfSome result (λ at. at < 8) }
+    requires { last ≤ PLACES }
+    ensures found { result ≡ place_of (first_after (is_at seen.now wanted) PLACES last) }
+    ensures within { IfSome result (λ at. at < PLACES) }
 {
     let (before, after) = seen.split_at(last);
     after
@@ -25,13 +25,15 @@ pub(crate) fn first_after(seen: &[State; PLACES], last: usize, wanted: State) ->
         .map(|k| (last + k) % PLACES)
 }
 
+// Does a place that was seen fail its check?
 fn any_broken(seen: &[State; PLACES]) -> bool
     ensures { result ≡ any_seen_broken seen.now }
 {
-    seen.iter().any(|x| *x == State::Broken)
+    seen.contains(&State::Broken)
 }
 
 impl Dispatcher {
+    // What each place holds. Here and below a clause `laid` hands on what the language's types say of the places: it is known where they are read.
     fn states(&self) -> [State; PLACES]
         ensures laid { Laid self.now }
         ensures seen { result ≡ map state_in self.now.places }
@@ -45,25 +47,20 @@ impl Dispatcher {
         ensures seen { Surveys self.now result }
     {
         let seen = self.states();
-        if self.last > PLACES || any_broken(&seen) {
-            return Err(Refusal::Record);
-        }
+        Refusal::Record.unless(self.last <= PLACES && !any_broken(&seen))?;
         Ok(seen)
     }
 
     // Where the search at a place to tell, show or close stands. Each of these is this test and the search's own call: a closure around two
     // lines would be no plainer, and close changes what the others read.
+    #[tactic(auto, using(crate::specs::Cases::held_24, crate::specs::Cases::fault_42, crate::specs::Cases::fault_20, crate::specs::Cases::fault_0, lent_records::specs::Places::place_some, lent_records::specs::Places::place_none))]
     pub(crate) fn holding(&self, place: usize) -> Result<usize, Refusal>
         ensures laid { Laid self.now }
         ensures held { AtPlace number (held_fault self.now place) place result }
     {
         let seen = self.survey()?;
-        let Some(at) = place_of(place) else {
-            return Err(Refusal::Place);
-        };
-        if seen[at] == State::Empty {
-            return Err(Refusal::NotOpen);
-        }
+        let at = place_of(place).ok_or(Refusal::Place)?;
+        Refusal::NotOpen.unless(seen[at] != State::Empty)?;
         Ok(at)
     }
 }

@@ -13,6 +13,7 @@ use graph::Graph;
 use machine::Settings;
 
 // The place that was added.
+// Ruled out: another place; the place as the call's number.
 impl From<usize> for Reply {
     ghost use Rattle.std.specs.Prelude.{◌≡◌, Ok};
     ghost use Rattle.dispatcher.specs.Replies.{add_means};
@@ -29,6 +30,7 @@ impl From<usize> for Reply {
 }
 
 // The place that a turn served, if it served one.
+// Ruled out: 0 as the number of an idle turn; a place that was not served.
 impl From<Option<usize>> for Reply {
     ghost use Rattle.std.specs.Prelude.{◌≡◌, Ok};
     ghost use Rattle.dispatcher.specs.Replies.{turn_means};

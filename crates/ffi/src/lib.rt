@@ -1,6 +1,6 @@
-// The calls for C, C++, Rust and Python, as include/planner.h has them: a graph goes in by value, a record or a graph to be filled is lent, and each
-// call but planner_simulate answers with the same four numbers: document 01's number, 0 where the call is accepted, and the place, the value and the
-// count of nodes, 0 where the answer has none.
+// The calls for C, C++, Rust and Python, as include/planner.h has them: a graph goes in by value, a record or a graph to be filled is lent. The three fresh
+// calls answer a record, planner_simulate four numbers of its own, and every other call the same four: document 01's number, 0 where the call is accepted,
+// and the place, the value and the count of nodes, 0 where the answer has none.
 #![tactic(auto)]
 
 ghost use Rattle.std.specs.Prelude.{◌≡◌, length};
@@ -31,6 +31,7 @@ pub(crate) enum Outcome {
     Idle = 1005,
 }
 
+// Ruled out: the number of another outcome; the number of a refusal.
 impl From<Outcome> for u32 {
     ghost from_gives = { λ outcome n. n ≡ number_of outcome };
 
@@ -64,6 +65,7 @@ impl Reply {
 }
 
 // A call that has nothing to tell.
+// Ruled out: a number other than 0; a place or a value.
 impl From<()> for Reply {
     ghost use Rattle.ffi.specs.Answers.{plain};
 
@@ -74,6 +76,7 @@ impl From<()> for Reply {
     }
 }
 
+// Ruled out: the number of another outcome; a count of nodes beside it.
 impl From<Outcome> for Reply {
     ghost use Rattle.ffi.specs.Answers.{plain};
     ghost use Rattle.ffi.specs.Outcomes.{number_of};
@@ -85,6 +88,7 @@ impl From<Outcome> for Reply {
     }
 }
 
+// Ruled out: a place left out; the number of another refusal.
 impl From<Refused> for Reply {
     ghost use Rattle.std.specs.Option.{unwrap_or};
     ghost use Rattle.graph.specs.Refusals.{number};
@@ -101,6 +105,7 @@ impl From<Refused> for Reply {
     }
 }
 
+// Ruled out: the number of another refusal; a place other than 0.
 impl From<Refusal> for Reply {
     ghost use Rattle.graph.specs.Refusals.{number};
     ghost use Rattle.ffi.specs.Answers.{plain};
@@ -113,6 +118,7 @@ impl From<Refusal> for Reply {
 }
 
 // What was told, or why it was refused: each has its numbers above, or beside the calls that tell it.
+// Ruled out: other numbers than those of what was told; other numbers than those of the refusal.
 impl<T: Into<Reply>, E: Into<Reply>> From<Result<T, E>> for Reply {
     ghost use Rattle.std.specs.Prelude.{MatchResult};
 

@@ -1,5 +1,4 @@
 // Recent costs: a lent graph gets the costs that a log makes (document 02, C-22).
-ghost use Rattle.std.specs.Prelude.{◌≡◌};
 ghost use Rattle.ffi.specs.Answers.{RecentFills};
 
 use crate::Reply;

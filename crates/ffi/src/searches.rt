@@ -9,6 +9,7 @@ use graph::Graph;
 use machine::Settings;
 use search::{Progress, Search, Verdict};
 
+// Ruled out: 'finished' for a search that goes on; another count of nodes.
 impl From<Progress> for Reply {
     ghost use Rattle.std.specs.Prelude.{◌≡◌, Ok};
     ghost use Rattle.search.specs.Replies.{run_means};
@@ -24,6 +25,7 @@ impl From<Progress> for Reply {
     }
 }
 
+// Ruled out: a cost where there is no tour; 'none' for a search that goes on.
 impl From<Verdict> for Reply {
     ghost use Rattle.std.specs.Prelude.{◌≡◌, Ok};
     ghost use Rattle.search.specs.Replies.{tell_means};

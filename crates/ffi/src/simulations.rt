@@ -19,6 +19,7 @@ pub struct Sailed {
     pub state: u64,
 }
 
+// Ruled out: a total beside a refusal's number; the last state as the total.
 impl From<Result<simulation::Sailed, Refusal>> for Sailed {
     ghost use Rattle.std.specs.Prelude.{◌≡◌};
     ghost use Rattle.simulation.specs.Answers.{simulation_meaning};

@@ -8,6 +8,7 @@ ghost use Rattle.ffi.specs.Answers.{said_reply};
 use crate::{Outcome, Reply};
 use graph::Graph;
 
+// Ruled out: a bound beside the number of 'no tree'; that number beside a bound of 0.
 impl From<Option<i64>> for Reply {
     ghost use Rattle.std.specs.Prelude.{◌≡◌};
     ghost use Rattle.ffi.specs.Answers.{said_bound};

@@ -2,7 +2,7 @@
 use Rattle.std.specs.Prelude.{ℕ, zero, suc, ◌+◌, ◌<◌, ◌≤◌, ◌≡◌, refl, Bool, true, false, ◌&&◌, List, [], ◌∷◌, leb, min, length, get_or, set, take, replicate, pos}
 use Rattle.std.specs.List.{fold, zip}
 use Rattle.std.proofs.Common.{sym, ◌∙◌, ap, arith, length-set, leb-true, le-leb, true≢false}
-use Rattle.std.proofs.lemmas.List.{get_or-take, length-take}
+use Rattle.std.proofs.lemmas.List.{get_or-take, length-replicate, length-take}
 use Rattle.std.proofs.lemmas.List.Folds.{fold_stays}
 use Rattle.std.proofs.lemmas.Slice.Zip.{length-zip, get_or-zip}
 use Rattle.lists.specs.Bools.{Says, bit, and_both, by_cases}
@@ -93,47 +93,50 @@ parts_fit g = (sized g && ends_fit g) && costs_fit g
 
 -- ---- the loop over the pairs
 
--- after k edges: the pairs met are noted, and as many were met again as `again` says
-pub record Passed (a b : List ℕ) (m : ℕ) (met : List ℕ) (again k : ℕ) : Type 0 where
+-- after k edges: the pairs met are noted, in the table's words for yes and no, and as many were met again as `again` says
+pub record Passed {A : Type 0} (say : Bool → A) (a b : List ℕ) (m : ℕ) (met : List A) (again k : ℕ) : Type 0 where
   pub few : m ≤ max_edges
   pub in_table : InPairs a b m
   pub at_most : k ≤ m
   pub size : length met ≡ 441
-  pub noted : Noted a b k met
+  pub noted : Noted say a b k met
   pub counted : again ≡ hits (pair_again a b) k
 
-pub passed_none : (a b : List ℕ) (m : ℕ) → m ≤ max_edges → InPairs a b m → Passed a b m (replicate 441 0) 0 0
-passed_none a b m few fit = record {
+pub passed_none : {A : Type 0} (say : Bool → A) (a b : List ℕ) (m : ℕ) → m ≤ max_edges → InPairs a b m
+    → Passed say a b m (replicate 441 (say false)) 0 0
+passed_none say a b m few fit = record {
   few = few;
   in_table = fit;
   at_most = omega arith;
-  size = refl;
-  noted = noted_none a b 441;
+  size = length-replicate 441 (say false);
+  noted = noted_none say a b 441;
   counted = hits_none (pair_again a b);
 }
 
--- p is the place of the pair at k
-module _ (a b : List ℕ) (m : ℕ) (met : List ℕ) (again k p : ℕ) (s : Passed a b m met again k) (l : k < m)
-    (at : p ≡ place_of (get_or a k 0) (get_or b k 0)) where
+-- where a yes counts 1 and a no 0, and p is the place of the pair at k
+module _ {A : Type 0} (say : Bool → A) (count : A → ℕ) (counts : (t : Bool) → count (say t) ≡ bit t) (a b : List ℕ) (m : ℕ) (met : List A)
+    (again k p : ℕ) (s : Passed say a b m met again k) (l : k < m) (at : p ≡ place_of (get_or a k 0) (get_or b k 0)) where
   pub place_in : p < 441
   place_in = omega (arith, (s.in_table k l).0, (s.in_table k l).1)
 
-  said : get_or met p 0 ≡ bit (pair_again a b k)
-  said = ap (λ (i : ℕ). get_or met i 0) at ∙ noted-at a b k met (get_or a k 0) (get_or b k 0) s.noted (s.in_table k l).1
+  said : count (get_or met p (say false)) ≡ bit (pair_again a b k)
+  said =
+      ap count (ap (λ (i : ℕ). get_or met i (say false)) at ∙ noted-at say a b k met (get_or a k 0) (get_or b k 0) s.noted (s.in_table k l).1)
+      ∙ counts (pair_again a b k)
 
-  pub counted-more : again + get_or met p 0 ≡ hits (pair_again a b) (k + 1)
-  counted-more = hits_next (pair_again a b) k again (get_or met p 0) s.counted said
+  pub counted-more : again + count (get_or met p (say false)) ≡ hits (pair_again a b) (k + 1)
+  counted-more = hits_next (pair_again a b) k again (count (get_or met p (say false))) s.counted said
 
-  pub counted_most : again + get_or met p 0 ≤ 190
-  counted_most = omega (arith, next_most (pair_again a b) k again (get_or met p 0) s.counted said, s.few)
+  pub counted_most : again + count (get_or met p (say false)) ≤ 190
+  counted_most = omega (arith, next_most (pair_again a b) k again (count (get_or met p (say false))) s.counted said, s.few)
 
-  pub passed-more : Passed a b m (set met p 1) (again + get_or met p 0) (k + 1)
+  pub passed-more : Passed say a b m (set met p (say true)) (again + count (get_or met p (say false))) (k + 1)
   passed-more = record {
     few = s.few;
     in_table = s.in_table;
     at_most = omega arith;
-    size = length-set met p 1 ∙ s.size;
-    noted = rw at (noted_more a b k met (omega (arith, place_in, s.size)) (s.in_table k l).1 s.noted);
+    size = length-set met p (say true) ∙ s.size;
+    noted = rw at (noted_more say a b k met (omega (arith, place_in, s.size)) (s.in_table k l).1 s.noted);
     counted = counted-more;
   }
 

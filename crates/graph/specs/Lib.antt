@@ -9,6 +9,8 @@ pub mod Refusals
 -- What follows is proved, or says what code knows.
 -- how large numbers get: laws over the limits
 pub mod Fits
+-- an edge's number, and its place
+pub mod Numbered
 -- the test is the statement; the network by its places, and a graph by its parts
 pub mod Meaning
 pub mod Places

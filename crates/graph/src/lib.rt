@@ -1,8 +1,10 @@
 // Document 01's 'Legs and marks'. Our words: graph for chart or sea, vertex for buoy, edge for leg.
 #![tactic(auto)]
 
-ghost use Rattle.std.specs.Prelude.{◌≡◌};
+ghost use Rattle.std.specs.Prelude.{◌≡◌, ◌<◌, IfSome};
 ghost use Rattle.graph.specs.Edgeless.{edgeless};
+ghost use Rattle.graph.specs.Numbered.{edge_place};
+ghost use Rattle.graph.specs.Valid.{Valid};
 
 mod refusals;
 mod valid;
@@ -67,4 +69,23 @@ impl Graph {
     {
         Graph::edgeless(0)
     }
+
+    // The place of the edge of this number, 1 to m; none for another number.
+    // Ruled out: none for edge m; a place for 0.
+    #[tactic(auto, unfolding(crate::specs::Numbered::edge_place))]
+    pub fn place(&self, edge: usize) -> Option<usize>
+        ensures place { result ≡ edge_place self.now.m edge }
+        ensures within { IfSome result (λ at. at < self.now.m) }
+    {
+        // 0 wraps round to what is no place; by `checked_sub` and `filter` it takes two instructions more
+        let place = edge.wrapping_sub(1);
+        (place < usize::from(self.m)).then_some(place)
+    }
+}
+
+// A graph, lent, that keeps to 'Legs and marks'.
+#[derive(Clone, Copy)]
+pub struct ValidGraph<'a> {
+    pub graph: &'a Graph,
+    pub ghost valid: { Valid graph.now },
 }

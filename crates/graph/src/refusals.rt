@@ -1,6 +1,6 @@
 // Why a call is refused: the documents' refusals, with their numbers.
-ghost use Rattle.std.specs.Prelude.{◌≡◌, None};
-ghost use Rattle.graph.specs.Refusals.{number};
+ghost use Rattle.std.specs.Prelude.{◌≡◌, None, Some, cond, OnOk, true};
+ghost use Rattle.graph.specs.Refusals.{number, fault_of};
 
 // The order of the numbers is not that in which a call tests: each call's own definition says which comes first.
 #[derive(Clone, Copy, Debug, PartialEq, Eq)]
@@ -43,6 +43,28 @@ pub enum Refusal {
     Place = 42,
 }
 
+impl Refusal {
+    // This refusal, unless what is asked fits.
+    // Ruled out: a refusal of what fits; none of what does not, or another.
+    pub fn unless(self, fits: bool) -> Result<(), Refusal>
+        ensures fault { fault_of result ≡ cond fits 0 (number self) }
+        ensures fits { OnOk result (fits ≡ true) }
+    {
+        if fits { Ok(()) } else { Err(self) }
+    }
+
+    // This refusal, of this place.
+    // Ruled out: another refusal; the place after it.
+    pub fn at(self, place: u64) -> Refused
+        ensures { result ≡ record { refusal = self; place = Some place } }
+    {
+        Refused {
+            refusal: self,
+            place: Some(place),
+        }
+    }
+}
+
 // The documents' number. Ruled out: another refusal's; one counted from 0.
 impl From<Refusal> for u32 {
     ghost from_gives = { λ refusal n. n ≡ number refusal };
@@ -59,7 +81,7 @@ pub struct Refused {
     pub place: Option<u64>,
 }
 
-// Without a place.
+// Without a place. Ruled out: another refusal; a place that the refusal is not about.
 impl From<Refusal> for Refused {
     ghost from_gives = { λ refusal refused. refused ≡ record { refusal = refusal; place = None } };
 

@@ -6,7 +6,5 @@ pub mod Sorted
 pub mod Slices
 -- faults, one after the other
 pub mod Faults
--- an array with zeros from a place on
-pub mod Cleared
 -- laws that no proof cites today
 mod Further

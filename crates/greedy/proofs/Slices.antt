@@ -5,7 +5,7 @@ use Rattle.std.proofs.lemmas.List.{get_or-take, get_or-drop, length-take-le}
 use Rattle.graph.specs.declared.Graph.{Graph}
 use Rattle.lists.specs.Sorting.{Ascending}
 use Rattle.greedy.specs.declared.charges.ChargedGraph.{ChargedGraph}
-use Rattle.greedy.specs.Keys.{AllKeyed, far_keys, near_at, far_at, keyed_small, SamePlaces, queued, queued-same}
+use Rattle.greedy.specs.Keys.{AllKeyed, KeysOfEdges, far_keys, near_at, far_at, keyed_small, SamePlaces, queued, queued-same}
 use Rattle.greedy.specs.Parting.{Reached, unraised, raised_at, same-places, near_keyed, near_ascends, far_keyed, far_ascends}
 use Rattle.greedy.specs.Queue.{InKeyOrder}
 use Rattle.greedy.specs.Required.{Small, far-small}
@@ -30,7 +30,12 @@ taken-small n r xs h s =
       λ l. rw (get_or-take n xs r 0 l) at (s.2 (omega (arith, size))),
     )
 
-module _ (g : Graph) (c ks : List ℕ) (k : KeysOf g c ks) (p : ℕ) (s : Reached ks (length ks) far_keys p) where
+pub taken-edges : (g : Graph) (n : ℕ) (xs : List ℕ) → n ≤ length xs → KeysOfEdges g xs → KeysOfEdges g (take n xs)
+taken-edges g n xs h e =
+    let size : length (take n xs) ≡ n = length-take-le n xs h in
+    (omega (arith, size, h, e.0), λ i l. rw (get_or-take n xs i 0 (omega (arith, size, l))) (e.1 i (omega (arith, size, l, h))))
+
+module _ {g : Graph} {c ks : List ℕ} (k : KeysOf g c ks) (p : ℕ) (s : Reached ks (length ks) far_keys p) where
   abbrev f : ℕ
   f = length ks
 
@@ -80,8 +85,8 @@ module _ (g : Graph) (c ks : List ℕ) (k : KeysOf g c ks) (p : ℕ) (s : Reache
   })
 
   -- each is the key of an edge
-  pub near-edge : (i : ℕ) → i < f → get_or ks i 0 % 256 < g.m
-  near-edge i h = keyed_small g c ks f k.keyed small i h
+  pub all_edges : KeysOfEdges g ks
+  all_edges = (omega (arith, k.keyed.few, k.valid.few), keyed_small g c ks f k.keyed small)
 
-  pub away-edge : (i : ℕ) → i < length away → get_or away i 0 % 256 < g.m
-  away-edge i h = rw (away-at i h) (near-edge (p + i) (at i h))
+  pub away-edges : KeysOfEdges g away
+  away-edges = (omega (arith, away-length, all_edges.0), λ i h. rw (away-at i h) (all_edges.1 (p + i) (at i h)))

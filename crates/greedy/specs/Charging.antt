@@ -11,7 +11,7 @@ use Rattle.integers.specs.Range.{InRange, within_range}
 use Rattle.integers.specs.Sums.{sum_z, twice}
 use Rattle.integers.specs.Multiples.{◌times◌}
 use Rattle.graph.specs.declared.Graph.{Graph}
-use Rattle.graph.specs.Limits.{max_cost, max_multiplier}
+use Rattle.graph.specs.Limits.{max_cost, max_multiplier, max_edges}
 use Rattle.graph.specs.Network.{network}
 use Rattle.graph.specs.Places.{network_a, network_b, network-cost}
 use Rattle.graph.specs.Valid as value
@@ -53,6 +53,11 @@ ChargeOf q a b cost d x = IsDiff ((q times cost +ℤ multiplier d a) +ℤ multip
 -- the first n places of c have the charges of the graph's edges
 abbrev pub ChargesOf : ℕ → Graph → List ℤ → List ℕ → ℕ → Type 0
 ChargesOf q g d c n = (k : ℕ) → k < n → ChargeOf q (get_or g.a k 0) (get_or g.b k 0) (get_or g.cost k (pos 0)) d (get_or c k 0)
+
+-- every edge's charge, and past the edges what stood there
+abbrev pub AllCharged : ℕ → Graph → List ℤ → List ℕ → List ℕ → Type 0
+AllCharged q g d before after =
+    ChargesOf q g d after g.m × (length after ≡ max_edges) × ((k : ℕ) → g.m ≤ k → get_or after k 0 ≡ get_or before k 0)
 
 -- one more place
 pub charges_more : (q : ℕ) (g : Graph) (d : List ℤ) (c : List ℕ) (n x : ℕ) → n < length c → ChargesOf q g d c n

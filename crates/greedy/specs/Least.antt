@@ -3,7 +3,8 @@
 --   Weighed           what stands in the lists where there is no fault, whether there is a 1-tree or not
 --   TreeFound         the least 1-tree is found
 --   NoTree            there is none
---   Leaves            all of these by the answer
+--   Finds             either of these by the answer
+--   Leaves            and what a fault leaves
 --   LeastOrRefused    and which answer it is
 --   Searched          what the search for the tree itself comes to, before a tree that is none is wiped out
 use Rattle.std.specs.Prelude.{◌≡◌, refl, ◌⊎◌, List, ℕ, ◌<◌, ◌≤◌, length, get_or, replicate, ℤ, Option, None, Some, Result, Ok, Err}
@@ -57,11 +58,14 @@ pub record NoTree (q : ℕ) (g : Graph) (d : List ℤ) (after : Lists) : Type 0 
   pub tree : after.tree ≡ blank
   pub order : after.order ≡ blank
 
+abbrev pub Finds : ℕ → Graph → List ℤ → Option Found → Lists → Type 0
+Finds q g d None after = NoTree q g d after
+Finds q g d (Some r) after = TreeFound q g d r after
+
 -- a fault changes nothing
 abbrev pub Leaves : ℕ → Graph → List ℤ → Lists → Result (Option Found) Refusal → Lists → Type 0
 Leaves q g d before (Err fault) after = after ≡ before
-Leaves q g d before (Ok None) after = NoTree q g d after
-Leaves q g d before (Ok (Some r)) after = TreeFound q g d r after
+Leaves q g d before (Ok r) after = Finds q g d r after
 
 -- the lists are the caller's own, so none that is lent can be of wrong length. Document 02, C-17: "32 when q is out of range" comes after the faults of
 -- the other input

@@ -20,7 +20,7 @@ use Rattle.tree_theory.specs.OneTree.{Edges, others, away}
 use Rattle.tree_theory.specs.Inputs.{multiplier}
 use Rattle.tree_theory.specs.Scaled.{scaled_by}
 use Rattle.tree_theory.specs.Scaling.{valid_scaled}
-use Rattle.tree_theory.specs.Valid.{is_free, is_required, needed, is_near, far, far_in, in_far, far_within, in_others, distinct-others, length-others, free_not, free_is, required_not}
+use Rattle.tree_theory.specs.Valid.{is_free, is_required, needed, is_near, far, far_in, in_far, far_within, two_in, distinct-others, length-others, free_not, free_is, required_not}
 use Rattle.tree_theory.specs.Arrays.{network_n, needed-at, network-valid}
 use Rattle.tree_theory.specs.Looked.{required_among, free_among, Before, Sorted, InOrder, Looked}
 use Rattle.tree_theory.specs.Looking.{rank_at, looked_by_rank}
@@ -110,11 +110,8 @@ module _ (g : Graph) (c ks : List ℕ) (f : ℕ) (o : InKeyOrder g (far_at g.a) 
     abbrev size : length (others G) + 1 ≡ G.n
     size = length-others G (omega (arith, network_n g, v.low))
 
-    abbrev two : 2 ∈ others G
-    two = in_others G 2 (omega arith) (omega (arith, network_n g, v.low))
-
     pub rank-top : rank G.a G.b (queued ks i) + 2 ≤ g.n
-    rank-top = omega (arith, rank_most G.a G.b (others G) (queued ks i) (distinct-others G) (inside i h) 2 two, size, network_n g)
+    rank-top = omega (arith, rank_most G.a G.b (others G) (queued ks i) (distinct-others G) (inside i h) 2 (two_in G (network-valid g v)), size, network_n g)
 
     pub stopped : (xs w : List ℕ) (far sum : ℕ) → (i < f → g.n ≤ far + 2) → TakenGreedily G c xs (queued ks i) w far sum
         → TakenGreedily G c xs (queued ks f) w far sum
@@ -132,7 +129,7 @@ module _ (g : Graph) (c ks : List ℕ) (f : ℕ) (o : InKeyOrder g (far_at g.a) 
         go : Dec (i < f) → TakenGreedily G c xs (queued ks f) w far sum
         go (no n) = let e : i ≡ f = omega arith in subst (λ (x : ℕ). TakenGreedily G c xs (queued ks x) w far sum) e t
         go (yes l) = rw split (grow_none G c xs (queued ks i) w far sum t (later ks i (f - i))
-            (rank-inside G.a G.b (others G) (queued ks i) (distinct-others G) (inside i h) 2 two
+            (rank-inside G.a G.b (others G) (queued ks i) (distinct-others G) (inside i h) 2 (two_in G (network-valid g v))
             (omega (arith, full l, t.joined, rank-top, size, network_n g)) (later ks i (f - i)) rest))
 
   -- ---- at how many free edges it looked

@@ -1,43 +1,41 @@
 // Charged costs, each moved up by one offset so that it is unsigned, and the bound that a sum of them stands for; multipliers count in q-ths of a
 // minute (document 02, C-17).
-ghost use Rattle.std.specs.Prelude.{◌≡◌, ℕ, ◌+◌, ◌*◌, ◌<◌, ◌≤◌, length, get_or, ◌+ℤ◌};
+ghost use Rattle.std.specs.Prelude.{◌≡◌, ℕ, ◌*◌, ◌<◌, ◌≤◌, length, get_or, ◌+ℤ◌};
 ghost use Rattle.integers.specs.Parts.{IsDiff};
 ghost use Rattle.integers.specs.Range.{InRange};
 ghost use Rattle.integers.specs.Multiples.{◌times◌};
-ghost use Rattle.graph.specs.Limits.{max_cost, max_multiplier, max_denominator, max_edges, max_vertices};
+ghost use Rattle.graph.specs.Limits.{max_cost, max_multiplier, max_edges, max_vertices};
 ghost use Rattle.graph.specs.Valid.{Valid};
 ghost use Rattle.tree_theory.specs.Inputs.{multiplier};
 ghost use Rattle.tree_theory.specs.Multipliers.{Ranged};
 ghost use Rattle.greedy.specs.Charged.{offset, max_scaled, max_charge, Cheap};
-ghost use Rattle.greedy.specs.Charging.{ChargesOf, Raised, BoundOf};
+ghost use Rattle.greedy.specs.Charging.{AllCharged, Raised, BoundOf};
 
-use crate::{Checked, MAX_MULTIPLIER, MAX_SCALED};
+use crate::{Checked, Denominator, MAX_MULTIPLIER, MAX_SCALED};
 use graph::{Graph, MAX_EDGES};
 
 // What a charge is moved up by for its cost: one more than that, so that no charge is 0.
 const COST_OFFSET: u64 = MAX_SCALED + 1;
 
-// q times a cost, moved up by its limit.
-fn raised_cost(q: u64, x: i32) -> u64
-    requires { (q ≤ max_denominator) × InRange max_cost x }
-    ensures { IsDiff (q times x) result max_scaled × (result ≤ 2 * max_scaled) }
+// And for the multiplier of each end.
+const MULTIPLIER_OFFSET: u64 = MAX_MULTIPLIER as u64;
+
+// A number moved up by its limit. In 64 bits, so that the compiler makes one number of all that a charge is moved up by.
+fn raised(x: i64, limit: u64) -> u64
+    requires { (limit ≤ max_scaled) × InRange limit x }
+    ensures { IsDiff x result limit × (result ≤ 2 * limit) }
 {
-    ((q as i64) * i64::from(x) + MAX_SCALED as i64) as u64
+    (x + limit as i64) as u64
 }
 
-// A multiplier likewise. In 64 bits, so that the compiler makes one number of all that a charge is moved up by.
-fn raised(x: i32) -> u64
-    requires { InRange max_multiplier x }
-    ensures { IsDiff x result max_multiplier × (result ≤ 2 * max_multiplier) }
+fn charge(q: Denominator, cost: i32, x: i32, y: i32) -> u64
+    requires { InRange max_cost cost × InRange max_multiplier x × InRange max_multiplier y }
+    ensures { IsDiff ((q.q times cost +ℤ x) +ℤ y) result offset × (1 ≤ result) × (result ≤ max_charge) }
 {
-    (i64::from(x) + i64::from(MAX_MULTIPLIER)) as u64
-}
-
-fn charge(q: u64, cost: i32, x: i32, y: i32) -> u64
-    requires { (q ≤ max_denominator) × InRange max_cost cost × InRange max_multiplier x × InRange max_multiplier y }
-    ensures { IsDiff ((q times cost +ℤ x) +ℤ y) result offset × (1 ≤ result) × (result ≤ max_charge) }
-{
-    raised_cost(q, cost) + raised(x) + raised(y) + 1
+    raised(q.q as i64 * i64::from(cost), MAX_SCALED)
+        + raised(x.into(), MULTIPLIER_OFFSET)
+        + raised(y.into(), MULTIPLIER_OFFSET)
+        + 1
 }
 
 // The multiplier of vertex v.
@@ -49,10 +47,10 @@ fn multiplier_at(multipliers: &[i32], v: u8) -> i32
 }
 
 impl Checked<'_> {
-    // Every edge's charge. By index: a loop's invariant can't name what `iter_mut` lends through `zip`.
-    fn charge_each(&self, q: u64, charges: &mut [u64; MAX_EDGES])
-        requires { q ≤ max_denominator }
-        ensures { ChargesOf q self.now.graph.now self.now.multipliers.now charges.new self.now.graph.now.m × (length charges.new ≡ max_edges) }
+    // Every edge's charge. By place: three arrays are read and one is written; over `charges[..m].iter_mut().enumerate()` the other three are still read so,
+    // and the invariant names a part of the charges, which the proof must put back. Their length is said, since a caller that lends a field is not told it.
+    fn charge_each(&self, q: Denominator, charges: &mut [u64; MAX_EDGES])
+        ensures { AllCharged q.q self.now.graph.now self.now.multipliers.now charges.old charges.new }
     {
         let Checked {
             graph: g,
@@ -65,18 +63,16 @@ impl Checked<'_> {
         }
     }
 
-    // The same, and zeros past the edges. Multipliers mostly count in minutes: with the number 1 itself the compiler leaves the product out.
-    pub(crate) fn charge(&self, q: u64, charges: &mut [u64; MAX_EDGES])
-        requires { q ≤ max_denominator }
-        ensures { ChargesOf q self.now.graph.now self.now.multipliers.now charges.new self.now.graph.now.m
-            × ((k : ℕ) → self.now.graph.now.m ≤ k → get_or charges.new k 0 ≡ 0) × (length charges.new ≡ max_edges) }
+    // The same. Multipliers mostly count in minutes: with the number 1 itself the compiler leaves the product out. Without this a tree or a pass takes 53
+    // instructions more at 8 vertices, 376 at 20.
+    pub(crate) fn charge(&self, q: Denominator, charges: &mut [u64; MAX_EDGES])
+        ensures { AllCharged q.q self.now.graph.now self.now.multipliers.now charges.old charges.new }
     {
-        if q == 1 {
-            self.charge_each(1, charges);
+        if q.q == 1 {
+            self.charge_each(Denominator { q: 1 }, charges);
         } else {
             self.charge_each(q, charges);
         }
-        charges[usize::from(self.graph.m)..].fill(0);
     }
 
     // The bound of a 1-tree whose charges add up to sum: what each was moved up by for its cost comes off, for as many edges as there are vertices, and twice
@@ -101,13 +97,15 @@ pub(crate) struct ChargedGraph<'a> {
 }
 
 // The sum of the multipliers, each moved up by its limit.
+#[tactic(auto, using(crate::specs::Charging::raised_none, crate::specs::Fits::raised_sum_fits))]
 fn total(multipliers: &[i32]) -> u64
     requires { Ranged multipliers.now × (length multipliers.now ≤ max_vertices) }
     ensures { Raised multipliers.now (length multipliers.now) result }
 {
+    // a loop: the law of `sum` after `map` wants a function of the item, and what `raised` promises is a relation
     let mut sum = 0;
     for x in multipliers {
-        sum += raised(*x);
+        sum += raised(i64::from(*x), MULTIPLIER_OFFSET);
     }
     sum
 }

@@ -6,12 +6,13 @@ ghost use Rattle.tree_theory.specs.Inputs.{input_fault};
 ghost use Rattle.tree_theory.specs.Multipliers.{Ranged};
 
 use crate::charges::ChargedGraph;
-use crate::refusals::{denominator_fault, input_fault};
-use crate::{Found, Lists, Outcome, order};
-use arrayvec::ArrayVec;
-use graph::{Graph, MAX_EDGES, Refusal};
+use crate::order::{self, Meeting};
+use crate::refusals::input_fault;
+use crate::{Denominator, Found, Lists, Outcome};
+use graph::{Graph, Refusal};
 
-// A graph and its multipliers, lent, which the refusals 15, 11 and 12 do not meet.
+// A graph and its multipliers, lent, which the refusals 15, 11 and 12 do not meet. No `ValidGraph`, here nor in `ChargedGraph` or onetree's `LeastTree`: each
+// contract would say `graph.graph.now` for `graph.now`. Calls are lent the graph, the multipliers and the denominator one by one, as C has them.
 #[derive(Clone, Copy)]
 pub struct Checked<'a> {
     pub graph: &'a Graph,
@@ -37,32 +38,31 @@ impl<'a> Checked<'a> {
         Ok(Checked { graph, multipliers })
     }
 
-    ghost use Rattle.std.specs.Prelude.{◌≤◌};
-    ghost use Rattle.graph.specs.Limits.{max_denominator};
     ghost use Rattle.graph.specs.Network.{network};
-    ghost use Rattle.tree_theory.specs.Arrays.{blank};
-    ghost use Rattle.tree_theory.specs.Inputs.{denominator_fault, multiplier};
+    ghost use Rattle.tree_theory.specs.Inputs.{multiplier};
     ghost use Rattle.tree_theory.specs.Looked.{Looked};
     ghost use Rattle.tree_theory.specs.Scaled.{scaled_by};
-    ghost use Rattle.greedy.specs.Least.{Leaves, Searched};
+    ghost use Rattle.greedy.specs.Least.{blank_lists, Finds, Searched};
 
-    // The least 1-tree, one byte an edge, and the order in which edges were looked at, into lists where these are zero before; the charges; and the labels
-    // that required edges give the vertices.
-    fn find(&self, q: u64, hint: &[u8], lists: &mut Lists) -> Outcome
-        requires { (lists.old.tree ≡ blank) × (lists.old.order ≡ blank) × (q ≤ max_denominator) }
-        ensures { Searched q self.now.graph.now self.now.multipliers.now result.found lists.new
-            × Looked (scaled_by q (network self.now.graph.now)) (multiplier self.now.multipliers.now) result.looked }
+    // The least 1-tree, one byte an edge, the order in which edges were looked at, the charges, and the labels that required edges give the vertices, into
+    // lists that are zero before.
+    fn find(&self, q: Denominator, hint: &[u8], lists: &mut Lists) -> Outcome
+        requires { lists.old ≡ blank_lists }
+        ensures { Searched q.q self.now.graph.now self.now.multipliers.now result.found lists.new
+            × Looked (scaled_by q.q (network self.now.graph.now)) (multiplier self.now.multipliers.now) result.looked }
     {
         self.charge(q, &mut lists.charges);
         let charged = ChargedGraph {
             graph: self.graph,
             charges: &lists.charges,
         };
-        let mut keys = ArrayVec::new();
-        charged.order(hint, &mut keys);
-        order::places(keys.as_slice(), &mut lists.order);
-        let chosen = charged.choose(keys.as_slice(), &mut lists.tree, &mut lists.labels);
+        let mut meeting = Meeting::none();
+        charged.order(hint, &mut meeting);
+        let keys = meeting.keys.as_slice();
+        order::places(keys, &mut lists.order);
+        let chosen = charged.choose(keys, &mut lists.tree, &mut lists.labels);
         let looked = chosen.looked;
+        // no `map`: the contract that is inferred for its closure tells nothing of the bound (tried), and clauses of its own are longer than this `else`
         let Some(sum) = chosen.sum else {
             return Outcome {
                 found: None,
@@ -79,28 +79,18 @@ impl<'a> Checked<'a> {
         }
     }
 
-    // The fault of the denominator; or else the least 1-tree by the greedy choice, from any hint, or that there is none. What was written of a tree that is
-    // none is wiped out.
-    // Ruled out: of two 1-trees of equal bound the one with the higher-numbered edge; a byte changed where there is a fault; a byte of a tree that is none
-    // left standing; a hint that says how many it lists and is wiped out.
-    #[tactic(auto, using(tree_theory::specs::Accepted::denominator_range))]
-    pub fn least(
-        &self,
-        denominator: u64,
-        hint: &[u8],
-        lists: &mut Lists,
-    ) -> Result<Option<Found>, Refusal>
-        ensures fault { fault_of result ≡ denominator_fault denominator }
-        ensures leaves { Leaves denominator self.now.graph.now self.now.multipliers.now lists.old result lists.new }
+    // The least 1-tree by the greedy choice, from any hint, or that there is none. All lists are blanked before all else: the compiler then sees that a
+    // caller need not have done it. What was written of a tree that is none is wiped out.
+    // Ruled out: of two 1-trees of equal bound the one with the higher-numbered edge; a byte of a tree that is none left standing; a hint that says how
+    // many it lists and is wiped out.
+    pub fn least(&self, q: Denominator, hint: &[u8], lists: &mut Lists) -> Option<Found>
+        ensures { Finds q.q self.now.graph.now self.now.multipliers.now result lists.new }
     {
-        denominator_fault(denominator)?;
-        lists.tree = [0; MAX_EDGES];
-        lists.order = [0; MAX_EDGES];
-        let found = self.find(denominator, hint, lists).found;
+        *lists = Lists::blank();
+        let found = self.find(q, hint, lists).found;
         if found.is_none() {
-            lists.tree = [0; MAX_EDGES];
-            lists.order = [0; MAX_EDGES];
+            lists.forget_tree();
         }
-        Ok(found)
+        found
     }
 }

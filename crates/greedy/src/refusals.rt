@@ -1,14 +1,15 @@
 // Refusals 15, 11, 12, 13 and 32: what is wrong with a call's input. Each number is told at one place.
-ghost use Rattle.std.specs.Prelude.{◌≡◌, cond, not};
+ghost use Rattle.std.specs.Prelude.{◌≡◌, ◌≤◌, cond, not, IfOk};
 ghost use Rattle.std.specs.List.{list_all};
 ghost use Rattle.integers.specs.Range.{within};
-ghost use Rattle.graph.specs.Limits.{max_multiplier};
+ghost use Rattle.graph.specs.Limits.{max_denominator, max_multiplier};
 ghost use Rattle.graph.specs.Refusals.{fault_of};
 ghost use Rattle.tree_theory.specs.Inputs.{multipliers_fit, ceiling_fits, denominator_fits, denominator_fault, input_fault};
 
 use crate::{MAX_CEILING, MAX_DENOMINATOR, MAX_MULTIPLIER};
 use graph::{Graph, Refusal};
 
+// A line of its own, and so is the ceiling's, since their types differ: at graph's `cost_ok` stands why.
 #[tactic(auto, using(crate::proofs::Contains::within_contains))]
 fn multiplier_fits(x: i32) -> bool
     ensures { result ≡ within max_multiplier x }
@@ -35,10 +36,7 @@ pub fn multipliers_fit(multipliers: &[i32]) -> bool
 pub fn multipliers_fault(multipliers: &[i32]) -> Result<(), Refusal>
     ensures { fault_of result ≡ cond (not (multipliers_fit multipliers.now)) 12 0 }
 {
-    if !multipliers_fit(multipliers) {
-        return Err(Refusal::Multiplier);
-    }
-    Ok(())
+    Refusal::Multiplier.unless(multipliers_fit(multipliers))
 }
 
 // Is the ceiling in its range?
@@ -55,10 +53,7 @@ pub fn ceiling_fits(ceiling: i64) -> bool
 pub fn ceiling_fault(ceiling: i64) -> Result<(), Refusal>
     ensures { fault_of result ≡ cond (not (ceiling_fits ceiling)) 13 0 }
 {
-    if !ceiling_fits(ceiling) {
-        return Err(Refusal::Ceiling);
-    }
-    Ok(())
+    Refusal::Ceiling.unless(ceiling_fits(ceiling))
 }
 
 // Is the denominator in its range?
@@ -76,10 +71,27 @@ pub fn denominator_fits(denominator: u64) -> bool
 pub fn denominator_fault(denominator: u64) -> Result<(), Refusal>
     ensures { fault_of result ≡ denominator_fault denominator }
 {
-    if !denominator_fits(denominator) {
-        return Err(Refusal::Denominator);
+    Refusal::Denominator.unless(denominator_fits(denominator))
+}
+
+// A denominator that refusal 32 does not meet.
+#[derive(Clone, Copy)]
+pub struct Denominator {
+    pub q: u64,
+    pub ghost low: { 1 ≤ q },
+    pub ghost fits: { q ≤ max_denominator },
+}
+
+impl Denominator {
+    // Ruled out: another number than the one given; 32 at either end of the range.
+    #[tactic(auto, using(tree_theory::specs::Accepted::denominator_range))]
+    pub fn new(denominator: u64) -> Result<Denominator, Refusal>
+        ensures fault { fault_of result ≡ denominator_fault denominator }
+        ensures same { IfOk result (λ d. d.q ≡ denominator) }
+    {
+        denominator_fault(denominator)?;
+        Ok(Denominator { q: denominator })
     }
-    Ok(())
 }
 
 // The first fault of a graph, its multipliers and a lent list of length lent, in document 01's order.
@@ -88,8 +100,6 @@ pub fn input_fault(g: &Graph, multipliers: &[i32], lent: usize) -> Result<(), Re
     ensures { fault_of result ≡ input_fault g.now multipliers.now lent 0 }
 {
     g.fault()?;
-    if multipliers.len() != usize::from(g.n) || lent != usize::from(g.m) {
-        return Err(Refusal::Length);
-    }
+    Refusal::Length.unless(multipliers.len() == usize::from(g.n) && lent == usize::from(g.m))?;
     multipliers_fault(multipliers)
 }

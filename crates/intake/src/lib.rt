@@ -9,7 +9,8 @@ ghost use Rattle.std.specs.Io.KnownBytes.{Consumes, IsAtEnd};
 use std::io;
 use std::io::{Error, ErrorKind, Read};
 
-// Reads again where a signal interrupts a read. Of a reader that gives a byte now and then, it gives up after 2^64 - 1 reads.
+// Reads again where a signal interrupts a read. Counted, since a reader may be interrupted without end and each loop is proved to end; one that may not
+// would ask a handle `Wait`, which this project has not. So it gives up after 2^64 - 1 reads.
 // Ruled out: an input cut short while the buffer has room; a byte left out between two reads.
 pub fn read_full<R: Read>(from: &mut R, buf: &mut [u8]) -> io::Result<usize>
     ensures bound { ReadsAtMost result buf.new }

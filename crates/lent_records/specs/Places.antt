@@ -9,21 +9,24 @@ use Rattle.std.proofs.Math.Seq.{get_or-set_same, get_or-set_other}
 use Rattle.lists.specs.Bools.{by_cases, and_both}
 
 -- "names 1 to 8", "its places 1 to 8"
-abbrev pub is_name : ℕ → Bool
-is_name k = leb 1 k && leb k 8
+abbrev pub places : ℕ
+places = 8
 
-pub name_range : (k : ℕ) → is_name k ≡ true → (1 ≤ k) × (k ≤ 8)
-name_range k h = let r = and_both (leb 1 k) (leb k 8) h in (leb-true 1 k r.0, leb-true k 8 r.1)
+abbrev pub is_name : ℕ → Bool
+is_name k = leb 1 k && leb k places
+
+pub name_range : (k : ℕ) → is_name k ≡ true → (1 ≤ k) × (k ≤ places)
+name_range k h = let r = and_both (leb 1 k) (leb k places) h in (leb-true 1 k r.0, leb-true k places r.1)
 
 -- where it stands among the eight, counted from 0; none for another number
 unfoldable pub place_of : ℕ → Option ℕ
 place_of k = cond (is_name k) (Some (k - 1)) None
 
-pub place_some : (k i : ℕ) → Some i ≡ place_of k → (is_name k ≡ true) × (k ≡ suc i) × (i < 8)
+pub place_some : (k i : ℕ) → Some i ≡ place_of k → (is_name k ≡ true) × (k ≡ suc i) × (i < places)
 unfolding place_of
 place_some k i e = by_cases (is_name k) (λ n. named n (rw n at e)) (λ n. let q = (rw n at e) in cc)
   where
-    named : is_name k ≡ true → Some i ≡ Some (k - 1) → (is_name k ≡ true) × (k ≡ suc i) × (i < 8)
+    named : is_name k ≡ true → Some i ≡ Some (k - 1) → (is_name k ≡ true) × (k ≡ suc i) × (i < places)
     named n q = let same : i ≡ k - 1 = cc in let r = name_range k n in (n, omega arith, omega arith)
 
 pub place_none : (k : ℕ) → None ≡ place_of k → is_name k ≡ false
@@ -32,7 +35,7 @@ place_none k e = by_cases (is_name k) (λ n. let q = (rw n at e) in cc) (λ n. n
 
 -- what a test of a name answers: the place, where there is no fault; or the refusal that has the fault's number
 abbrev pub AtPlace : {R : Type 0} → (R → ℕ) → ℕ → ℕ → Result ℕ R → Type 0
-AtPlace number fault k (Ok at) = (fault ≡ 0) × (k ≡ suc at) × (at < 8)
+AtPlace number fault k (Ok at) = (fault ≡ 0) × (k ≡ suc at) × (at < places)
 AtPlace number fault k (Err r) = number r ≡ fault
 
 module _ {A : Type 0} where

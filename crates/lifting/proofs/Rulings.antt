@@ -30,14 +30,7 @@ excluded_stays lifting g d ceiling e h =
     ∙ ap (λ (x : Mark). ruled x (is_bars (ruling_with lifting g d ceiling e)) (is_forces (ruling_with lifting g d ceiling e))) h
 
 bars_not_forces : bars ≢ forces
-bars_not_forces e = true≢false (ap is_barring e)
-  where
-    is_barring : Ruling → Bool
-    is_barring keeps = false
-    is_barring forces = false
-    is_barring bars = true
-    is_barring was_required = false
-    is_barring was_excluded = false
+bars_not_forces e = true≢false (ap is_bars e)
 
 keeps_not_bars : keeps ≢ bars
 keeps_not_bars e = let z : true ≡ false = cc in true≢false z

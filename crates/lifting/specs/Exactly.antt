@@ -18,10 +18,9 @@ use Rattle.graph.specs.Limits.{max_multiplier}
 use Rattle.graph.specs.Network.{Network, required}
 use Rattle.tree_theory.specs.OneTree.{Edges, OneTree, charge, bound, Barred, Forced}
 use Rattle.tree_theory.specs.Valid.{Valid, is_required, is_excluded, is_near, needed}
-use Rattle.tree_theory.specs.Optimal.Link.{Parts, to_parts, of_parts}
 use Rattle.tree_theory.specs.Optimal.Bound.{Shifted}
 use Rattle.tree_theory.specs.Optimal.Exchange.{Minimal}
-use Rattle.tree_theory.specs.Optimal.Criteria.{MaySwap, Place, may_swap, swap_may}
+use Rattle.tree_theory.specs.Optimal.Criteria.{MaySwap, Place, tree_swap}
 use Rattle.swaps.specs.Slack.{SlackIs}
 use Rattle.tours.specs.Tours.{degree}
 use Rattle.lifting.specs.Lifted.{touches, Choice, none, one, support, replacement, rises, falls, rise, fall, moved, raised, lowered}
@@ -61,19 +60,16 @@ not-needed : (g : Network) (k : ℕ) → needed g k ≡ false → g.mark k ≢ r
 not-needed g k h e = true≢false (ap is_required (sym e) ∙ h)
 
 module _ (g : Network) (vg : Valid g) (d : ℕ → ℤ) (t : Edges) (l : Minimal g d t) where
-  ot : Parts g t
-  ot = to_parts g vg t l.tree
-
   module _ (f h : ℕ) (mf : f ∈ up_to g.m) (mh : h ∈ up_to g.m) (tf : t f ≡ true) (th : t h ≡ false) where
     pub tree_may : OneTree g (t ⊖ f ⊕ h) → MaySwap g t f h
-    tree_may o = swap_may g t ot f h mf mh tf th (to_parts g vg (t ⊖ f ⊕ h) o)
+    tree_may = (tree_swap g vg t l.tree f h mf mh tf th).1
 
     pub may_giver : MaySwap g t f h → Giver g t h f
     may_giver m = record {
       listed = mf;
       inside = tf;
       loose = λ e. true≢false (ap is_required (sym e) ∙ m.loose);
-      tree = of_parts g vg (t ⊖ f ⊕ h) (may_swap g t ot f h mf mh tf th m);
+      tree = (tree_swap g vg t l.tree f h mf mh tf th).0 m;
     }
 
     pub may_taker : MaySwap g t f h → Taker g t f h
@@ -81,7 +77,7 @@ module _ (g : Network) (vg : Valid g) (d : ℕ → ℤ) (t : Edges) (l : Minimal
       listed = mh;
       outside = th;
       allowed = λ e. true≢false (ap is_excluded (sym e) ∙ m.allowed);
-      tree = of_parts g vg (t ⊖ f ⊕ h) (may_swap g t ot f h mf mh tf th m);
+      tree = (tree_swap g vg t l.tree f h mf mh tf th).0 m;
     }
 
   pub support_of : (e s : ℕ) → e ∈ up_to g.m → t e ≡ false → IsSupport g d t e s → Support g d t e s

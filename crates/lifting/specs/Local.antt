@@ -130,13 +130,10 @@ module _ (g : Network) (vg : Valid g) (d : ℕ → ℤ) (t : Edges) where
       → Minimal g d t
   by_charges o h = record {
     tree = o;
-    least = λ s os. bound-le g d (shift g d) (shifted g d) (is_shifted g d) t s ot (to_parts g vg s os)
-        (lighter g (shifted g d) t ot still s (to_parts g vg s os));
+    least = λ s os. bound-le g d (shift g d) (shifted g d) (is_shifted g d) t s (to_parts g vg t o) (to_parts g vg s os)
+        (lighter g (shifted g d) t (to_parts g vg t o) still s (to_parts g vg s os));
   }
     where
-      ot : Parts g t
-      ot = to_parts g vg t o
-
       still : (f e : ℕ) → f ∈ up_to g.m → e ∈ up_to g.m → t f ≡ true → t e ≡ false → Parts g (t ⊖ f ⊕ e)
           → shifted g d f ≤ shifted g d e
       still f e mf me tf te x =
@@ -144,7 +141,7 @@ module _ (g : Network) (vg : Valid g) (d : ℕ → ℤ) (t : Edges) where
             arith,
             is_shifted g d f mf,
             is_shifted g d e me,
-            le_parts (charge g d f) (charge g d e) (h f e mf me tf te (swap_may g t ot f e mf me tf te x)),
+            le_parts (charge g d f) (charge g d e) (h f e mf me tf te (swap_may g t (to_parts g vg t o) f e mf me tf te x)),
           )
 
   -- and by bounds

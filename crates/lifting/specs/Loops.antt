@@ -6,8 +6,8 @@ use Rattle.std.proofs.Math.Numerals.{add-one}
 use Rattle.std.proofs.Math.Decide.{ℕ_discrete, dec_le}
 use Rattle.std.proofs.lemmas.Bool.{lt-leb}
 use Rattle.lists.specs.Bools.{bit}
+use Rattle.lists.specs.Fill.{replicate-at}
 use Rattle.lists.specs.FilledFrom.{Updated}
-use Rattle.lists.specs.Rows.{zeros}
 use Rattle.swaps.specs.Hanging.{on_way, Hangs}
 use Rattle.swaps.specs.RootedTree.{shape}
 use Rattle.integers.specs.Range.{InRange}
@@ -317,4 +317,4 @@ filled-small f l m limit u h one j = go (dec_le (suc j) m)
   where
     go : Dec (j < m) → get_or l j 0 < limit
     go (yes i) = omega (arith, u.done j i, h j i)
-    go (no i) = omega (arith, u.rest j (omega (arith, i)), zeros 190 j, one)
+    go (no i) = omega (arith, u.rest j (omega (arith, i)), replicate-at {A = ℕ} 190 0 j, one)

@@ -15,9 +15,8 @@ use Rattle.integers.specs.Sums.{sum_z, sum_shuffle}
 use Rattle.graph.specs.Network.{Network}
 use Rattle.tree_theory.specs.OneTree.{Edges, OneTree, charge, bound, Barred, Forced}
 use Rattle.tree_theory.specs.Valid.{Valid}
-use Rattle.tree_theory.specs.Optimal.Link.{Parts, to_parts, of_parts}
 use Rattle.tree_theory.specs.Optimal.Exchange.{Minimal, barred_iff, forced_iff}
-use Rattle.tree_theory.specs.Optimal.Criteria.{MaySwap, may_swap, swap_may}
+use Rattle.tree_theory.specs.Optimal.Criteria.{MaySwap, tree_swap}
 use Rattle.lifting.specs.Local.{shift, shifted, is_shifted}
 
 -- ---- what a swap does to the bound
@@ -85,18 +84,15 @@ more-above z b p p' q q' h k l =
     ))
 
 module _ (g : Network) (vg : Valid g) (d : ℕ → ℤ) (t : Edges) (l : Minimal g d t) (z : ℤ) (e : ℕ) (me : e ∈ up_to g.m) where
-  ot : Parts g t
-  ot = to_parts g vg t l.tree
-
   -- BARRED, by charges: every swap that brings e in is above the ceiling
   pub barred_charges : t e ≡ false
       → Barred g d z e
       ↔ ((f : ℕ) → f ∈ up_to g.m → t f ≡ true → MaySwap g t f e → z <ℤ (bound g d t +ℤ (charge g d e -ℤ charge g d f)))
   barred_charges te = (
     (λ b f mf tf may. rw (swap-bound g d t f e mf me tf te) at
-        (i.0 b f mf tf (of_parts g vg (t ⊖ f ⊕ e) (may_swap g t ot f e mf me tf te may)))),
+        (i.0 b f mf tf ((tree_swap g vg t l.tree f e mf me tf te).0 may))),
     λ h. i.1 (λ f mf tf o. rw (swap-bound g d t f e mf me tf te)
-        (h f mf tf (swap_may g t ot f e mf me tf te (to_parts g vg (t ⊖ f ⊕ e) o)))),
+        (h f mf tf ((tree_swap g vg t l.tree f e mf me tf te).1 o))),
   )
     where
       i : Barred g d z e ↔ ((f : ℕ) → f ∈ up_to g.m → t f ≡ true → OneTree g (t ⊖ f ⊕ e) → z <ℤ bound g d (t ⊖ f ⊕ e))
@@ -108,9 +104,9 @@ module _ (g : Network) (vg : Valid g) (d : ℕ → ℤ) (t : Edges) (l : Minimal
       ↔ ((f : ℕ) → f ∈ up_to g.m → t f ≡ false → MaySwap g t e f → z <ℤ (bound g d t +ℤ (charge g d f -ℤ charge g d e)))
   forced_charges te = (
     (λ b f mf tf may. rw (swap-bound g d t e f me mf te tf) at
-        (i.0 b f mf tf (of_parts g vg (t ⊖ e ⊕ f) (may_swap g t ot e f me mf te tf may)))),
+        (i.0 b f mf tf ((tree_swap g vg t l.tree e f me mf te tf).0 may))),
     λ h. i.1 (λ f mf tf o. rw (swap-bound g d t e f me mf te tf)
-        (h f mf tf (swap_may g t ot e f me mf te tf (to_parts g vg (t ⊖ e ⊕ f) o)))),
+        (h f mf tf ((tree_swap g vg t l.tree e f me mf te tf).1 o))),
   )
     where
       i : Forced g d z e ↔ ((f : ℕ) → f ∈ up_to g.m → t f ≡ false → OneTree g (t ⊖ e ⊕ f) → z <ℤ bound g d (t ⊖ e ⊕ f))

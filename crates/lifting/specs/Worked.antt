@@ -1,10 +1,10 @@
 -- How a program works a change out: by the natural numbers that it keeps for the charges of the pass, over the pairs of edges that may change places. What it
 -- finds so is the support, the replacement, the rise and the fall of Lifted; and the two sums that then decide. Assumes nothing.
-use Rattle.std.specs.Prelude.{◌≡◌, ◌≢◌, ◌↔◌, ◌⊎◌, true, false, ℕ, ◌+◌, ◌*◌, ◌<◌, ◌≤◌, ℤ, pos, ◌+ℤ◌, ◌-ℤ◌, ◌*ℤ◌, ◌≤ℤ◌, ◌<ℤ◌}
-use Rattle.std.proofs.Common.{sym, ap, ◌∙◌, subst, inl, inr, true≢false, arith}
+use Rattle.std.specs.Prelude.{◌≡◌, ◌≢◌, ◌↔◌, ◌⊎◌, true, false, ℕ, ◌+◌, ◌*◌, ◌<◌, ◌≤◌, ℤ, pos, ◌+ℤ◌, ◌-ℤ◌, ◌≤ℤ◌}
+use Rattle.std.proofs.Common.{sym, ap, ◌∙◌, subst, inl, inr, arith}
+use mathlib.Core.Logic.Iff.{trans}
 use Rattle.lists.specs.Members.{◌∈◌}
 use Rattle.lists.specs.Numbers.{up_to}
-use Rattle.lists.specs.Sets.{◌⊕◌, ◌⊖◌}
 use Rattle.integers.specs.Parts.{up, dn, add_parts, le_parts, parts_le}
 use Rattle.integers.specs.Differences.{sub_parts}
 use Rattle.integers.specs.Order.{le_antisym}
@@ -12,19 +12,18 @@ use Rattle.integers.specs.Range.{InRange}
 use Rattle.graph.specs.Limits.{max_multiplier}
 use Rattle.graph.specs.Network.{Network}
 use Rattle.tree_theory.specs.OneTree.{Edges, charge, bound, Barred, Forced}
-use Rattle.tree_theory.specs.Valid.{Valid, is_required, is_excluded}
+use Rattle.tree_theory.specs.Valid.{Valid}
 use Rattle.tree_theory.specs.Optimal.Bound.{Shifted}
-use Rattle.tree_theory.specs.Optimal.Link.{Parts, to_parts, of_parts}
 use Rattle.tree_theory.specs.Optimal.Exchange.{Minimal}
-use Rattle.tree_theory.specs.Optimal.Criteria.{MaySwap, may_swap, swap_may}
+use Rattle.tree_theory.specs.Optimal.Criteria.{MaySwap}
 use Rattle.swaps.specs.Slack.{SlackIs}
 use Rattle.tours.specs.Tours.{degree}
 use Rattle.lifting.specs.Lifted.{touches, rises, falls, rise, fall, raised, lowered}
 use Rattle.lifting.specs.Plain.{Giver, Taker, IsSupport, IsReplacement, HoldsRise, HoldsFall}
 use Rattle.lifting.specs.Chosen.{rise_is, rise-not, fall_is, fall-not}
 use Rattle.lifting.specs.Moves.{Alone}
-use Rattle.lifting.specs.Exactly.{raised_exactly, lowered_exactly}
-use Rattle.lifting.specs.InNumbers.{number-le, total, less_one, from_three}
+use Rattle.lifting.specs.Exactly.{tree_may, may_giver, may_taker, raised_exactly, lowered_exactly}
+use Rattle.lifting.specs.InNumbers.{number-le, raise-number, fall-number}
 
 -- f of t and h outside it may change places
 pub record Pair (g : Network) (t : Edges) (f h : ℕ) : Type 0 where
@@ -98,26 +97,13 @@ under_floor : (v M : ℕ) (z : ℤ) → dn z + v ≤ M + up z → pos v ≤ℤ (
 under_floor v M z h = parts_le (pos v) (z +ℤ pos M) (omega (arith, add_parts z (pos M)))
 
 module _ (g : Network) (vg : Valid g) (d : ℕ → ℤ) (K : ℕ) (c : ℕ → ℕ) (off : Shifted g d K c) (t : Edges) (l : Minimal g d t) where
-  ot : Parts g t
-  ot = to_parts g vg t l.tree
-
   -- ---- pairs are givers and takers
 
   pair_giver : (f h : ℕ) → Pair g t f h → Giver g t h f
-  pair_giver f h p = record {
-    listed = p.first;
-    inside = p.inside;
-    loose = λ e. true≢false (ap is_required (sym e) ∙ p.may.loose);
-    tree = of_parts g vg (t ⊖ f ⊕ h) (may_swap g t ot f h p.first p.second p.inside p.outside p.may);
-  }
+  pair_giver f h p = may_giver g vg d t l f h p.first p.second p.inside p.outside p.may
 
   pair_taker : (f h : ℕ) → Pair g t f h → Taker g t f h
-  pair_taker f h p = record {
-    listed = p.second;
-    outside = p.outside;
-    allowed = λ e. true≢false (ap is_excluded (sym e) ∙ p.may.allowed);
-    tree = of_parts g vg (t ⊖ f ⊕ h) (may_swap g t ot f h p.first p.second p.inside p.outside p.may);
-  }
+  pair_taker f h p = may_taker g vg d t l f h p.first p.second p.inside p.outside p.may
 
   giver_pair : (f h : ℕ) → h ∈ up_to g.m → t h ≡ false → Giver g t h f → Pair g t f h
   giver_pair f h mh th r = record {
@@ -125,7 +111,7 @@ module _ (g : Network) (vg : Valid g) (d : ℕ → ℤ) (K : ℕ) (c : ℕ → �
     second = mh;
     inside = r.inside;
     outside = th;
-    may = swap_may g t ot f h r.listed mh r.inside th (to_parts g vg (t ⊖ f ⊕ h) r.tree);
+    may = tree_may g vg d t l f h r.listed mh r.inside th r.tree;
   }
 
   taker_pair : (f h : ℕ) → f ∈ up_to g.m → t f ≡ true → Taker g t f h → Pair g t f h
@@ -134,7 +120,7 @@ module _ (g : Network) (vg : Valid g) (d : ℕ → ℤ) (K : ℕ) (c : ℕ → �
     second = r.listed;
     inside = tf;
     outside = r.outside;
-    may = swap_may g t ot f h mf r.listed tf r.outside (to_parts g vg (t ⊖ f ⊕ h) r.tree);
+    may = tree_may g vg d t l f h mf r.listed tf r.outside r.tree;
   }
 
   level : (f h : ℕ) → f ∈ up_to g.m → h ∈ up_to g.m → charge g d f ≡ charge g d h → c f ≡ c h
@@ -302,47 +288,17 @@ module _ (g : Network) (vg : Valid g) (d : ℕ → ℤ) (K : ℕ) (c : ℕ → �
     -- OUTSIDE t
     pub raised_worked : (s : ℕ) → BestGiver g c t e s → RisesBy g d c t e s (g.a e) (g.b e) x → RisesBy g d c t e s (g.b e) (g.a e) y
         → Barred g (raised g d t e) z e ↔ (slack + c s + (x + y) < c e + (x * degree g t (g.a e) + y * degree g t (g.b e)))
-    raised_worked s b hx hy = ((λ k. n.0 (i.0 k)), λ k. i.1 (n.1 k))
-      where
-        p : Pair g t s e
-        p = b.pair
-
-        i : Barred g (raised g d t e) z e
-            ↔ (z <ℤ (((bound g d t +ℤ (charge g d e -ℤ charge g d s)) +ℤ (pos x *ℤ (pos (degree g t (g.a e)) -ℤ pos 1)))
-            +ℤ (pos y *ℤ (pos (degree g t (g.b e)) -ℤ pos 1))))
-        i =
-            rw (rise_worked e s (g.a e) (g.b e) x b hx, rise_worked e s (g.b e) (g.a e) y b hy) at
-            (raised_exactly g vg d t l e me alone low high p.outside s (best-support e s b) z)
-
-        n : (z <ℤ (((bound g d t +ℤ (charge g d e -ℤ charge g d s)) +ℤ (pos x *ℤ (pos (degree g t (g.a e)) -ℤ pos 1)))
-            +ℤ (pos y *ℤ (pos (degree g t (g.b e)) -ℤ pos 1))))
-            ↔ (slack + c s + (x + y) < c e + (x * degree g t (g.a e) + y * degree g t (g.b e)))
-        n =
-            total (bound g d t) (charge g d e) (charge g d s) (pos x *ℤ (pos (degree g t (g.a e)) -ℤ pos 1))
-            (pos y *ℤ (pos (degree g t (g.b e)) -ℤ pos 1)) K (c e) (c s) (off e me) (off s p.first)
-            (x * degree g t (g.a e)) x (y * degree g t (g.b e)) y (less_one x (degree g t (g.a e))) (less_one y (degree g t (g.b e)))
-            z slack within
+    raised_worked s b hx hy =
+        trans
+        (rw (rise_worked e s (g.a e) (g.b e) x b hx, rise_worked e s (g.b e) (g.a e) y b hy) at
+        (raised_exactly g vg d t l e me alone low high b.pair.outside s (best-support e s b) z))
+        (raise-number g d K c off t z slack within e me x y s b.pair.first)
 
     -- IN t
     pub lowered_worked : (r : ℕ) → BestTaker g c t e r → FallsBy g d c t e r (g.a e) (g.b e) x → FallsBy g d c t e r (g.b e) (g.a e) y
         → Forced g (lowered g d t e) z e ↔ (slack + c e + (x * degree g t (g.a e) + y * degree g t (g.b e)) < c r + (3 * x + 3 * y))
-    lowered_worked r b hx hy = ((λ k. n.0 (i.0 k)), λ k. i.1 (n.1 k))
-      where
-        p : Pair g t e r
-        p = b.pair
-
-        i : Forced g (lowered g d t e) z e
-            ↔ (z <ℤ (((bound g d t +ℤ (charge g d r -ℤ charge g d e)) +ℤ (pos x *ℤ (pos 3 -ℤ pos (degree g t (g.a e)))))
-            +ℤ (pos y *ℤ (pos 3 -ℤ pos (degree g t (g.b e))))))
-        i =
-            rw (fall_worked e r (g.a e) (g.b e) x b hx, fall_worked e r (g.b e) (g.a e) y b hy) at
-            (lowered_exactly g vg d t l e me alone low high p.inside r (best-replacement e r b) z)
-
-        n : (z <ℤ (((bound g d t +ℤ (charge g d r -ℤ charge g d e)) +ℤ (pos x *ℤ (pos 3 -ℤ pos (degree g t (g.a e)))))
-            +ℤ (pos y *ℤ (pos 3 -ℤ pos (degree g t (g.b e))))))
-            ↔ (slack + c e + (x * degree g t (g.a e) + y * degree g t (g.b e)) < c r + (3 * x + 3 * y))
-        n =
-            total (bound g d t) (charge g d r) (charge g d e) (pos x *ℤ (pos 3 -ℤ pos (degree g t (g.a e))))
-            (pos y *ℤ (pos 3 -ℤ pos (degree g t (g.b e)))) K (c r) (c e) (off r p.second) (off e me)
-            (3 * x) (x * degree g t (g.a e)) (3 * y) (y * degree g t (g.b e)) (from_three x (degree g t (g.a e)))
-            (from_three y (degree g t (g.b e))) z slack within
+    lowered_worked r b hx hy =
+        trans
+        (rw (fall_worked e r (g.a e) (g.b e) x b hx, fall_worked e r (g.b e) (g.a e) y b hy) at
+        (lowered_exactly g vg d t l e me alone low high b.pair.inside r (best-replacement e r b) z))
+        (fall-number g d K c off t z slack within e me x y r b.pair.second)

@@ -1,5 +1,5 @@
 -- Tests that are Booleans: how a proof goes by the cases of one, and what a conjunction or a disjunction tells. Assumes nothing.
-use Rattle.std.specs.Prelude.{◌≡◌, refl, Bool, true, false, not, cond, ◌&&◌, ℕ, ◌<◌, ◌≤◌, T}
+use Rattle.std.specs.Prelude.{◌≡◌, refl, Bool, true, false, not, cond, ◌&&◌, ℕ, ◌<◌, ◌≤◌, eqb, T}
 use Rattle.std.proofs.Common.{true≢false, arith}
 use Rattle.std.proofs.lemmas.Bool.{false≢true}
 -- what a conjunction and a disjunction tell: the library's lemmas, by the names that are used here
@@ -35,6 +35,10 @@ pub bit_most : (b : Bool) → bit b ≤ 1
 bit_most true = omega arith
 bit_most false = omega arith
 
+pub bit_back : (b : Bool) → eqb (bit b) 1 ≡ b
+bit_back true = refl
+bit_back false = refl
+
 -- a fault's number, 0 where there is none: no number in front of it applied, and none behind it
 pub cond_zero : (t : Bool) (e x : ℕ) → 0 < e → cond t e x ≡ 0 → (t ≡ false) × (x ≡ 0)
 cond_zero true e x p h = absurd (omega arith)
@@ -52,3 +56,8 @@ says_yes false s e = absurd (false≢true e)
 pub says_no : (b : Bool) {P : Type 0} → Says b P → b ≡ false → P → ⊥
 says_no false s e = s
 says_no true s e = absurd (true≢false e)
+
+-- and of one that holds exactly where it does
+pub says_both : (b : Bool) {P Q : Type 0} → (P → Q) → (Q → P) → Says b P → Says b Q
+says_both true f g h = f h
+says_both false f g h = λ q. h (g q)

@@ -2,7 +2,7 @@
 use Rattle.std.specs.Prelude.{◌≡◌, refl, List, ℕ, ◌+◌, ◌<◌, ◌≤◌, length, get_or, set, replicate}
 use Rattle.std.proofs.Common.{◌∙◌, arith, length-set, get_or-set_same, get_or-set_other}
 use Rattle.std.proofs.Math.Decide.{ℕ_discrete}
-use Rattle.lists.specs.Rows.{zeros}
+use Rattle.lists.specs.Fill.{replicate-at}
 
 -- of the places from low on, those below k have f; all others have 0
 pub record FilledFrom (f : ℕ → ℕ) (low : ℕ) (l : List ℕ) (k : ℕ) : Type 0 where
@@ -10,7 +10,7 @@ pub record FilledFrom (f : ℕ → ℕ) (low : ℕ) (l : List ℕ) (k : ℕ) : T
   pub rest : (j : ℕ) → k ≤ j → get_or l j 0 ≡ 0
 
 pub filled_none : (f : ℕ → ℕ) (low n : ℕ) → FilledFrom f low (replicate n 0) low
-filled_none f low n = record { done = λ j a b. absurd (omega arith); rest = λ j h. zeros n j }
+filled_none f low n = record { done = λ j a b. absurd (omega arith); rest = λ j h. replicate-at n 0 j }
 
 pub filled_more : (f : ℕ → ℕ) (low : ℕ) (l : List ℕ) (k x : ℕ) → k < length l → FilledFrom f low l k → x ≡ f k → FilledFrom f low (set l k x)
     (k + 1)

@@ -1,5 +1,6 @@
 pub mod Bools
 pub mod Members
+pub mod MembersAt
 pub mod All
 pub mod Select
 pub mod Distinct

@@ -1,5 +1,5 @@
 -- Membership in a list, and in the lists that appending and mapping make. Assumes nothing.
-use Rattle.std.specs.Prelude.{◌≡◌, refl, ◌⊎◌, List, [], ◌∷◌, ◌++◌, map}
+use Rattle.std.specs.Prelude.{◌≡◌, refl, ◌⊎◌, List, [], ◌∷◌, ◌++◌, ℕ, zero, suc, take, map}
 use Rattle.std.proofs.Common.{ap, inl, inr}
 
 -- by recursion on the list, so that a proof goes by its cases
@@ -26,6 +26,12 @@ module _ {A : Type 0} where
       go : (x ∈ xs) ⊎ (x ∈ ys) → ((x ≡ y) ⊎ (x ∈ xs)) ⊎ (x ∈ ys)
       go (inl h) = inl (inr h)
       go (inr h) = inr h
+
+  pub take_in : (n : ℕ) (l : List A) (x : A) → x ∈ take n l → x ∈ l
+  take_in zero l x m = absurd m
+  take_in (suc n) [] x m = absurd m
+  take_in (suc n) (y ∷ l) x (inl e) = inl e
+  take_in (suc n) (y ∷ l) x (inr m) = inr (take_in n l x m)
 
 module _ {A B : Type 0} where
   pub in_map : (f : A → B) (x : A) (xs : List A) → x ∈ xs → f x ∈ map f xs

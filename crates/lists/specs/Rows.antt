@@ -1,5 +1,5 @@
 -- Lists that hold a value for each of the numbers 1 to m, as a mark or an answer for each edge. Assumes nothing.
-use Rattle.std.specs.Prelude.{◌≡◌, length, replicate}
+use Rattle.std.specs.Prelude.{◌≡◌, length}
 use Rattle.std.proofs.Math.Path.{refl, ap}
 use Rattle.std.proofs.Common.{sym, ◌∙◌}
 use mathlib.Core.List.{List, [], ◌∷◌, map}
@@ -47,12 +47,6 @@ pub row-map : {A B : Type 0} (f : A → B) (m : ℕ) (h : ℕ → A) → map f (
 unfolding row
 row-map f zero h = refl
 row-map {B = B} f (suc m) h = ap (λ (l : List B). f (h 1) ∷ l) (row-map f m (λ k. h (suc k)))
-
--- zero at every place, as an array starts
-pub zeros : (n k : ℕ) → get_or {A = ℕ} (replicate n 0) k 0 ≡ 0
-zeros zero k = refl
-zeros (suc n) zero = refl
-zeros (suc n) (suc k) = zeros n k
 
 -- a list is as long as what it is mapped to
 pub long_of : (X Y : Type 0) (f : X → Y) (l : List X) (n : ℕ) → length (map f l) ≡ n → length l ≡ n

@@ -18,11 +18,11 @@ use Rattle.tree_theory.specs.Agree.{Agree, lacks_second}
 use Rattle.tree_theory.specs.Inputs.{multiplier}
 use Rattle.tree_theory.specs.Enumeration.{Tree, no_tree, a_tree, least_tree}
 use Rattle.tree_theory.specs.LeastTree.{Right, tree_right}
-use Rattle.tree_theory.specs.Valid.{Valid}
+use Rattle.tree_theory.specs.Valid.{Valid, is_free}
 use Rattle.tree_theory.specs.Arrays.{edge_of}
 use Rattle.tours.specs.Tours.{Tour, Allowed, cost, is_tour}
 use Rattle.machine.specs.Outcomes.{closes, finds, splits}
-use Rattle.machine.specs.Machine.{Marks, node_of, with_marks, is_free, applied, Pass, shut, found, unclosed, pass_by, pass, Opened, first_free}
+use Rattle.machine.specs.Machine.{Marks, node_of, with_marks, applied, Pass, shut, found, unclosed, pass_by, pass, Opened, first_free}
 use Rattle.machine.specs.Machine.{branch}
 use Rattle.machine.specs.Machine.{concluded, passes, gained, edges_of}
 use Rattle.machine.specs.BranchAndBound.{Lawful, narrowed}

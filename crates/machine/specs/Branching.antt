@@ -8,7 +8,8 @@ use Prim.Native.Nat.{ℕ, zero, suc, ◌+◌, ◌≤◌, ◌<◌}
 use Rattle.lists.specs.Bools.{bit}
 use Rattle.lists.specs.Rows.{row, row_of}
 use Rattle.graph.specs.Network.{Mark, free, required, excluded}
-use Rattle.machine.specs.Machine.{Marks, is_free, frees, first_free}
+use Rattle.tree_theory.specs.Valid.{is_free}
+use Rattle.machine.specs.Machine.{Marks, frees, first_free}
 
 pub free_is : (x : Mark) → is_free x ≡ true → x ≡ free
 free_is free h = refl

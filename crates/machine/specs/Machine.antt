@@ -12,6 +12,7 @@ use Rattle.graph.specs.declared.Graph.{Graph}
 use Rattle.graph.specs.Limits.{max_edges, max_multiplier, max_count}
 use Rattle.graph.specs.Network.{Network, Mark, free, required, excluded, place, network}
 use Rattle.tree_theory.specs.OneTree.{Edges, lacks_first}
+use Rattle.tree_theory.specs.Valid.{is_free}
 use Rattle.tree_theory.specs.Inputs.{multiplier}
 use Rattle.tree_theory.specs.Scaled.{scaled_by}
 use Rattle.tree_theory.specs.Enumeration.{Tree, no_tree, a_tree, least_tree, Ruling, keeps, forces, bars, was_required, was_excluded, ruling}
@@ -41,11 +42,6 @@ with_marks g x = record { n = g.n; m = g.m; a = g.a; b = g.b; cost = g.cost; mar
 unfoldable pub marks_of : Network → Marks
 unfolding row
 marks_of g = row g.m g.mark
-
-abbrev pub is_free : Mark → Bool
-is_free free = true
-is_free required = false
-is_free excluded = false
 
 -- the number of a node's free edges
 unfoldable pub frees : Marks → ℕ

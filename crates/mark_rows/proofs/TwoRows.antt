@@ -14,8 +14,8 @@ use Rattle.bits.proofs.Rows.{row_ext}
 use Rattle.bits.specs.Pairs.{Pair}
 use Rattle.bits.proofs.Pairs.{neither}
 use Rattle.graph.specs.Network.{Mark, free, required, excluded}
-use Rattle.tree_theory.specs.Valid.{is_required, is_excluded}
-use Rattle.machine.specs.Machine.{Marks, is_free, frees, first_free}
+use Rattle.tree_theory.specs.Valid.{is_required, is_excluded, is_free}
+use Rattle.machine.specs.Machine.{Marks, frees, first_free}
 use Rattle.mark_rows.specs.MarkRows.{mark_at, required_row, excluded_row, mark_bits, marks_in_pair}
 use Rattle.mark_rows.specs.TwoRows.{past_marks, marks-size, marks-at, required_row-at, excluded_row-at, required_again, count_zero}
 

@@ -1,126 +1,81 @@
--- What the loops over a word's set bits keep, over plain variables: as an edge is met it is listed with its mark (`Listing`), or its new
--- mark is packed (`PackingTo`).
-use Rattle.std.specs.Prelude.{◌≡◌, ◌≢◌, List, ℕ, ◌+◌, ◌-◌, ◌*◌, ◌≤◌, ◌<◌, get_or, set}
-use Rattle.std.proofs.Common.{sym, subst, arith}
+-- What a turn of a loop over a word's set bits does to the edge that it meets, and what the loop comes to: it is gathered into the graph of
+-- the edges that are left, or its new mark is packed, or its byte is put at its place.
+use Rattle.std.specs.Prelude.{◌≡◌, List, ℕ, suc, ◌+◌, ◌-◌, ◌*◌, ◌^◌, get_or}
+use Rattle.std.proofs.Common.{sym, ◌∙◌, ap, subst, arith}
 use Rattle.std.specs.Int.Bits.{bit_and, bit_or}
-use Rattle.std.specs.Int.Count.{count_trailing_zeros}
-use Rattle.graph.specs.Limits.{max_edges}
-use Rattle.tree_theory.specs.OneTree.{Edges}
-use Rattle.compaction.specs.Ranks.{rank, rank_most}
-use Rattle.node.specs.Compacting.{Listed}
-use Rattle.node.specs.Walking.{cut, Masked, Walk, walk_first, walk_last, listed_last, within, met, rank-met, less, list_more}
-use Rattle.node.specs.Words.{full_of, kept_in, required_byte, MarkedTo, marked_more, bit_where, new_byte, new-left, new_gone, PackedWord, Packing, packing_first, packing_as, pack_more, pack_last}
+use Rattle.graph.specs.declared.Graph.{Graph}
+use Rattle.mark_rows.specs.MarkRows.{marks_in_rows}
+use Rattle.compaction.specs.Ranks.{rank}
+use Rattle.node.specs.Marks.{bytes_of}
+use Rattle.node.specs.Compacting.{gathered, left_to, gathered_skip}
+use Rattle.node.specs.Expanding.{ExpandedTo, expanded_skip}
+use Rattle.node.specs.Walking.{cut, Masked, Met, Skips}
+use Rattle.node.specs.Words.{full_of, kept_in, marked_in, bit_where, new_byte, new-left, new_gone, PackedWord, Packing, packing_first, packing_skip, packing_met, packing_all}
 
--- a bit that is met is that of an edge, and before it fewer edges than all are met
-module _ (c : Edges) (m w word : ℕ) (masked : Masked c m w word) (x f : ℕ) (s : Walk c m w word x f) (few : m ≤ max_edges) (some : x ≢ 0) where
-  pub place_fits : 64 * w + count_trailing_zeros 64 x < max_edges
-  place_fits = omega (arith, within c m w word masked x f s some)
+module _ (m w : ℕ) (rows : List ℕ) where
+  -- ---- gathered
 
-  pub count_fits : f < max_edges
-  count_fits = omega (arith, place_fits, rank-met c m w word masked x f s some, rank_most c (64 * w + count_trailing_zeros 64 x))
+  module _ (g : Graph) (count : ℕ) where
+    abbrev pub GatheredTo : Graph → ℕ → Type 0
+    GatheredTo l k = l ≡ gathered (marked_in m rows g) count k
 
--- ---- the edges listed
+    pub gathered_skips : (l : Graph) → Skips (kept_in m rows) m w (GatheredTo l)
+    gathered_skips l k low high out e = e ∙ gathered_skip (marked_in m rows g) count k out
 
-pub record Listing (m w : ℕ) (rows : List ℕ) (word x f : ℕ) (place marks : List ℕ) : Type 0 where
-  pub few : m ≤ max_edges
-  pub masked : Masked (kept_in m rows) m w word
-  pub walk : Walk (kept_in m rows) m w word x f
-  pub listed : Listed (kept_in m rows) (cut m w walk.upto) place
-  pub marked : MarkedTo rows place f marks
+    pub gathered_last : (l : Graph) (f : ℕ) → f ≡ rank (kept_in m rows) (cut m w 64) → GatheredTo l (cut m w 64)
+        → record { n = l.n; m = f; a = l.a; b = l.b; cost = l.cost; mark = l.mark } ≡ left_to (marked_in m rows g) (cut m w 64)
+    gathered_last l f e h = λ i. record {
+      n = (h i).n;
+      m = e i;
+      a = (h i).a;
+      b = (h i).b;
+      cost = (h i).cost;
+      mark = (h i).mark;
+    }
 
-pub listing_first : (m w : ℕ) (rows : List ℕ) (word f : ℕ) (place marks : List ℕ) → m ≤ max_edges → Masked (kept_in m rows) m w word
-    → f ≡ rank (kept_in m rows) (cut m w 0) → Listed (kept_in m rows) (cut m w 0) place → MarkedTo rows place f marks
-    → Listing m w rows word word f place marks
-unfolding walk_first
-listing_first m w rows word f place marks few masked e listed marked = record {
-  few = few;
-  masked = masked;
-  walk = walk_first (kept_in m rows) m w word masked f e;
-  listed = listed;
-  marked = marked;
-}
+  pub gathered_first : (g l : Graph) → l ≡ left_to (marked_in m rows g) (cut m w 0) → GatheredTo g l.m l (cut m w 0)
+  gathered_first g l e =
+      e ∙ ap (λ (i : ℕ). gathered (marked_in m rows g) i (cut m w 0)) (sym (ap (λ (h : Graph). h.m) e))
 
-module _ (m w : ℕ) (rows : List ℕ) (word x f : ℕ) (place marks : List ℕ) (h : Listing m w rows word x f place marks) where
-  pub listing_last : x ≡ 0
-      → (f ≡ rank (kept_in m rows) (cut m w 64)) × Listed (kept_in m rows) (cut m w 64) place × MarkedTo rows place f marks
-  listing_last e = (
-    walk_last (kept_in m rows) m w word h.masked x f h.walk e,
-    listed_last (kept_in m rows) m w word h.masked x f h.walk e place h.listed,
-    h.marked,
-  )
+  -- ---- packed
 
-  module _ (some : x ≢ 0) where
-    pub listing_place : 64 * w + count_trailing_zeros 64 x < max_edges
-    listing_place = place_fits (kept_in m rows) m w word h.masked x f h.walk h.few some
+  module _ (marks : List ℕ) where
+    abbrev pub PackedTo : ℕ → ℕ → ℕ → Type 0
+    PackedTo r q k = Packing (kept_in m rows) m w (new_byte m rows marks) (k - 64 * w) r q
 
-    pub listing_room : f < max_edges
-    listing_room = count_fits (kept_in m rows) m w word h.masked x f h.walk h.few some
+    pub packed_skips : (r q : ℕ) → Skips (kept_in m rows) m w (PackedTo r q)
+    packed_skips r q k low high out p =
+        packing_skip (kept_in m rows) m w (new_byte m rows marks) (new_gone m rows marks) (k - 64 * w) (suc k - 64 * w) r q
+        (omega arith) (omega arith)
+        (λ i a b h. let e : 64 * w + i ≡ k = omega arith in ap (λ (j : ℕ). kept_in m rows (suc j)) e ∙ out) p
 
-    pub listing_less : bit_and x (x - 1) < x
-    listing_less = less (kept_in m rows) m w word h.masked x f h.walk some
+    pub packed_first : (word others : ℕ) → Masked (kept_in m rows) m w word → others ≡ full_of m w - bit_and word (full_of m w)
+        → PackedTo 0 others (cut m w 0)
+    packed_first word others masked is =
+        let z : 0 ≡ cut m w 0 - 64 * w = omega arith in
+        subst (λ (i : ℕ). Packing (kept_in m rows) m w (new_byte m rows marks) i 0 others) z
+        (rw is (packing_first (kept_in m rows) m w (new_byte m rows marks) (new_gone m rows marks) word masked))
 
-    pub listing_more : (v : ℕ) → v ≡ required_byte rows (64 * w + count_trailing_zeros 64 x)
-        → Listing m w rows word (bit_and x (x - 1)) (f + 1) (set place f (64 * w + count_trailing_zeros 64 x)) (set marks f v)
-    listing_more v is =
-        let k : ℕ = 64 * w + count_trailing_zeros 64 x in
-        let more = list_more (kept_in m rows) m w word h.masked x f h.walk some h.few place h.listed in
-        record {
-          few = h.few;
-          masked = h.masked;
-          walk = more.0;
-          listed = more.1;
-          marked = marked_more rows place marks f k v listing_room h.listed.size is h.marked;
-        }
+    pub packed_more : (t f r q mark bit x y : ℕ) → Met (kept_in m rows) m w (64 * w + t) f → mark ≡ get_or marks f 0 → bit ≡ 2 ^ t
+        → x ≡ bit_where mark 1 bit → y ≡ bit_where mark 2 bit → PackedTo r q (64 * w + t) → PackedTo (bit_or r x) (bit_or q y) (suc (64 * w + t))
+    packed_more t f r q mark bit x y h e power is_x is_y p =
+        let at : (64 * w + t) - 64 * w ≡ t = omega arith in
+        let after : suc (64 * w + t) - 64 * w ≡ suc t = omega arith in
+        rw (after, is_x, is_y, power)
+        (packing_met (kept_in m rows) m w (new_byte m rows marks) (new_gone m rows marks) t r q mark (omega (arith, h.here.1)) h.low h.kept
+        (new-left m rows marks (64 * w + t) f h.kept h.new ∙ sym e) (rw at at p))
 
--- ---- the marks packed
+    pub packed_last : (r q : ℕ) → PackedTo r q (cut m w 64) → PackedWord m (new_byte m rows marks) w r q
+    packed_last r q p =
+        packing_all (kept_in m rows) m w (new_byte m rows marks) (new_gone m rows marks) r q
+        (packing_skip (kept_in m rows) m w (new_byte m rows marks) (new_gone m rows marks) (cut m w 64 - 64 * w) 64 r q
+        (omega arith) (omega arith) (λ i a b h. absurd (omega arith)) p)
 
-pub record PackingTo (m w : ℕ) (rows marks : List ℕ) (word x f required excluded : ℕ) : Type 0 where
-  pub few : m ≤ max_edges
-  pub masked : Masked (kept_in m rows) m w word
-  pub walk : Walk (kept_in m rows) m w word x f
-  pub packed : Packing (kept_in m rows) m w (new_byte m rows marks) walk.upto required excluded
+  -- ---- put at its place
 
-pub packing_start : (m w : ℕ) (rows marks : List ℕ) (word f others : ℕ) → m ≤ max_edges → Masked (kept_in m rows) m w word
-    → f ≡ rank (kept_in m rows) (cut m w 0) → others ≡ full_of m w - bit_and word (full_of m w)
-    → PackingTo m w rows marks word word f 0 others
-unfolding walk_first
-packing_start m w rows marks word f others few masked e is = record {
-  few = few;
-  masked = masked;
-  walk = walk_first (kept_in m rows) m w word masked f e;
-  packed =
-      subst (λ (y : ℕ). Packing (kept_in m rows) m w (new_byte m rows marks) 0 0 y) (sym is)
-      (packing_first (kept_in m rows) m w (new_byte m rows marks) (new_gone m rows marks) word masked);
-}
+  module _ (row : List ℕ) where
+    abbrev pub PutTo : List ℕ → ℕ → Type 0
+    PutTo l k = ExpandedTo (bytes_of (marks_in_rows m rows)) row k l
 
-module _ (m w : ℕ) (rows marks : List ℕ) (word x f required excluded : ℕ) (h : PackingTo m w rows marks word x f required excluded) where
-  pub packing_last : x ≡ 0 → (f ≡ rank (kept_in m rows) (cut m w 64)) × PackedWord m (new_byte m rows marks) w required excluded
-  packing_last e = (
-    walk_last (kept_in m rows) m w word h.masked x f h.walk e,
-    pack_last (kept_in m rows) m w word h.masked (new_byte m rows marks) (new_gone m rows marks) x f h.walk required excluded h.packed e,
-  )
-
-  module _ (some : x ≢ 0) where
-    pub packing_room : f < max_edges
-    packing_room = count_fits (kept_in m rows) m w word h.masked x f h.walk h.few some
-
-    pub packing_less : bit_and x (x - 1) < x
-    packing_less = less (kept_in m rows) m w word h.masked x f h.walk some
-
-    pub packing_more : (a b : ℕ) → a ≡ bit_where (get_or marks f 0) 1 (x - bit_and x (x - 1))
-        → b ≡ bit_where (get_or marks f 0) 2 (x - bit_and x (x - 1))
-        → PackingTo m w rows marks word (bit_and x (x - 1)) (f + 1) (bit_or required a) (bit_or excluded b)
-    packing_more a b p q =
-        let k : ℕ = 64 * w + count_trailing_zeros 64 x in
-        let new : new_byte m rows marks k ≡ get_or marks f 0 =
-        new-left m rows marks k f (met (kept_in m rows) m w word h.masked x f h.walk some)
-        (rank-met (kept_in m rows) m w word h.masked x f h.walk some) in
-        let more =
-        pack_more (kept_in m rows) m w word h.masked (new_byte m rows marks) (new_gone m rows marks) x f h.walk required excluded h.packed some
-        (get_or marks f 0) new in
-        record {
-          few = h.few;
-          masked = h.masked;
-          walk = more.0;
-          packed = packing_as (kept_in m rows) m w (new_byte m rows marks) _ required excluded _ _ a b p q more.1;
-        }
+    pub put_skips : (l : List ℕ) → Skips (kept_in m rows) m w (PutTo l)
+    put_skips l k low high out h = expanded_skip (bytes_of (marks_in_rows m rows)) row l k h out

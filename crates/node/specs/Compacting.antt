@@ -1,86 +1,17 @@
--- The loops that compact a graph to the edges that a node's marks do not exclude: one lists the places of those edges, the other copies
--- what stands there. Assumes nothing.
-use Rattle.std.specs.Prelude.{◌≡◌, true, List, ℕ, suc, ◌+◌, ◌≤◌, ◌<◌, length, get_or, set, replicate, pos, refl}
-use Rattle.std.proofs.Common.{sym, ap, ◌∙◌, subst, arith, add-one, length-set, get_or-set_same, get_or-set_other}
-use Rattle.std.proofs.Math.Decide.{ℕ_discrete}
-use Rattle.lists.specs.Bools.{by_cases}
-use Rattle.lists.specs.Filling.{Filling, filling_none, filling_is}
+-- The graph of the edges that a node's marks do not exclude, edge by edge: what an edge more adds to it, and that one that is excluded adds
+-- nothing. Assumes nothing.
+use Rattle.std.specs.Prelude.{◌≡◌, true, false, List, ℕ, suc, ◌<◌, length, get_or, set, replicate, ℤ, pos, refl}
+use Rattle.std.proofs.Common.{sym, ap, ◌∙◌, true≢false, arith, length-set, get_or-set_same, get_or-set_other}
+use Rattle.std.proofs.Math.Decide.{dec_le, ℕ_discrete}
+use Rattle.lists.specs.Fill.{fill-size, fill-at, fill-same, fill_is, replicate_is}
 use Rattle.graph.specs.declared.Graph.{Graph}
+use Rattle.graph.specs.Edgeless.{edgeless}
 use Rattle.graph.specs.Limits.{max_edges}
 use Rattle.graph.specs.Network.{place}
 use Rattle.graph.specs.Places.{place_at, place_zero}
 use Rattle.tree_theory.specs.OneTree.{Edges}
-use Rattle.compaction.specs.Ranks.{rank, nth, Kept, rank_yes, rank_no, rank_most, rank_less, rank-nth, nth-rank, nth_past}
+use Rattle.compaction.specs.Ranks.{rank, nth, Kept, rank_yes, rank_most, rank-nth, nth-rank, nth_past, nth_other}
 use Rattle.node.specs.Opened.{kept, left_of}
-
--- ---- the places of the kept edges
-
--- of the first k edges, each kept one's place stands at its new place, and each new place has a place of those edges; what stands past
--- the new places counts for nothing
-pub record Listed (c : Edges) (k : ℕ) (q : List ℕ) : Type 0 where
-  pub size : length q ≡ max_edges
-  pub new : (i : ℕ) → i < k → c (suc i) ≡ true → get_or q (rank c i) 0 ≡ i
-  pub low : (j : ℕ) → j < rank c k → get_or q j 0 < k
-
-module _ (c : Edges) where
-  pub listed_none : (q : List ℕ) → length q ≡ max_edges → Listed c 0 q
-  unfolding rank
-  listed_none q e = record { size = e; new = λ i h. absurd (omega arith); low = λ j h. absurd (omega arith) }
-
-  -- the place of an edge is written where the next kept one's is to stand
-  pub listed_more : (k f : ℕ) (q : List ℕ) → f ≡ rank c k → k < max_edges → Listed c k q → Listed c (k + 1) (set q f k)
-  listed_more k f q e b h = record {
-    size = length-set q f k ∙ h.size;
-    new = λ i l y. new i l y (ℕ_discrete i k);
-    low = λ j l. low j l (ℕ_discrete j f);
-  }
-    where
-      room : f < length q
-      room = omega (arith, h.size, rank_most c k)
-
-      new : (i : ℕ) → i < k + 1 → c (suc i) ≡ true → Dec (i ≡ k) → get_or (set q f k) (rank c i) 0 ≡ i
-      new i l y (yes p) = rw (p, ← e) (get_or-set_same q f k 0 room)
-      new i l y (no p) =
-          let less : rank c i < rank c k = rank_less c i k (omega arith) y in
-          get_or-set_other q f (rank c i) k 0 (omega arith) ∙ h.new i (omega arith) y
-
-      most : rank c (suc k) ≤ suc (rank c k)
-      most = by_cases (c (suc k)) (λ y. omega (arith, rank_yes c k y)) (λ y. omega (arith, rank_no c k y))
-
-      low : (j : ℕ) → j < rank c (k + 1) → Dec (j ≡ f) → get_or (set q f k) j 0 < k + 1
-      low j l (yes p) = rw p (omega (arith, get_or-set_same q f k 0 room))
-      low j l (no p) =
-          let less : j < rank c (suc k) = rw add-one at l in
-          omega (arith, get_or-set_other q f j k 0 p, h.low j (omega (arith, most)))
-
-pub listed_to : (c : Edges) (k m : ℕ) (q : List ℕ) → k ≡ m → Listed c k q → Listed c m q
-listed_to c k m q e h = subst (λ (i : ℕ). Listed c i q) e h
-
--- ---- what stands at those places
-
--- the value at the place that is listed at j
-abbrev pub listed_at : {A : Type 0} → A → List A → List ℕ → ℕ → A
-listed_at z was q j = get_or was (get_or q j 0) z
-
--- what is copied of the first f edges that are left, with the rest of their graph as it was
-pub record Gathered (f : ℕ) (q : List ℕ) (g was left : Graph) : Type 0 where
-  pub a : Filling 0 max_edges f (listed_at 0 g.a q) left.a
-  pub b : Filling 0 max_edges f (listed_at 0 g.b q) left.b
-  pub cost : Filling (pos 0) max_edges f (listed_at (pos 0) g.cost q) left.cost
-  pub n : left.n ≡ was.n
-  pub m : left.m ≡ was.m
-  pub mark : left.mark ≡ was.mark
-
-pub gathered_none : (q : List ℕ) (g was : Graph) → was.a ≡ replicate max_edges 0 → was.b ≡ replicate max_edges 0
-    → was.cost ≡ replicate max_edges (pos 0) → Gathered 0 q g was was
-gathered_none q g was a b cost = record {
-  a = rw a (filling_none 0 max_edges (listed_at 0 g.a q));
-  b = rw b (filling_none 0 max_edges (listed_at 0 g.b q));
-  cost = rw cost (filling_none (pos 0) max_edges (listed_at (pos 0) g.cost q));
-  n = refl;
-  m = refl;
-  mark = refl;
-}
 
 -- the kept edge that has a new place
 module _ (c : Edges) (m j : ℕ) (l : j < rank c m) where
@@ -93,17 +24,129 @@ module _ (c : Edges) (m j : ℕ) (l : j < rank c m) where
   pub old-nth : nth c m (suc j) ≡ suc old.place
   old-nth = ap (nth c m) (sym old.new) ∙ nth-rank c m old.place old.low old.kept
 
-  pub listed-old : (q : List ℕ) → Listed c m q → get_or q j 0 ≡ old.place
-  listed-old q h = ap (λ (i : ℕ). get_or q i 0) (sym old-rank) ∙ h.new old.place old.low old.kept
+-- ---- a list of what the edges have
 
--- what the loop copies is what the kept edges have
-pub gathered_is : {A : Type 0} (z : A) (marks : List ℕ) (m f : ℕ) (was l : List A) (q : List ℕ) → f ≡ rank (kept marks) m
-    → Listed (kept marks) m q → Filling z max_edges f (listed_at z was q) l → l ≡ left_of z marks m was
-unfolding left_of
-gathered_is z marks m f was l q e d h =
-    filling_is z max_edges (listed_at z was q) f l (λ j. place z m was (nth (kept marks) m (suc j))) h
-    (λ j b.
-    let k : j < rank (kept marks) m = omega arith in
-    ap (λ (i : ℕ). get_or was i z) (listed-old (kept marks) m j k q d)
-    ∙ sym (ap (place z m was) (old-nth (kept marks) m j k) ∙ place_at z m was _ (old (kept marks) m j k).low))
-    (λ j b. ap (place z m was) (nth_past (kept marks) m (suc j) (omega arith)) ∙ place_zero z m was)
+module _ {A : Type 0} (z : A) (marks : List ℕ) (m : ℕ) (was : List A) where
+  pub left-size : length (left_of z marks m was) ≡ max_edges
+  unfolding left_of
+  left-size = fill-size max_edges (λ j. place z m was (nth (kept marks) m (suc j)))
+
+  pub left-place : (j : ℕ) → j < max_edges → get_or (left_of z marks m was) j z ≡ place z m was (nth (kept marks) m (suc j))
+  unfolding left_of
+  left-place j b = fill-at max_edges (λ i. place z m was (nth (kept marks) m (suc i))) j z b
+
+module _ {A : Type 0} (z : A) (marks : List ℕ) (l : List A) where
+  abbrev c : Edges
+  c = kept marks
+
+  pub left_none : left_of z marks 0 l ≡ replicate max_edges z
+  left_none =
+      sym (replicate_is max_edges z (left_of z marks 0 l) (left-size z marks 0 l)
+      (λ i b.
+      let none : nth c 0 (suc i) ≡ 0 = unfold nth in refl in
+      left-place z marks 0 l i b ∙ ap (place z 0 l) none ∙ place_zero z 0 l))
+
+  -- what stands at an old place
+  one_place : (k j : ℕ) → place z (suc k) l (nth c k (suc j)) ≡ place z k l (nth c k (suc j))
+  one_place k j = go (dec_le (suc j) (rank c k))
+    where
+      go : Dec (j < rank c k) → place z (suc k) l (nth c k (suc j)) ≡ place z k l (nth c k (suc j))
+      go (yes b) =
+          let o = old c k j b in
+          let e : nth c k (suc j) ≡ suc o.place = old-nth c k j b in
+          ap (place z (suc k) l) e
+          ∙ place_at z (suc k) l o.place (omega (arith, o.low))
+          ∙ sym (ap (place z k l) e ∙ place_at z k l o.place o.low)
+      go (no b) =
+          let e : nth c k (suc j) ≡ 0 = nth_past c k (suc j) (omega arith) in
+          ap (place z (suc k) l) e ∙ place_zero z (suc k) l ∙ sym (ap (place z k l) e ∙ place_zero z k l)
+
+  -- an edge that is excluded
+  pub left_skip : (k : ℕ) → c (suc k) ≡ false → left_of z marks k l ≡ left_of z marks (suc k) l
+  unfolding left_of
+  left_skip k e =
+      fill-same max_edges _ _
+      (λ j b. sym (ap (place z (suc k) l) (nth_other c k (suc j) (λ y. absurd (true≢false (sym y ∙ e)))) ∙ one_place k j))
+
+  -- one that is not
+  pub left_more : (k f : ℕ) (v : A) → k < max_edges → c (suc k) ≡ true → f ≡ rank c k → v ≡ get_or l k z
+      → set (left_of z marks k l) f v ≡ left_of z marks (suc k) l
+  unfolding left_of
+  left_more k f v b y e is =
+      sym (fill_is max_edges (λ j. place z (suc k) l (nth c (suc k) (suc j))) (set (left_of z marks k l) f v) z
+      (length-set (left_of z marks k l) f v ∙ left-size z marks k l) (λ i u. at i u (ℕ_discrete i f)))
+    where
+      at : (i : ℕ) → i < max_edges → Dec (i ≡ f) → place z (suc k) l (nth c (suc k) (suc i)) ≡ get_or (set (left_of z marks k l) f v) i z
+      at i u (yes q) =
+          let n : suc i ≡ rank c (suc k) = omega (arith, rank_yes c k y) in
+          ap (λ (j : ℕ). place z (suc k) l (nth c (suc k) j)) n
+          ∙ ap (place z (suc k) l) (nth-rank c (suc k) k (omega arith) y)
+          ∙ place_at z (suc k) l k (omega arith)
+          ∙ sym (rw q (get_or-set_same (left_of z marks k l) f v z (omega (arith, left-size z marks k l, rank_most c k)) ∙ is))
+      at i u (no q) =
+          ap (place z (suc k) l) (nth_other c k (suc i) (λ y. omega (arith, rank_yes c k y)))
+          ∙ one_place k i
+          ∙ sym (get_or-set_other (left_of z marks k l) f i v z q ∙ left-place z marks k l i u)
+
+-- ---- the graph
+
+-- of the first k edges, with a count of edges that is yet to be written
+abbrev pub gathered : Graph → ℕ → ℕ → Graph
+gathered g m k =
+    record {
+      n = g.n;
+      m = m;
+      a = left_of 0 g.mark k g.a;
+      b = left_of 0 g.mark k g.b;
+      cost = left_of (pos 0) g.mark k g.cost;
+      mark = left_of 0 g.mark k g.mark;
+    }
+
+-- and with it
+abbrev pub left_to : Graph → ℕ → Graph
+left_to g k = gathered g (rank (kept g.mark) k) k
+
+module _ (g : Graph) where
+  pub gathered_none : edgeless g.n ≡ left_to g 0
+  unfolding edgeless rank
+  gathered_none = λ i. record {
+    n = g.n;
+    m = 0;
+    a = sym (left_none 0 g.mark g.a) i;
+    b = sym (left_none 0 g.mark g.b) i;
+    cost = sym (left_none (pos 0) g.mark g.cost) i;
+    mark = sym (left_none 0 g.mark g.mark) i;
+  }
+
+  pub gathered_skip : (m k : ℕ) → kept g.mark (suc k) ≡ false → gathered g m k ≡ gathered g m (suc k)
+  gathered_skip m k e = λ i. record {
+    n = g.n;
+    m = m;
+    a = left_skip 0 g.mark g.a k e i;
+    b = left_skip 0 g.mark g.b k e i;
+    cost = left_skip (pos 0) g.mark g.cost k e i;
+    mark = left_skip 0 g.mark g.mark k e i;
+  }
+
+  -- as the loop writes them
+  pub gathered_more : (m k f a b mark : ℕ) (cost : ℤ) → k < max_edges → kept g.mark (suc k) ≡ true → f ≡ rank (kept g.mark) k
+      → a ≡ get_or g.a k 0 → b ≡ get_or g.b k 0 → cost ≡ get_or g.cost k (pos 0) → mark ≡ get_or g.mark k 0 → (was : Graph) → was ≡ gathered g m k
+      → record { n = was.n; m = was.m; a = set was.a f a; b = set was.b f b; cost = set was.cost f cost; mark = set was.mark f mark }
+      ≡ gathered g m (suc k)
+  gathered_more m k f a b mark cost few y e is_a is_b is_cost is_mark was same =
+      (λ i. record {
+        n = (same i).n;
+        m = (same i).m;
+        a = set (same i).a f a;
+        b = set (same i).b f b;
+        cost = set (same i).cost f cost;
+        mark = set (same i).mark f mark;
+      })
+      ∙ (λ i. record {
+        n = g.n;
+        m = m;
+        a = left_more 0 g.mark g.a k f a few y e is_a i;
+        b = left_more 0 g.mark g.b k f b few y e is_b i;
+        cost = left_more (pos 0) g.mark g.cost k f cost few y e is_cost i;
+        mark = left_more 0 g.mark g.mark k f mark few y e is_mark i;
+      })

@@ -1,13 +1,13 @@
--- The loop that expands bytes for the kept edges to bytes for all edges, and what a tour's bytes, and a node's marks, come to by that.
-use Rattle.std.specs.Prelude.{◌≡◌, refl, ◌≢◌, Bool, List, ℕ, suc, ◌+◌, ◌≤◌, ◌<◌, length, get_or, set}
-use Rattle.std.proofs.Common.{sym, ◌∙◌, subst, arith, length-set, get_or-set_same, get_or-set_other}
+-- Bytes for the kept edges, expanded to bytes for all edges, edge by edge, and what a tour's bytes, and a node's marks, come to by that.
+use Rattle.std.specs.Prelude.{◌≡◌, refl, Bool, List, ℕ, suc, ◌≤◌, ◌<◌, get_or, set}
+use Rattle.std.proofs.Common.{sym, ◌∙◌, arith, add-one}
 use Rattle.std.proofs.Math.Path.{ap}
 use Rattle.std.proofs.Math.Bool.{true, false, cond}
 use Rattle.std.proofs.Math.Decide.{ℕ_discrete}
 use Rattle.std.proofs.Math.ListN.{get_or-eq_default}
 use Rattle.lists.specs.Bools.{bit}
 use Rattle.lists.specs.Fill.{fill-at}
-use Rattle.lists.specs.Filling.{Filling, filling_is}
+use Rattle.lists.specs.Filling.{Filling, filling_more, filling_is}
 use Rattle.graph.specs.Limits.{max_edges}
 use Rattle.graph.specs.Network.{free, excluded}
 use Rattle.machine.specs.Machine.{Marks}
@@ -15,47 +15,6 @@ use Rattle.compaction.specs.Ranks.{rank, rank_most}
 use Rattle.compaction.specs.Spread.{spread_marks, spread_tour, spread-size, spread-kept, spread_rest}
 use Rattle.node.specs.Marks.{byte_of, bytes_of_tour, bytes_of, bytes-at}
 use Rattle.node.specs.Opened.{kept}
-
--- ---- bytes put at places
-
--- f places, ascending
-pub record Places (f : ℕ) (q : List ℕ) : Type 0 where
-  pub few : f ≤ max_edges
-  pub low : (j : ℕ) → j < f → get_or q j 0 < max_edges
-  pub up : (i j : ℕ) → i < j → j < f → get_or q i 0 < get_or q j 0
-
--- i is none of the first f places
-abbrev pub Unmet : ℕ → List ℕ → ℕ → Type 0
-Unmet f q i = (j : ℕ) → j < f → get_or q j 0 ≢ i
-
--- the first f bytes of a row stand at their places, and elsewhere what stood there before
-pub record Placed (f : ℕ) (q row base r : List ℕ) : Type 0 where
-  pub size : length r ≡ max_edges
-  pub hit : (j : ℕ) → j < f → get_or r (get_or q j 0) 0 ≡ get_or row j 0
-  pub miss : (i : ℕ) → Unmet f q i → get_or r i 0 ≡ get_or base i 0
-
-module _ (q row base : List ℕ) where
-  pub placed_none : length base ≡ max_edges → Placed 0 q row base base
-  placed_none e = record { size = e; hit = λ j h. absurd (omega arith); miss = λ i h. refl }
-
-  pub placed_more : (f j : ℕ) (r : List ℕ) → Places f q → j < f → Placed j q row base r
-      → Placed (j + 1) q row base (set r (get_or q j 0) (get_or row j 0))
-  placed_more f j r p b h = record {
-    size = length-set r (get_or q j 0) (get_or row j 0) ∙ h.size;
-    hit = λ i l. hit i l (ℕ_discrete i j);
-    miss = λ i u.
-        get_or-set_other r (get_or q j 0) i (get_or row j 0) 0 (λ e. u j (omega arith) (sym e))
-        ∙ h.miss i (λ k l. u k (omega arith));
-  }
-    where
-      hit : (i : ℕ) → i < j + 1 → Dec (i ≡ j) → get_or (set r (get_or q j 0) (get_or row j 0)) (get_or q i 0) 0 ≡ get_or row i 0
-      hit i l (yes e) = rw e (get_or-set_same r (get_or q j 0) (get_or row j 0) 0 (omega (arith, h.size, p.low j b)))
-      hit i l (no e) =
-          get_or-set_other r (get_or q j 0) (get_or q i 0) (get_or row j 0) 0 (omega (arith, p.up i j (omega arith) b))
-          ∙ h.hit i (omega arith)
-
-pub placed_to : (q row base : List ℕ) (j f : ℕ) (r : List ℕ) → j ≡ f → Placed j q row base r → Placed f q row base r
-placed_to q row base j f r e h = subst (λ (i : ℕ). Placed i q row base r) e h
 
 -- ---- the bytes of all edges
 
@@ -90,3 +49,27 @@ module _ (marks : List ℕ) (m : ℕ) (few : m ≤ max_edges) where
           fill-at max_edges (λ j. bit (get_or r j false)) (rank (kept marks) i) 0 (omega (arith, rank_most (kept marks) i))
           ∙ ap bit (sym (spread-kept (kept marks) m false false r i l e))
       at i l false e = ap bit (sym (spread_rest (kept marks) m false false r i l e))
+
+-- ---- of the first k edges, by a loop
+
+abbrev pub ExpandedTo : List ℕ → List ℕ → ℕ → List ℕ → Type 0
+ExpandedTo marks row k w = Filling 0 max_edges k (expanded_at marks row 0) w
+
+module _ (marks row w : List ℕ) (k : ℕ) (h : ExpandedTo marks row k w) where
+  -- an edge that is excluded
+  pub expanded_skip : kept marks (suc k) ≡ false → ExpandedTo marks row (suc k) w
+  expanded_skip e = record {
+    size = h.size;
+    new = λ j b. go j b (ℕ_discrete j k);
+    past = λ j b. h.past j (omega arith);
+  }
+    where
+      go : (j : ℕ) → j < suc k → Dec (j ≡ k) → get_or w j 0 ≡ expanded_at marks row 0 j
+      go j b (yes q) = rw (q, e) (h.past k (omega arith))
+      go j b (no q) = h.new j (omega arith)
+
+  -- one that is not
+  pub expanded_more : (f : ℕ) → k < max_edges → kept marks (suc k) ≡ true → f ≡ rank (kept marks) k
+      → ExpandedTo marks row (suc k) (set w k (get_or row f 0))
+  expanded_more f b y e =
+      rw (← add-one k) (filling_more 0 max_edges (expanded_at marks row 0) k w (get_or row f 0) b (rw (y, e) refl) h)

@@ -1,13 +1,13 @@
 -- A pass of the machine, from what a pass of crate onetree tells: the least tree and a byte for each of its edges, and a byte for each
 -- edge's ruling. `VerdictIs` is what the code of a pass has to show, by its verdict.
-use Rattle.std.specs.Prelude.{◌≡◌, refl, Bool, true, cond, List, ℕ, zero, suc, ◌≤◌, ◌<◌, eqb, length, get_or, ℤ, Result, Ok, Err}
+use Rattle.std.specs.Prelude.{◌≡◌, Bool, true, cond, List, ℕ, zero, suc, ◌≤◌, ◌<◌, eqb, length, get_or, ℤ, Result, Ok, Err}
 use Rattle.std.proofs.Common.{sym, ◌∙◌, subst, true≢false, arith}
 use Rattle.std.proofs.Math.Path.{ap}
 use Rattle.std.proofs.Math.Bool.{false}
 use Rattle.std.proofs.Math.Decide.{ℕ_discrete}
 use Rattle.std.proofs.Math.ListN.{get_or-eq_default}
 use Rattle.std.specs.Int.Signed.{lt_z}
-use Rattle.lists.specs.Bools.{bit, by_cases}
+use Rattle.lists.specs.Bools.{bit, bit_back, by_cases}
 use Rattle.lists.specs.Members.{◌∈◌}
 use Rattle.lists.specs.Numbers.{up_to, up_to_in, in_up_to}
 use Rattle.lists.specs.Rows.{row, row_at}
@@ -90,11 +90,7 @@ module _ (m : ℕ) (t : Edges) where
   tree_agrees few zero i = absurd (let z : 1 ≤ 0 = (in_up_to m zero i).0 in omega arith)
   tree_agrees few (suc k) i =
       let h : k < m = (in_up_to m (suc k) i).1 in
-      ap (λ (x : ℕ). eqb x 1) (tree-at k h (omega arith)) ∙ back (t (suc k))
-    where
-      back : (x : Bool) → eqb (bit x) 1 ≡ x
-      back true = refl
-      back false = refl
+      ap (λ (x : ℕ). eqb x 1) (tree-at k h (omega arith)) ∙ bit_back (t (suc k))
 
 -- ---- the machine's pass, by its cases
 

@@ -1,8 +1,8 @@
 -- The set bits of a word, from the lowest up, as a loop takes them: word w of a row, in which the bits are those of the edges that pass a
--- test (`Masked`), and how far the loop has come (`Walk`). Assumes nothing.
-use Rattle.std.specs.Prelude.{◌≡◌, refl, ◌≢◌, true, false, List, ℕ, zero, suc, ◌+◌, ◌-◌, ◌*◌, ◌^◌, ◌≤◌, ◌<◌, min, get_or, set}
+-- test (`Masked`), how far the loop has come (`Walk`), and what it does by then (`Upto`). Assumes nothing.
+use Rattle.std.specs.Prelude.{◌≡◌, refl, ◌≢◌, true, false, Option, Some, None, ℕ, zero, suc, ◌+◌, ◌-◌, ◌*◌, ◌^◌, ◌≤◌, ◌<◌, min}
 use Rattle.std.proofs.Math.Path.{sym, subst}
-use Rattle.std.proofs.Common.{ap, ◌∙◌, true≢false, arith, add-one, pow_pos}
+use Rattle.std.proofs.Common.{ap, ◌∙◌, true≢false, arith, pow_pos}
 use Rattle.std.proofs.Math.Decide.{dec_le, ℕ_discrete}
 use Rattle.std.specs.Int.Bits.{bit_and}
 use Rattle.std.specs.Int.Count.{count_trailing_zeros}
@@ -10,9 +10,9 @@ use Rattle.bits.specs.Digits.{bit_of, zero_bit}
 use Rattle.bits.specs.Changes.{clear_le, clear_here, clear_there}
 use Rattle.bits.specs.Words.{trailing_below, trailing_here, trailing_some, lowest_off}
 use Rattle.tree_theory.specs.OneTree.{Edges}
-use Rattle.compaction.specs.Ranks.{rank, rank_yes, rank_no}
+use Rattle.compaction.specs.Ranks.{rank, rank_yes, rank_no, rank_most}
 use Rattle.graph.specs.Limits.{max_edges}
-use Rattle.node.specs.Compacting.{Listed, listed_more}
+use Rattle.node.specs.declared.rows.SetBits.{SetBits}
 
 -- the place after the first k bits of word w, of m edges
 abbrev pub cut : ℕ → ℕ → ℕ → ℕ
@@ -26,24 +26,13 @@ pub record Masked (c : Edges) (m w x : ℕ) : Type 0 where
 
 -- ---- edges that c has not
 
-rank_skip : (c : Edges) (a b : ℕ) → a ≤ b → ((i : ℕ) → a ≤ i → i < b → c (suc i) ≡ false) → rank c a ≡ rank c b
+pub rank_skip : (c : Edges) (a b : ℕ) → a ≤ b → ((i : ℕ) → a ≤ i → i < b → c (suc i) ≡ false) → rank c a ≡ rank c b
 rank_skip c a zero h out = ap (rank c) (omega arith)
 rank_skip c a (suc b) h out = go (dec_le a b) (λ l. rank_skip c a b l (λ i k u. out i k (omega arith)))
   where
     go : Dec (a ≤ b) → (a ≤ b → rank c a ≡ rank c b) → rank c a ≡ rank c (suc b)
     go (yes l) before = before l ∙ sym (rank_no c b (out b l (omega arith)))
     go (no l) before = ap (rank c) (omega arith)
-
-pub listed_skip : (c : Edges) (a b : ℕ) (q : List ℕ) → a ≤ b → ((i : ℕ) → a ≤ i → i < b → c (suc i) ≡ false) → Listed c a q → Listed c b q
-listed_skip c a b q h out l = record {
-  size = l.size;
-  new = λ i u y. go i u y (dec_le (suc i) a);
-  low = λ j u. omega (arith, l.low j (omega (arith, rank_skip c a b h out)));
-}
-  where
-    go : (i : ℕ) → i < b → c (suc i) ≡ true → Dec (i < a) → get_or q (rank c i) 0 ≡ i
-    go i u y (yes k) = l.new i k y
-    go i u y (no k) = absurd (true≢false (sym y ∙ out i (omega arith) u))
 
 -- ---- the walk
 
@@ -85,9 +74,6 @@ module _ (c : Edges) (m w word : ℕ) (masked : Masked c m w word) where
 
       pub walk_last : f ≡ rank c (cut m w 64)
       walk_last = s.count ∙ rank_skip c (cut m w s.upto) (cut m w 64) (omega (arith, s.low)) last_clear
-
-      pub listed_last : (q : List ℕ) → Listed c (cut m w s.upto) q → Listed c (cut m w 64) q
-      listed_last q = listed_skip c (cut m w s.upto) (cut m w 64) q (omega (arith, s.low)) last_clear
 
     -- there is one
     module _ (some : x ≢ 0) where
@@ -152,13 +138,98 @@ module _ (c : Edges) (m w word : ℕ) (masked : Masked c m w word) where
           cleared j h (yes e) = ap (bit_of (x - 2 ^ t)) e ∙ clear_here x t here
           cleared j h (no e) = clear_there x t j here e ∙ trailing_below 64 x j (omega arith)
 
-      -- its place is listed
-      pub list_more : m ≤ max_edges → (q : List ℕ) → Listed c (cut m w s.upto) q
-          → (v : Walk c m w word (bit_and x (x - 1)) (f + 1)) × Listed c (cut m w v.upto) (set q f (64 * w + t))
+-- ---- as an iterator
+
+abbrev pub Lowest : SetBits → Option ℕ → SetBits → Type 0
+Lowest x None y = x.0 ≡ 0
+Lowest x (Some t) y = (x.0 ≢ 0) × (t ≡ count_trailing_zeros 64 x.0) × (y.0 ≡ bit_and x.0 (x.0 - 1))
+
+-- ---- what a loop does to each of the edges
+
+-- an edge of c at place k, the one after f others
+pub record Met (c : Edges) (m w k f : ℕ) : Type 0 where
+  pub low : k < m
+  pub kept : c (suc k) ≡ true
+  pub new : f ≡ rank c k
+  pub here : (64 * w ≤ k) × (k < 64 * w + 64)
+
+module _ (c : Edges) (m w : ℕ) where
+  -- P of the place up to which the edges are met, where x has the bits of the others, and f were met
+  pub record Upto (P : ℕ → Type 0) (x f : ℕ) : Type 0 where
+    pub few : m ≤ max_edges
+    pub word : ℕ
+    pub masked : Masked c m w word
+    pub walk : Walk c m w word x f
+    pub does : P (cut m w walk.upto)
+
+  -- nothing is done about an edge that c has not
+  abbrev pub Skips : (ℕ → Type 0) → Type 0
+  Skips P = (k : ℕ) → 64 * w ≤ k → k < cut m w 64 → c (suc k) ≡ false → P k → P (suc k)
+
+  skip_to : (P : ℕ → Type 0) (a b : ℕ) → a ≤ b → ((k : ℕ) → a ≤ k → k < b → P k → P (suc k)) → P a → P b
+  skip_to P a zero h step p = subst P (omega arith) p
+  skip_to P a (suc b) h step p = go (dec_le a b) (λ l. skip_to P a b l (λ k u v. step k u (omega arith)) p)
+    where
+      go : Dec (a ≤ b) → (a ≤ b → P b) → P (suc b)
+      go (yes l) before = step b l (omega arith) (before l)
+      go (no l) before = subst P (omega arith) p
+
+  module _ (P : ℕ → Type 0) where
+    pub upto_first : m ≤ max_edges → (word f : ℕ) (x : SetBits) → x ≡ record { 0 = word } → Masked c m w word → f ≡ rank c (cut m w 0) → P (cut m w 0)
+        → Upto P x.0 f
+    unfolding walk_first
+    upto_first few word f x is masked e p =
+        rw is (record { few = few; word = word; masked = masked; walk = walk_first c m w word masked f e; does = p })
+
+    pub upto_last : (x f : ℕ) → Upto P x f → Skips P → x ≡ 0 → (f ≡ rank c (cut m w 64)) × P (cut m w 64)
+    upto_last x f s skips none =
+        let clear = last_clear c m w s.word s.masked x f s.walk none in (
+          walk_last c m w s.word s.masked x f s.walk none,
+          skip_to P (cut m w s.walk.upto) (cut m w 64) (omega (arith, s.walk.low)) (λ k u v. skips k (omega arith) v (clear k u v)) s.does,
+        )
+
+    module _ (x y : SetBits) (f : ℕ) (s : Upto P x.0 f) (t : ℕ) (next : Lowest x (Some t) y) where
+      pub upto_edge : Met c m w (64 * w + t) f
+      upto_edge =
+          let some = next.0 in
+          rw next.1 (record {
+            low = within c m w s.word s.masked x.0 f s.walk some;
+            kept = met c m w s.word s.masked x.0 f s.walk some;
+            new = rank-met c m w s.word s.masked x.0 f s.walk some;
+            here = (omega arith, omega (arith, in_word c m w s.word s.masked x.0 f s.walk some));
+          })
+
+      pub upto_met : Skips P → P (64 * w + t)
+      upto_met skips =
+          let some = next.0 in
+          let e = upto_edge in
+          skip_to P (cut m w s.walk.upto) (64 * w + t) (omega (arith, from c m w s.word s.masked x.0 f s.walk some, next.1))
+          (λ k u v. skips k (omega (arith, e.low)) (omega (arith, e.low, e.here.1))
+          (between c m w s.word s.masked x.0 f s.walk some k u (omega (arith, next.1)))) s.does
+
+      -- once it is done
+      pub upto_more : (Q : ℕ → Type 0) → Q (suc (64 * w + t)) → Upto Q y.0 (f + 1)
       unfolding walk_more
-      list_more few q l = (
-        walk_more,
-        subst (λ (k : ℕ). Listed c k (set q f (64 * w + t))) (add-one (64 * w + t) ∙ sym cut-next)
-            (listed_more c (64 * w + t) f q rank-met (omega (arith, within))
-            (listed_skip c (cut m w s.upto) (64 * w + t) q (omega (arith, from)) between l)),
+      upto_more Q q =
+          rw next.2 (record {
+            few = s.few;
+            word = s.word;
+            masked = s.masked;
+            walk = walk_more c m w s.word s.masked x.0 f s.walk next.0;
+            does = subst Q (ap (λ (i : ℕ). suc (64 * w + i)) next.1 ∙ sym (cut-next c m w s.word s.masked x.0 f s.walk next.0)) q;
+          })
+
+-- the places of an edge that is met, of at most 190, before and after
+module _ (c : Edges) (m w : ℕ) (P : ℕ → Type 0) (x f : ℕ) where
+  pub place_fits : (t : ℕ) → Upto c m w P x f → x ≢ 0 → t ≡ count_trailing_zeros 64 x → 64 * w + t < max_edges
+  place_fits t s some e = omega (arith, e, s.few, within c m w s.word s.masked x f s.walk some)
+
+  pub count_fits : Upto c m w P x f → x ≢ 0 → f < max_edges
+  count_fits s some =
+      omega (
+        arith,
+        s.few,
+        within c m w s.word s.masked x f s.walk some,
+        rank-met c m w s.word s.masked x f s.walk some,
+        rank_most c (64 * w + count_trailing_zeros 64 x),
       )

@@ -10,9 +10,9 @@ use Rattle.std.proofs.lemmas.Nat.{or_lt}
 use Rattle.std.specs.Int.Count.{count_trailing_zeros}
 use Rattle.std.proofs.Math.ListN.{get_or, get_or-eq_default}
 use borrow.Author.Tests.{lt-ltb, le-ltb}
+use Rattle.std.proofs.Math.Bool.{or-false}
 use Rattle.lists.specs.Bools.{bit}
 use Rattle.lists.specs.Fill.{replicate-at}
-use Rattle.lists.specs.Filling.{Filling}
 use Rattle.bits.specs.Digits.{bit_of, bit_past, zero_bit}
 use Rattle.bits.specs.Words.{or-bit, set-or, power_here, power_there, others-bit}
 use Rattle.graph.specs.declared.Graph.{Graph}
@@ -20,20 +20,19 @@ use Rattle.graph.specs.Limits.{max_edges}
 use Rattle.graph.specs.Network.{Mark, free, required, excluded}
 use Rattle.graph.specs.Valid.{Valid}
 use Rattle.tree_theory.specs.OneTree.{Edges}
-use Rattle.tree_theory.specs.Valid.{is_required, is_excluded}
+use Rattle.tree_theory.specs.Valid.{is_required, is_excluded, is_free}
 use Rattle.machine.specs.Outcomes.{closes}
-use Rattle.machine.specs.Machine.{Marks, is_free, first_free, branch}
+use Rattle.machine.specs.Machine.{Marks, first_free, branch}
 use Rattle.machine.specs.Branching.{free_is, first_is}
 use Rattle.mark_rows.specs.MarkRows.{row_words, node_words, mark_at, mark_bits, rows_of, marks_in_rows}
 use Rattle.mark_rows.specs.SixWords.{marks-length, mark_bits_lem, rows_is}
 use Rattle.mark_rows.proofs.SixWords.{rows_required, rows_excluded}
 use Rattle.compaction.specs.Ranks.{rank, rank_yes}
 use Rattle.node.specs.declared.Fate.TheVariants as fate
-use Rattle.node.specs.Marks.{byte_of, bytes_of, bytes-at, byte_mark, marks_in, marks-size, marks-at}
+use Rattle.node.specs.Marks.{with_bytes, byte_of, bytes_of, bytes-at, byte_mark, marks_in, marks-size, marks-at}
 use Rattle.node.specs.Opened.{comes_to, opened_as, places, no_rows, kept}
-use Rattle.node.specs.Compacting.{Listed, listed_none, listed_at, old, listed-old}
 use Rattle.node.specs.Expanding.{expanded_at}
-use Rattle.node.specs.Walking.{cut, Masked, Walk, walk_first, walk_more, last_clear, power, in_word, from, within, met, between}
+use Rattle.node.specs.Walking.{cut, Masked, walk_first, within, met, between}
 
 -- ---- words of edges by a test
 
@@ -78,6 +77,10 @@ masked_others c x m w h = record {
 -- the edges that are not excluded, and the free ones, of any six words
 abbrev pub kept_in : ℕ → List ℕ → Edges
 kept_in m rows = kept (bytes_of (marks_in_rows m rows))
+
+-- a graph with their marks
+abbrev pub marked_in : ℕ → List ℕ → Graph → Graph
+marked_in m rows g = with_bytes g (bytes_of (marks_in_rows m rows))
 
 abbrev pub free_in : ℕ → List ℕ → Edges
 free_in m rows k = is_free (mark_at (marks_in_rows m rows) k)
@@ -137,33 +140,11 @@ pub ranked_none : (c : Edges) (m : ℕ) → 0 ≡ rank c (cut m 0 0)
 unfolding rank
 ranked_none c m = let e : cut m 0 0 ≡ 0 = omega arith in ap (rank c) (sym e)
 
-pub listed_start : (c : Edges) (m : ℕ) (q : List ℕ) → length q ≡ max_edges → Listed c (cut m 0 0) q
-listed_start c m q e = let z : cut m 0 0 ≡ 0 = omega arith in subst (λ (k : ℕ). Listed c k q) (sym z) (listed_none c q e)
-
 -- ---- the marks of the edges that are left
 
 -- the byte of an edge that is not excluded: 1 where its bit in the required row is set
 abbrev pub required_byte : List ℕ → ℕ → ℕ
 required_byte rows k = bit (bit_of (get_or rows (k / 64) 0) (k % 64))
-
--- those of the first f edges that q lists, and 0 past them
-abbrev pub MarkedTo : List ℕ → List ℕ → ℕ → List ℕ → Type 0
-MarkedTo rows q f l = Filling 0 max_edges f (λ j. required_byte rows (get_or q j 0)) l
-
--- one edge more is listed, with its mark
-pub marked_more : (rows q l : List ℕ) (f k v : ℕ) → f < max_edges → length q ≡ max_edges → v ≡ required_byte rows k → MarkedTo rows q f l
-    → MarkedTo rows (set q f k) (f + 1) (set l f v)
-marked_more rows q l f k v b e is h = record {
-  size = length-set l f v ∙ h.size;
-  new = λ j i. go j i (ℕ_discrete j f);
-  past = λ j i. get_or-set_other l f j v 0 (omega arith) ∙ h.past j (omega arith);
-}
-  where
-    go : (j : ℕ) → j < f + 1 → Dec (j ≡ f) → get_or (set l f v) j 0 ≡ required_byte rows (get_or (set q f k) j 0)
-    go j i (yes d) =
-        rw d (get_or-set_same l f v 0 (omega (arith, h.size)) ∙ is ∙ ap (required_byte rows) (sym (get_or-set_same q f k 0 (omega (arith, e)))))
-    go j i (no d) =
-        get_or-set_other l f j v 0 d ∙ h.new j (omega arith) ∙ ap (required_byte rows) (sym (get_or-set_other q f j k 0 d))
 
 kept_byte : (a b : Bool) → not b ≡ true → byte_of (mark_bits a b) ≡ bit a
 kept_byte true true e = absurd (true≢false (sym e))
@@ -171,23 +152,12 @@ kept_byte true false e = refl
 kept_byte false true e = absurd (true≢false (sym e))
 kept_byte false false e = refl
 
-pub marks_gathered : (m : ℕ) (rows : List ℕ) → m ≤ max_edges → (f : ℕ) (q l : List ℕ) → f ≡ rank (kept_in m rows) m → Listed (kept_in m rows) m q
-    → MarkedTo rows q f l → Filling 0 max_edges f (listed_at 0 (bytes_of (marks_in_rows m rows)) q) l
-marks_gathered m rows few f q l e h g = record {
-  size = g.size;
-  new = λ j b. g.new j b ∙ sym (at j (omega arith));
-  past = g.past;
-}
-  where
-    at : (j : ℕ) → j < rank (kept_in m rows) m → get_or (bytes_of (marks_in_rows m rows)) (get_or q j 0) 0 ≡ required_byte rows (get_or q j 0)
-    at j b =
-        let o = old (kept_in m rows) m j b in
-        let is : get_or q j 0 ≡ o.place = listed-old (kept_in m rows) m j b q h in
-        ap (λ (i : ℕ). get_or (bytes_of (marks_in_rows m rows)) i 0) is
-        ∙ byte_bits m rows few o.place o.low
-        ∙ kept_byte (bit_of (get_or rows (o.place / 64) 0) (o.place % 64)) (bit_of (get_or rows (row_words + o.place / 64) 0) (o.place % 64))
-        (sym (kept-bit m rows few o.place o.low) ∙ o.kept)
-        ∙ ap (required_byte rows) (sym is)
+-- which is that of its mark
+pub kept-mark : (m : ℕ) (rows : List ℕ) → m ≤ max_edges → (k : ℕ) → k < m → kept_in m rows (suc k) ≡ true
+    → required_byte rows k ≡ get_or (bytes_of (marks_in_rows m rows)) k 0
+kept-mark m rows few k l y =
+    sym (byte_bits m rows few k l
+    ∙ kept_byte (bit_of (get_or rows (k / 64) 0) (k % 64)) (bit_of (get_or rows (row_words + k / 64) 0) (k % 64)) (sym (kept-bit m rows few k l) ∙ y))
 
 -- ---- packed
 
@@ -309,10 +279,6 @@ own_rows g v l p =
 
 -- ---- the loop that packs a word
 
-or_none : (b : Bool) → b || false ≡ b
-or_none true = refl
-or_none false = refl
-
 where_here : (a v t : ℕ) → bit_of (bit_where a v (2 ^ t)) t ≡ eqb a v
 where_here a v t = go (eqb a v)
   where
@@ -405,7 +371,7 @@ module _ (c : Edges) (m w : ℕ) (new : ℕ → ℕ) (gone : (k : ℕ) → c (su
       other x v i n =
           or-bit x (bit_where mark v (2 ^ t)) i
           ∙ ap (λ (b : Bool). bit_of x i || b) (where_there mark v t i n)
-          ∙ or_none (bit_of x i)
+          ∙ or-false (bit_of x i)
 
       here : (x v : ℕ) → bit_of x t ≡ false → bit_of (bit_or x (bit_where mark v (2 ^ t))) t ≡ eqb (new (64 * w + t)) v
       here x v n =
@@ -432,37 +398,6 @@ module _ (c : Edges) (m w : ℕ) (new : ℕ → ℕ) (gone : (k : ℕ) → c (su
     past₁ = p.past₁;
     past₂ = p.past₂;
   }
-
--- a turn of the loop, and its end
-module _ (c : Edges) (m w word : ℕ) (masked : Masked c m w word) (new : ℕ → ℕ) (gone : (k : ℕ) → c (suc k) ≡ false → new k ≡ 2) (x f : ℕ)
-    (s : Walk c m w word x f) (r q : ℕ) (p : Packing c m w new s.upto r q) where
-  pub pack_more : (some : x ≢ 0) (mark : ℕ) → new (64 * w + count_trailing_zeros 64 x) ≡ mark
-      → (v : Walk c m w word (bit_and x (x - 1)) (f + 1))
-      × Packing c m w new v.upto (bit_or r (bit_where mark 1 (x - bit_and x (x - 1)))) (bit_or q (bit_where mark 2 (x - bit_and x (x - 1))))
-  unfolding walk_more
-  pack_more some mark e = (
-    walk_more c m w word masked x f s some,
-    rw (power c m w word masked x f s some)
-        (packing_met c m w new gone t r q mark (in_word c m w word masked x f s some) (within c m w word masked x f s some)
-        (met c m w word masked x f s some) e
-        (packing_skip c m w new gone s.upto t r q (from c m w word masked x f s some) (omega (arith, in_word c m w word masked x f s some))
-        (λ i a b h. between c m w word masked x f s some (64 * w + i) (omega arith) (omega arith)) p)),
-  )
-    where
-      t : ℕ
-      t = count_trailing_zeros 64 x
-
-  pub pack_last : x ≡ 0 → PackedWord m new w r q
-  pack_last none =
-      packing_all c m w new gone r q
-      (packing_skip c m w new gone s.upto 64 r q s.low (omega arith)
-      (λ i a b h. last_clear c m w word masked x f s none (64 * w + i) (omega arith) (omega arith)) p)
-
-pub packing_as : (c : Edges) (m w : ℕ) (new : ℕ → ℕ) (upto r q a b x y : ℕ) → x ≡ a → y ≡ b → Packing c m w new upto (bit_or r a) (bit_or q b)
-    → Packing c m w new upto (bit_or r x) (bit_or q y)
-packing_as c m w new upto r q a b x y e h p =
-    subst (λ (i : ℕ). Packing c m w new upto (bit_or r i) (bit_or q y)) (sym e)
-    (subst (λ (i : ℕ). Packing c m w new upto (bit_or r a) (bit_or q i)) (sym h) p)
 
 pub new_gone : (m : ℕ) (rows marks : List ℕ) (k : ℕ) → kept_in m rows (suc k) ≡ false → new_byte m rows marks k ≡ 2
 new_gone m rows marks k y = rw y
@@ -517,6 +452,10 @@ both_clear true false e = absurd (true≢false (sym e))
 both_clear false true e = absurd (true≢false (sym e))
 both_clear false false e = (refl, refl)
 
+-- words with one bit more, bit t of word w
+abbrev pub with_bit : ℕ → ℕ → List ℕ → List ℕ
+with_bit w t rows = set rows w (bit_or (get_or rows w 0) (2 ^ t))
+
 module _ (m : ℕ) (rows : List ℕ) (few : m ≤ max_edges) (k : ℕ) (f : FirstFree m rows k) where
   abbrev marks : Marks
   marks = marks_in_rows m rows
@@ -529,12 +468,8 @@ module _ (m : ℕ) (rows : List ℕ) (few : m ≤ max_edges) (k : ℕ) (f : Firs
   unfolding branch
   branch_closes d e = rw (first, le-ltb k (length marks) (omega (arith, marks-length m rows)))
 
-  -- the bit of edge k, in the row that starts at word `from`
-  abbrev edge_set : ℕ → List ℕ
-  edge_set from = set rows (from + k / 64) (bit_or (get_or rows (from + k / 64) 0) (2 ^ (k % 64)))
-
   pub branch_splits : (d : List ℤ) → k < m → rows ≡ rows_of marks
-      → comes_to fate.Splits (edge_set row_words) (edge_set 0) (replicate max_edges 0) (places d) ≡ opened_as (branch d marks)
+      → comes_to fate.Splits (with_bit (row_words + k / 64) (k % 64) rows) (with_bit (k / 64) (k % 64) rows) (replicate max_edges 0) (places d) ≡ opened_as (branch d marks)
   unfolding branch opened_as
   branch_splits d h e =
       rw (first, lt-ltb k (length marks) (omega (arith, marks-length m rows)))
@@ -546,15 +481,16 @@ module _ (m : ℕ) (rows : List ℕ) (few : m ≤ max_edges) (k : ℕ) (f : Firs
       clear : (bit_of (get_or rows (k / 64) 0) (k % 64) ≡ false) × (bit_of (get_or rows (row_words + k / 64) 0) (k % 64) ≡ false)
       clear = both_clear _ _ (ap is_free (sym (mark_bits_lem m rows k few h)) ∙ f.here h)
 
-      lower : edge_set row_words ≡ rows_of (set marks k excluded)
+      lower : with_bit (row_words + k / 64) (k % 64) rows ≡ rows_of (set marks k excluded)
       lower =
           ap (set rows (row_words + k / 64)) (set-or (get_or rows (row_words + k / 64) 0) (k % 64) clear.1)
           ∙ ap (λ (l : List ℕ). set l (row_words + k / 64) (get_or l (row_words + k / 64) 0 + 2 ^ (k % 64))) e
           ∙ sym (rows_excluded m marks few (marks-length m rows) k h open_edge)
 
-      upper : edge_set 0 ≡ rows_of (set marks k required)
+      upper : with_bit (k / 64) (k % 64) rows ≡ rows_of (set marks k required)
       upper =
-          let z : 0 + k / 64 ≡ k / 64 = omega arith in
-          ap (set rows (0 + k / 64)) (set-or (get_or rows (0 + k / 64) 0) (k % 64) (ap (λ (i : ℕ). bit_of (get_or rows i 0) (k % 64)) z ∙ clear.0))
-          ∙ ap (λ (l : List ℕ). set l (0 + k / 64) (get_or l (0 + k / 64) 0 + 2 ^ (k % 64))) e
+          let z : k / 64 ≡ 0 + k / 64 = omega arith in
+          ap (set rows (k / 64)) (set-or (get_or rows (k / 64) 0) (k % 64) clear.0)
+          ∙ ap (λ (l : List ℕ). set l (k / 64) (get_or l (k / 64) 0 + 2 ^ (k % 64))) e
+          ∙ ap (λ (w : ℕ). set (rows_of marks) w (get_or (rows_of marks) w 0 + 2 ^ (k % 64))) z
           ∙ sym (rows_required m marks few (marks-length m rows) k h open_edge)

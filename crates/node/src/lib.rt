@@ -12,13 +12,12 @@ mod compact;
 mod passes;
 mod rows;
 
-use compact::{expand, without_excluded};
 use graph::{Graph, MAX_EDGES, MAX_VERTICES, Refusal};
 use machine::Settings;
 use onetree::PassLists;
 use passes::{Ending, open_left};
+use rows::Rows;
 pub use rows::rows_of;
-use rows::{Rows, close, split};
 
 // Limits, as specs/Limits.antt of crate graph has them.
 pub const MAX_SWEEPS: u32 = 15;
@@ -30,10 +29,7 @@ pub const MAX_STEP: u32 = 10_000;
 pub fn settings_fault(settings: Settings) -> Result<(), Refusal>
     ensures { fault_of result ≡ settings_fault settings.sweeps settings.step }
 {
-    if settings.sweeps > MAX_SWEEPS || settings.step > MAX_STEP {
-        return Err(Refusal::Settings);
-    }
-    Ok(())
+    Refusal::Settings.unless(settings.sweeps <= MAX_SWEEPS && settings.step <= MAX_STEP)
 }
 
 // The bits of a word, the words of a row, and those of a node's marks: a row for its required edges, then one for its excluded ones. Edge k is
@@ -44,7 +40,7 @@ pub const ROW_WORDS: usize = 3;
 
 pub const NODE_WORDS: usize = 2 * ROW_WORDS;
 
-// Multipliers in an array's places, as many as it has, then zeros.
+// Multipliers in an array's places, as many as it has, then zeros: with n elsewhere, as the record carries them.
 // Ruled out: a multiplier left out, or one that another follows past the last.
 pub fn padded(multipliers: &[i32]) -> [i32; MAX_VERTICES]
     ensures { result ≡ places multipliers.now }
@@ -56,8 +52,8 @@ pub fn padded(multipliers: &[i32]) -> [i32; MAX_VERTICES]
 }
 
 // A node's marks in `rows`, and what its opening leaves: of the two nodes of a split, the lower one in `rows`, with the edge excluded, and
-// the upper one in `top`, with the edge required; a found tour in `tour`, a byte for each edge; and in `last` the multipliers of both nodes,
-// which are those of the last pass. Zero where there is nothing to tell.
+// the upper one in `top`, with the edge required; a found tour in `tour`, a byte for each edge, as C is lent the record's best; and in `last`
+// the multipliers of both nodes, which are those of the last pass. Zero where there is nothing to tell.
 #[derive(Clone, Copy, Debug, PartialEq, Eq)]
 pub struct Workspace {
     pub rows: [u64; NODE_WORDS],
@@ -81,8 +77,8 @@ impl Workspace {
     }
 }
 
-// What becomes of a node that is opened. No one generic enum with those of a pass and of all passes (passes.rt): the first two cases say something else
-// in each, as the tour is then in the workspace or in the graph's marks, and the third would lose its name.
+// What becomes of a node that is opened. What goes with it lies in the workspace, out of which the search copies it into its record: as values of
+// these cases it would be copied twice.
 #[derive(Clone, Copy, Debug, PartialEq, Eq)]
 pub enum Fate {
     Closes,
@@ -90,7 +86,7 @@ pub enum Fate {
     Splits,
 }
 
-// The node with the marks in `rows` is opened, on the graph of its edges that are not excluded: they are listed from the words, the loops of a
+// The node with the marks in `rows` is opened, on the graph of its edges that are not excluded: they are gathered by the words, the loops of a
 // pass go over them alone, and what they come to is packed into words again. The graph's own marks count for nothing, and words that make no
 // marks are read as marks all the same. The ceiling of the settings is the upper bound. `lists` are for the passes to work in: whatever they
 // hold, the answers are the same, and what they hold afterwards is free, so a search makes them once for all its nodes.
@@ -107,26 +103,29 @@ pub fn open(
         ≡ opens (taken (marked g.now node.old.rows) multipliers.now settings) node.old }
 {
     let m = usize::from(g.m);
+    // A test of its own: behind `unless` a wrong limit is refused only by a goal that names no fact, and a must-fail edit must fail at one.
     if m > MAX_EDGES {
         return Err(Refusal::Graph);
     }
-    let mut place = [0u8; MAX_EDGES];
     let mut left = Graph::edgeless(g.n);
     let rows = Rows {
         words: &node.rows,
         m,
     };
-    without_excluded(g, &rows, &mut place, &mut left);
+    rows.without_excluded(g, &mut left);
     match open_left(&mut left, multipliers, settings, &mut node.last, lists)? {
-        Ending::Shut => Ok(close(node)),
+        Ending::Shut => Ok(node.close()),
         Ending::Found => {
-            *node = Workspace::blank();
-            expand(&place, &left, &mut node.tour);
+            let tour = rows.expand(&left.mark);
+            *node = Workspace {
+                tour,
+                ..Workspace::blank()
+            };
             Ok(Fate::Finds)
         }
         Ending::Unclosed => {
             node.rows = rows.pack(&left.mark);
-            Ok(split(m, node))
+            Ok(node.split(m))
         }
     }
 }

@@ -18,15 +18,15 @@ ghost use Rattle.node.specs.Passing.{TreeIs};
 ghost use Rattle.node.specs.Refusing.{EndsAs};
 
 use crate::{padded, settings_fault};
-use graph::{Graph, MAX_EDGES, MAX_VERTICES, Refusal, VERTEX_PLACES};
+use graph::{Graph, MAX_EDGES, MAX_VERTICES, Refusal, VERTEX_PLACES, ValidGraph};
 use machine::Settings;
 use onetree::{Found, MAX_MULTIPLIER, PassLists, Ruling};
 
-// The degree of each vertex in the edges that are in, vertex v's at place v.
-fn count_degrees(g: &Graph, tree: &[u8; MAX_EDGES]) -> [u8; VERTEX_PLACES]
-    requires { Valid g.now }
-    ensures { DegreesTo g.now.m g.now tree.now result }
+// The degree of each vertex in the edges that are in, vertex v's at place v. The graph by reference: by value a pass takes 7 instructions more.
+fn count_degrees(valid: &ValidGraph, tree: &[u8; MAX_EDGES]) -> [u8; VERTEX_PLACES]
+    ensures { DegreesTo valid.now.graph.now.m valid.now.graph.now tree.now result }
 {
+    let g = valid.graph;
     let mut degrees = [0u8; VERTEX_PLACES];
     let m = usize::from(g.m);
     for ((&a, &b), &w) in g.a[..m].iter().zip(&g.b[..m]).zip(&tree[..m]) {
@@ -91,8 +91,11 @@ fn mark_by(ruling: Ruling) -> u8
 }
 
 // The marks of the edges, once the rulings are applied; zero past them before and after. By number: `iter_mut` with `zip` was tried, and after such
-// a loop nothing is known of the marks. `padded`, here and in the two functions that call it, is no ghost field of a struct around the graph: each
-// write of a mark would have to show it again, and the tree part takes a graph; `marks_alone` says what a call changes, which no field can.
+// a loop nothing is known of the marks; with `enumerate` the rulings are still read by number, and the invariant names a part of the marks, as at
+// greedy's `charge_each`; `rulings.map(mark_by)` takes 4,550 instructions, as it moves one ruling at a time, where a whole pass
+// of 8 vertices takes 6,970. `padded`, here and in `judge` and `open_left`, is no ghost field of a struct around the graph: each write of a mark
+// would have to show it again, and the tree part takes a graph; `marks_alone` says what a call changes, which no field can. Nor is the graph a
+// `ValidGraph` here, which is lent for reading.
 fn apply(rulings: &[Ruling; MAX_EDGES], g: &mut Graph)
     requires valid { Valid g.old }
     requires padded { Padded g.old.m g.old.mark }
@@ -166,7 +169,7 @@ fn judge(
     let Some(found) = ask(g, d, settings, hint, lists)? else {
         return Ok(Verdict::Shut);
     };
-    let degrees = count_degrees(g, &lists.least.tree);
+    let degrees = count_degrees(&ValidGraph { graph: g }, &lists.least.tree);
     if two_each(&degrees[1..=usize::from(g.n)]) {
         g.mark = lists.least.tree;
         return Ok(Verdict::Found);
@@ -178,7 +181,8 @@ fn judge(
     })
 }
 
-// What the passes of a node come to: it is shut; a tour is found; or it is unclosed after the last of them.
+// What the passes of a node come to: it is shut; a tour is found; or it is unclosed after the last of them. One enum for how a pass and all of them
+// end was proved, with the tour read where the lists have it: with these and two smaller changes a node of 20 vertices takes 218 instructions more, of 44,772.
 #[derive(Clone, Copy)]
 pub(crate) enum Ending {
     Shut,
@@ -188,7 +192,7 @@ pub(crate) enum Ending {
 
 // The passes of the node with the graph's marks, on all edges given: 0 to `sweeps`, from the node's multipliers on. Then the graph's marks are
 // the tour that is found, or the marks after the last pass, of which `last` gets the multipliers. The hint is the tree part's order, and
-// `live`, how much of it counts: as an `ArrayVec` it takes 165 instructions more a node of 8 vertices and 5 sweeps, in zeroing alone.
+// `live`, how much of it counts: as an `ArrayVec` it takes 165 instructions more, of 43,400, a node of 8 vertices and 5 sweeps, in zeroing alone.
 pub(crate) fn open_left(
     g: &mut Graph,
     multipliers: &[i32; MAX_VERTICES],

@@ -1,15 +1,12 @@
 -- The least 1-tree against a ceiling: what is known once the rulings are worked out. Multipliers, bounds and the ceiling count in parts of a minute, by
 -- the denominator den. Assumes nothing.
-use Rattle.std.specs.Prelude.{◌≡◌, refl, Bool, true, false, not, cond, List, ℕ, suc, ◌<◌, ◌≤◌, length, get_or, ℤ, Option, None, Some, Result, Ok, Err}
+use Rattle.std.specs.Prelude.{◌≡◌, refl, Bool, true, false, not, cond, List, ℕ, suc, ◌<◌, ◌≤◌, length, get_or, ℤ, Option, None, Some}
 use Rattle.std.proofs.Common.{◌∙◌, sym, ap, subst, arith}
 use Rattle.std.specs.Int.Signed.{lt_z, mag}
 use Rattle.lists.specs.Bools.{bit}
 use Rattle.integers.specs.Parts.{up, dn}
-use Rattle.integers.specs.Multiples.{◌times◌}
 use Rattle.integers.specs.Range.{InRange, within, within_range}
 use Rattle.graph.specs.declared.Graph.{Graph}
-use Rattle.graph.specs.declared.refusals.Refusal.{Refusal}
-use Rattle.graph.specs.Refusals.{fault_of}
 use Rattle.graph.specs.Limits.{max_edges, max_ceiling, max_denominator}
 use Rattle.graph.specs.Network.{network}
 use Rattle.tree_theory.specs.OneTree.{Edges}
@@ -58,19 +55,12 @@ pub record NoneWithin (den : ℕ) (g : Graph) (d : List ℤ) (ceiling : ℤ) (af
   pub order : after.least.order ≡ blank
   pub rulings : after.rulings ≡ all_keep
 
--- what the lists are by the answer: a refusal leaves them as they were
-abbrev pub AgainstCeiling : ℕ → Graph → List ℤ → ℤ → PassLists → Result (Option Found) Refusal → PassLists → Type 0
-AgainstCeiling den g d ceiling before (Err fault) after = after ≡ before
-AgainstCeiling den g d ceiling before (Ok None) after = NoneWithin den g d ceiling after × Weighed den g d after.least
-AgainstCeiling den g d ceiling before (Ok (Some r)) after =
+-- what the lists are by the answer, of a call's input without a fault
+abbrev pub AgainstCeiling : ℕ → Graph → List ℤ → ℤ → Option Found → PassLists → Type 0
+AgainstCeiling den g d ceiling None after = NoneWithin den g d ceiling after × Weighed den g d after.least
+AgainstCeiling den g d ceiling (Some r) after =
     Within den g d ceiling r.bound after.least.tree (ruling_bytes after.rulings) × Hinted g.mark g.m after.least.order r.live
     × Weighed den g d after.least
-
--- and which answer it is, of a graph and multipliers without a fault; a ceiling in minutes is compared as that many times the denominator
-pub record RuledOrRefused (den : ℕ) (g : Graph) (d : List ℤ) (ceiling : ℤ) (before : PassLists) (r : Result (Option Found) Refusal)
-    (after : PassLists) : Type 0 where
-  pub fault : fault_of r ≡ cond (not (ceiling_fits ceiling)) 13 (denominator_fault den)
-  pub leaves : AgainstCeiling den g d (den times ceiling) before r after
 
 -- ---- the fault of the ceiling comes before that of the denominator
 

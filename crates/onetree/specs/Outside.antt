@@ -5,7 +5,7 @@ use Rattle.std.specs.Prelude.{◌≡◌, refl, ◌≢◌, ◌⊎◌, Bool, true,
 use Rattle.std.proofs.Common.{◌∙◌, sym, subst, inl, inr, true≢false, arith, length-set, get_or-set_same, get_or-set_other, eq-eqb, ne_eqb}
 use Rattle.std.proofs.Math.Decide.{ℕ_discrete}
 use Rattle.std.proofs.lemmas.List.{length-replicate, get_or-replicate}
-use Rattle.lists.specs.Rows.{zeros}
+use Rattle.lists.specs.Fill.{replicate-at}
 use Rattle.graph.specs.declared.Graph.{Graph}
 use Rattle.graph.specs.Limits.{max_edges}
 use Rattle.graph.specs.Network.{network}
@@ -63,7 +63,7 @@ outside_none g w c rep r near slack t = record {
   least = λ u b. subst (λ (x : ℕ). Least (Crosses g w rep r u) (charge_at c) no_charge 0 x)
       (sym (get_or-replicate 21 u no_charge 0 (omega (arith, t.hangs.room u b.1))))
       (least_none (Crosses g w rep r u) (charge_at c) no_charge);
-  rest = λ j h. zeros max_edges j;
+  rest = λ j h. replicate-at max_edges 0 j;
   long = (length-replicate {A = ℕ} max_edges 0, length-replicate {A = ℕ} 21 no_charge);
 }
 

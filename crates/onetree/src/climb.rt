@@ -1,5 +1,5 @@
 // The circle that an edge closes with the tree: its two ends climb to where they meet.
-ghost use Rattle.std.specs.Prelude.{◌≡◌, length, get_or};
+ghost use Rattle.std.specs.Prelude.{get_or};
 ghost use Rattle.swaps.specs.Hanging.{Hangs, Vertex};
 ghost use Rattle.swaps.specs.RootedTree.{shape};
 ghost use Rattle.swaps.specs.Climbing.{Climbed};
@@ -20,14 +20,14 @@ impl Rooting {
         c: u64,
     ) -> u64
         requires { Hangs (shape self.now.parent self.now.depth)
-            × Vertex (shape self.now.parent self.now.depth) from × Vertex (shape self.now.parent self.now.depth) to
-            × (length cheapest.old ≡ 21) }
+            × Vertex (shape self.now.parent self.now.depth) from × Vertex (shape self.now.parent self.now.depth) to }
         ensures { Climbed (shape self.now.parent self.now.depth) (λ v. get_or self.now.weight v 0)
             cheapest.old c from to result cheapest.new }
     {
         let mut top: u64 = 0;
         let mut x = from;
         let mut y = to;
+        // Document 01's 'labelled break out of the nested climb'. As one loop, which swaps where the other is deeper, climbs took 1.11 times the instructions.
         'walk: loop {
             loop {
                 if x == y {

@@ -1,25 +1,19 @@
 // The least 1-tree against a ceiling: whether any is within it, and then the rulings.
-ghost use Rattle.std.specs.Prelude.{◌≡◌, ◌≤◌, false};
+ghost use Rattle.std.specs.Prelude.{◌≡◌, ◌≤◌, false, IfOk};
 ghost use Rattle.std.specs.Int.Signed.{lt_z};
 ghost use Rattle.integers.specs.Range.{InRange};
 ghost use Rattle.integers.specs.Multiples.{◌times◌};
-ghost use Rattle.graph.specs.Limits.{max_ceiling, max_denominator};
+ghost use Rattle.graph.specs.Limits.{max_ceiling};
+ghost use Rattle.graph.specs.Refusals.{fault_of};
 ghost use Rattle.swaps.specs.Slack.{SlackIs};
 ghost use Rattle.greedy.specs.Charged.{max_scaled_ceiling, max_slack};
-ghost use Rattle.onetree.specs.Ceiling.{BoundFits, RuledOrRefused};
+ghost use Rattle.onetree.specs.Answers.{rule_fault};
+ghost use Rattle.onetree.specs.Ceiling.{BoundFits, AgainstCeiling};
 
 use crate::PassLists;
 use crate::rulings::{Ruling, rulings};
-use graph::{MAX_EDGES, Refusal};
-use greedy::{Checked, Found, ceiling_fault};
-
-// A ceiling in units of the multipliers: q times it (document 02, C-17).
-fn in_units(q: u64, ceiling: i64) -> i64
-    requires { (q ≤ max_denominator) × InRange max_ceiling ceiling }
-    ensures { result ≡ q times ceiling }
-{
-    (q as i64) * ceiling
-}
+use graph::{Graph, MAX_EDGES, Refusal};
+use greedy::{Checked, Denominator, Found, ceiling_fault};
 
 // How far a bound lies below a ceiling, both in units of the multipliers.
 fn slack_of(ceiling: i64, bound: i64) -> u64
@@ -29,31 +23,60 @@ fn slack_of(ceiling: i64, bound: i64) -> u64
     ceiling.abs_diff(bound)
 }
 
-// The fault of the ceiling or the denominator; or else one tree, and from it everything: a ruling for each edge and 'keep' past them, 'keep' at every
-// place where no 1-tree is within the ceiling. The numbers come one by one, as `rule` and `pass` have them: a struct would be made in these two and taken
-// apart here alone.
-pub(crate) fn judge(
-    checked: &Checked,
+// A graph and its multipliers with a denominator and a ceiling, which none of the refusals 15, 11, 12, 13 and 32 meets.
+#[derive(Clone, Copy)]
+pub(crate) struct Capped<'a> {
+    checked: Checked<'a>,
+    q: Denominator,
     ceiling: i64,
-    denominator: u64,
-    hint: &[u8],
-    lists: &mut PassLists,
-) -> Result<Option<Found>, Refusal>
-    ensures { RuledOrRefused denominator checked.now.graph.now checked.now.multipliers.now ceiling lists.old result lists.new }
-{
-    ceiling_fault(ceiling)?;
-    let found = checked.least(denominator, hint, &mut lists.least)?;
-    lists.rulings = [Ruling::Keep; MAX_EDGES];
-    let Some(found) = found else {
-        return Ok(None);
-    };
-    let top = in_units(denominator, ceiling);
-    if top < found.bound {
-        lists.least.tree = [0; MAX_EDGES];
-        lists.least.order = [0; MAX_EDGES];
-        return Ok(None);
+    ghost range: { InRange max_ceiling ceiling },
+}
+
+impl<'a> Capped<'a> {
+    // Of a call's input and a list lent for an answer, of length lent: what can be relied on, or the first fault.
+    pub(crate) fn new(
+        graph: &'a Graph,
+        multipliers: &'a [i32],
+        ceiling: i64,
+        denominator: u64,
+        lent: usize,
+    ) -> Result<Capped<'a>, Refusal>
+        ensures fault { fault_of result ≡ rule_fault graph.now multipliers.now ceiling denominator lent }
+        ensures same { IfOk result (λ c. (c.checked.graph.now ≡ graph.now) × (c.checked.multipliers.now ≡ multipliers.now)
+            × (c.q.q ≡ denominator) × (c.ceiling ≡ ceiling)) }
+    {
+        let checked = Checked::new(graph, multipliers, lent)?;
+        ceiling_fault(ceiling)?;
+        let q = Denominator::new(denominator)?;
+        Ok(Capped {
+            checked,
+            q,
+            ceiling,
+        })
     }
-    let slack = slack_of(top, found.bound);
-    rulings(checked.graph, &lists.least, slack, &mut lists.rulings);
-    Ok(Some(found))
+
+    // The ceiling in units of the multipliers: q times it (document 02, C-17).
+    fn top(&self) -> i64
+        ensures { result ≡ self.now.q.q times self.now.ceiling }
+    {
+        (self.q.q as i64) * self.ceiling
+    }
+
+    // One tree, and from it everything: a ruling for each edge and 'keep' past them, 'keep' at every place where no 1-tree is within the ceiling. The rulings
+    // are blanked before all else, as `least` does the other lists: the compiler then sees that a caller need not have done it.
+    pub(crate) fn judge(&self, hint: &[u8], lists: &mut PassLists) -> Option<Found>
+        ensures { AgainstCeiling self.now.q.q self.now.checked.graph.now self.now.checked.multipliers.now (self.now.q.q times self.now.ceiling)
+            result lists.new }
+    {
+        lists.rulings = [Ruling::Keep; MAX_EDGES];
+        let found = self.checked.least(self.q, hint, &mut lists.least)?;
+        let top = self.top();
+        if top < found.bound {
+            lists.least.forget_tree();
+            return None;
+        }
+        let slack = slack_of(top, found.bound);
+        rulings(self.checked.graph, &lists.least, slack, &mut lists.rulings);
+        Some(found)
+    }
 }

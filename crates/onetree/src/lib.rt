@@ -3,9 +3,9 @@
 #![tactic(auto)]
 
 ghost use Rattle.std.specs.Prelude.{◌≡◌, length};
-ghost use Rattle.tree_theory.specs.Arrays.{blank};
 ghost use Rattle.greedy.specs.Least.{blank_lists};
-ghost use Rattle.onetree.specs.Answers.{all_keep, ruling_bytes, meaning, pass_meaning, HintAfter, WeighedAfter, tree_reply, tree_leaves, rule_reply, rule_leaves, pass_tree, pass_rulings};
+ghost use Rattle.onetree.specs.Answers.{all_keep, ruling_bytes, meaning, pass_meaning, HintAfter, WeighedAfter, tree_reply, tree_leaves};
+ghost use Rattle.onetree.specs.Answers.{rule_reply, rule_leaves, pass_tree, pass_rulings};
 
 mod climb;
 mod judge;
@@ -13,11 +13,12 @@ mod rooted;
 mod rulings;
 
 use graph::{Graph, MAX_EDGES, Refusal};
-use greedy::Checked;
+use greedy::{Checked, Denominator};
 pub use greedy::{
     Found, Lists, MAX_CEILING, MAX_DENOMINATOR, MAX_MULTIPLIER, ceiling_fault, ceiling_fits,
     denominator_fault, denominator_fits, input_fault, multipliers_fault, multipliers_fit,
 };
+use judge::Capped;
 pub use rulings::{NoRuling, Ruling};
 
 // What a pass is lent: the lists of the least 1-tree, and each edge's ruling.
@@ -41,6 +42,7 @@ impl PassLists {
 
 // The 1-tree of least bound, or that there is none.
 // Ruled out: of two 1-trees of equal bound the one with the higher-numbered edge; 'no tree' with a byte of `out` changed; the bound in minutes.
+#[tactic(auto, using(tree_theory::specs::Accepted::no_fault))]
 pub fn tree(
     g: &Graph,
     multipliers: &[i32],
@@ -50,9 +52,10 @@ pub fn tree(
     ensures reply { meaning result ≡ tree_reply g.now multipliers.now denominator (length out.old) }
     ensures left { out.new ≡ tree_leaves g.now multipliers.now denominator out.old }
 {
-    let mut lists = Lists::blank();
     let checked = Checked::new(g, multipliers, out.len())?;
-    let Some(found) = checked.least(denominator, &[], &mut lists)? else {
+    let q = Denominator::new(denominator)?;
+    let mut lists = Lists::blank();
+    let Some(found) = checked.least(q, &[], &mut lists) else {
         return Ok(None);
     };
     out.copy_from_slice(&lists.tree[..out.len()]);
@@ -62,6 +65,7 @@ pub fn tree(
 // The bound of the least 1-tree, and for each edge whether it can be in or out of a 1-tree within the ceiling; or that none is within it.
 // Ruled out: a required edge swapped out on its circle; BAR at a bound equal to the ceiling; FORCE of a required edge; a bound in parts of a minute
 // compared with a ceiling in minutes.
+#[tactic(auto, using(crate::specs::RuleCall::rule_no_fault))]
 pub fn rule(
     g: &Graph,
     multipliers: &[i32],
@@ -72,9 +76,9 @@ pub fn rule(
     ensures reply { meaning result ≡ rule_reply g.now multipliers.now ceiling denominator (length out.old) }
     ensures left { out.new ≡ rule_leaves g.now multipliers.now ceiling denominator out.old }
 {
+    let capped = Capped::new(g, multipliers, ceiling, denominator, out.len())?;
     let mut lists = PassLists::blank();
-    let checked = Checked::new(g, multipliers, out.len())?;
-    let Some(found) = judge::judge(&checked, ceiling, denominator, &[], &mut lists)? else {
+    let Some(found) = capped.judge(&[], &mut lists) else {
         return Ok(None);
     };
     rulings::write(&lists.rulings, out);
@@ -100,6 +104,6 @@ pub fn pass(
     ensures hint { HintAfter result g.now.mark g.now.m lists.old.least.order lists.new.least.order }
     ensures weighed { WeighedAfter denominator g.now multipliers.now lists.old.least result lists.new.least }
 {
-    let checked = Checked::new(g, multipliers, usize::from(g.m))?;
-    judge::judge(&checked, ceiling, denominator, hint, lists)
+    let capped = Capped::new(g, multipliers, ceiling, denominator, usize::from(g.m))?;
+    Ok(capped.judge(hint, lists))
 }

@@ -1,7 +1,7 @@
 // The least 1-tree away from vertex 1, hung on vertex 2: what the walk of a circle climbs. Vertices that required edges join stand for one,
 // so that only free edges are listed and hung.
-ghost use Rattle.std.specs.Prelude.{◌&&◌, not, eqb, ◌≡◌, ℕ, ◌<◌, ◌≤◌, length, get_or, replicate};
-ghost use Rattle.graph.specs.Limits.{max_vertices, max_edges};
+ghost use Rattle.std.specs.Prelude.{◌&&◌, not, eqb, ◌≡◌, ℕ, ◌<◌, ◌≤◌, get_or, replicate};
+ghost use Rattle.graph.specs.Limits.{max_vertices};
 ghost use Rattle.graph.specs.Valid.{Valid};
 ghost use Rattle.tree_theory.specs.Spans.{Spans};
 ghost use Rattle.tree_theory.specs.Merges.{Merges};
@@ -15,11 +15,12 @@ ghost use Rattle.onetree.specs.Forcing.{OneEach};
 ghost use Rattle.onetree.specs.HungTree.{HungTree, Unhung, rooting_of, queue_of, count_of};
 
 use arrayvec::ArrayVec;
-use graph::{Graph, MAX_EDGES, MAX_VERTICES, VERTEX_PLACES};
+use graph::{FREE, Graph, MAX_EDGES, MAX_VERTICES, VERTEX_PLACES};
 use greedy::Lists;
 
 // A 1-tree in its graph, as a pass finds it. That it is one (`Spans`) and what its labels are (`Merges`) stand in contracts: both have walks, of which
-// there may be two, and a ghost field must be a proposition.
+// there may be two, and a ghost field must be a proposition. The labels of its edges' ends are lent beside it: a struct of both, with `Labelled` as a ghost
+// field, would save that one line in `hang` and in `ReadyToJudge`, and make the path to the graph longer by a name in each contract.
 #[derive(Clone, Copy)]
 pub(crate) struct LeastTree<'a> {
     pub graph: &'a Graph,
@@ -37,18 +38,15 @@ pub(crate) struct EndLabels {
 
 // Records of arrays are filled where they lie: one that is handed on as a value is copied.
 impl EndLabels {
-    pub(crate) fn blank() -> EndLabels
-        ensures { (length result.from ≡ max_edges) × (length result.to ≡ max_edges) }
-    {
+    pub(crate) fn blank() -> EndLabels {
         EndLabels {
             from: [0; MAX_EDGES],
             to: [0; MAX_EDGES],
         }
     }
 
-    // By place: of values after `zip`, as after any adapter of `iter_mut`, no proof knows.
+    // By place: two arrays are read and two written. Over a `zip` of the two that are read (tried: left open) both writes would still go by place.
     pub(crate) fn fill(&mut self, tree: &LeastTree)
-        requires { (length self.old.from ≡ max_edges) × (length self.old.to ≡ max_edges) }
         ensures { Labelled tree.now.graph.now tree.now.lists.now.labels self.new.from self.new.to }
     {
         let g = tree.graph;
@@ -60,18 +58,16 @@ impl EndLabels {
     }
 }
 
-// Whether an edge of the tree may give way to another on its circle: it is free and not at vertex 1. The mark 0 and the byte 1 are told by one
-// comparison: as two, they are two branches that the processor guesses wrong as often as one.
+// Whether an edge of the tree may give way to another on its circle: it is free and not at vertex 1. By `&`, which is one branch for two.
 // Ruled out: yes for a required edge, which then could be swapped out.
 fn swappable(a: u8, mark: u8, w: u8) -> bool
-    requires { w ≤ 1 }
     ensures { result ≡ not (eqb a 1) && (eqb w 1 && eqb mark 0) }
 {
-    a != 1 && mark < w
+    a != 1 && (mark == FREE) & (w == 1)
 }
 
 // The tree's free edges at each label, and how many they are: row x - 1 lists those at x, each as one more than its place, and has zeros
-// after them, so that a walk of a row needs no count: document 01's 20 by 20 array. Edges at vertex 1 have no part in it.
+// after them, so that a walk of a row needs no count, which is for pushing: document 01's 20 by 20 array. Edges at vertex 1 have no part in it.
 #[derive(Drop)]
 pub(crate) struct Listed {
     pub rows: [[u8; MAX_VERTICES]; MAX_VERTICES],
@@ -118,8 +114,8 @@ impl Listed {
 }
 
 // The label above each label, how deep each hangs, the place of the edge to the label above, and what that edge is charged; and the labels that hang, in the
-// order of hanging. Arrays, and no array of structs: with one, climbs took 1.19 times the instructions, and hanging 1.14 times. A depth of 0 is nowhere, as in the
-// laws of depths (`Hangs`): an Option is as fast in a climb, and no plainer, since one more than a depth would unwrap it and every law would have two cases.
+// order of hanging. Arrays, and no array of structs: with one, climbs took 1.19 times the instructions, and hanging 1.14 times. A depth of 0 is nowhere, as in
+// the laws of depths (`Hangs`): an Option is as fast in a climb, and no plainer, since one more than a depth would unwrap it and laws would have two cases.
 #[derive(Drop)]
 pub(crate) struct Rooting {
     pub parent: [u8; VERTEX_PLACES],
@@ -181,8 +177,8 @@ impl Rooting {
         self.queue.push(2);
         let mut i = 0;
         // no `for`: the queue grows while it is walked
-        while i < self.queue.len() {
-            let x = usize::from(self.queue.as_slice()[i]);
+        while let Some(x) = self.queue.as_slice().get(i) {
+            let x = usize::from(*x);
             self.visit(ends, listed, x);
             i += 1;
         }
@@ -202,7 +198,7 @@ impl Rooting {
         ensures { Weighed (BelowRoot (queue_of self.old) (count_of self.old)) charges.now self.old.edge self.new.weight
             × (self.new ≡ record self.old { weight = self.new.weight }) }
     {
-        // by place: over the queue itself no proof is to be had, since a field is written beside one that is lent
+        // by place: where the fields are lent apart (`let Rooting { queue, edge, weight, .. } = self`, tried), the invariant can name no queue but its tail
         for i in 1..self.queue.len() {
             let v = usize::from(self.queue.as_slice()[i]);
             self.weight[v] = charges[usize::from(self.edge[v])];

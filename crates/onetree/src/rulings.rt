@@ -76,13 +76,13 @@ impl TryFrom<u8> for Ruling {
     }
 }
 
-// The bytes of rulings, into a list that C lends. By place: of values after `zip`, as after any adapter of `iter_mut`, no proof knows.
+// The bytes of rulings, into a list that C lends.
 pub(crate) fn write(rulings: &[Ruling; MAX_EDGES], out: &mut [u8])
     requires { length out.old ≤ max_edges }
     ensures { out.new ≡ row (length out.old) (entry (ruling_bytes rulings.now)) }
 {
-    for k in 0..out.len() {
-        out[k] = u8::from(rulings[k]);
+    for (k, byte) in out.iter_mut().enumerate() {
+        *byte = u8::from(rulings[k]);
     }
 }
 
@@ -176,11 +176,9 @@ struct Judging<'a> {
     slack: u64,
 }
 
-// `outside` and `finish` go by place: of the rulings that they write no proof knows after `zip`, as after any adapter of iter_mut. `inside` goes over
-// the queue, and writes at the places of its edges.
+// `outside` goes by place: six arrays are read at each. `inside` goes over the queue, and writes at the places of its edges.
 impl<'a> Judging<'a> {
-    ghost use Rattle.std.specs.Prelude.{◌≡◌, length, replicate};
-    ghost use Rattle.graph.specs.Limits.{max_edges};
+    ghost use Rattle.std.specs.Prelude.{◌≡◌, replicate};
     ghost use Rattle.lists.specs.FilledFrom.{Updated};
     ghost use Rattle.greedy.specs.Charged.{no_charge};
     ghost use Rattle.onetree.specs.Answers.{ruling_bytes, all_keep};
@@ -217,9 +215,9 @@ impl<'a> Judging<'a> {
 
     // The edge above each label of the queue but the root, its ruling into res: it is free and in the tree.
     fn inside(&self, cheapest: &[u64; VERTEX_PLACES], res: &mut [Ruling; MAX_EDGES])
-        requires { ReadyToJudge self.now × (length res.old ≡ max_edges) }
-        ensures { Forcing (BelowRoot (queue_of self.now.hung.now) (count_of self.now.hung.now)) self.now.tree.lists.now.charges self.now.hung.now.edge cheapest.now
-            self.now.slack (ruling_bytes res.old) (ruling_bytes res.new) }
+        requires { ReadyToJudge self.now }
+        ensures { Forcing (BelowRoot (queue_of self.now.hung.now) (count_of self.now.hung.now)) self.now.tree.lists.now.charges self.now.hung.now.edge
+            cheapest.now self.now.slack (ruling_bytes res.old) (ruling_bytes res.new) }
     {
         for v in self.hung.below_root() {
             let v = usize::from(*v);
@@ -230,19 +228,19 @@ impl<'a> Judging<'a> {
 
     // Edge by edge, in res: what its mark says, or for a free edge what was found.
     fn finish(&self, res: &mut [Ruling; MAX_EDGES])
-        requires { length res.old ≡ max_edges }
         ensures { Updated (final_at self.now.tree.graph.now.mark (ruling_bytes res.old)) (ruling_bytes res.old) (ruling_bytes res.new)
             self.now.tree.graph.now.m }
     {
         let g = self.tree.graph;
-        for k in 0..usize::from(g.m) {
-            res[k] = ruling_of(g.mark[k], res[k]);
+        for (k, mark) in g.mark[..usize::from(g.m)].iter().enumerate() {
+            res[k] = ruling_of(*mark, res[k]);
         }
     }
 }
 
 // The ruling of every edge into res, 'keep' before, from the least 1-tree, its charges, the labels that required edges give its vertices and
 // how far it lies below the ceiling.
+// The length is said, since a caller that lends a field is not told it.
 // Ruled out: a required edge swapped out or ruled FORCE; a BAR at a bound that equals the ceiling.
 pub(crate) fn rulings(g: &Graph, lists: &Lists, slack: u64, res: &mut [Ruling; MAX_EDGES])
     requires { Spans g.now lists.now.tree × Merges g.now lists.now.labels × (res.old ≡ all_keep) }

@@ -2,6 +2,7 @@
 -- ceiling. Assumes nothing.
 use Rattle.std.proofs.Math.Path.{◌≡◌, refl, subst}
 use Rattle.std.proofs.Common.{sym, ◌∙◌, inl, inr}
+use mathlib.Core.Logic.Iff.{symm, trans}
 use Rattle.std.specs.Prelude.{◌↔◌, ◌⊎◌, List, ℕ, zero, suc, ◌≤◌, ◌-◌, length, get_or, ℤ}
 use native.Mathlib.Omega.{arith}
 use Rattle.integers.specs.Multiples.{◌times◌}
@@ -33,7 +34,7 @@ module _ (g : Graph) (d : List ℤ) (den k x : ℕ) (out : List ℕ) where
   unfolding tree_reply
   beyond ceiling f =
       rw (((preview_exactly g d den k x out).as_tree f).0, tree_none (copy_fine g d den k x (length out) f))
-      (swap (says (least_tree (scaled_by den (network (remarked g k x))) (multiplier d)) (infeasible_tree (scaled_by den (network (remarked g k x))) (multiplier d) ceiling)))
+      (symm (says (least_tree (scaled_by den (network (remarked g k x))) (multiplier d)) (infeasible_tree (scaled_by den (network (remarked g k x))) (multiplier d) ceiling)))
     where
       tree_none : Fine (tree_asks (remarked g k x) d den (length out)) → tree_fault (remarked g k x) d den (length out) ≡ 0
       tree_none h =
@@ -45,26 +46,20 @@ module _ (g : Graph) (d : List ℤ) (den k x : ℕ) (out : List ℕ) where
       says no_tree i = i
       says (a_tree b t) i = i
 
-      swap : {A B : Type 0} → A ↔ B → B ↔ A
-      swap h = (h.1, h.0)
-
 byte_free : (y : ℕ) → mark_of y ≡ free → y ≡ 0
 unfolding mark_of
 byte_free zero e = refl
 byte_free (suc zero) e = absurd (let z : ◌≡◌ {A = ℕ} 0 1 = cc in omega arith)
 byte_free (suc (suc y)) e = absurd (let z : ◌≡◌ {A = ℕ} 0 1 = cc in omega arith)
 
-both : {A B C : Type 0} → A ↔ B → C ↔ B → A ↔ C
-both p q = ((λ a. q.1 (p.0 a)), λ c. p.1 (q.0 c))
-
 pub preview_rules : Previewed
 preview_rules g d ceiling den out k long at least most is_free_lem = record {
   bars =
-      both (ruled_bars (r.each k least most))
-      (both (beyond g d den k 1 out (den times ceiling) (asked 1 (inl refl))) (flip (required_barred g k long valid least most is_free_lem den (multiplier d) (den times ceiling))));
+      trans (ruled_bars (r.each k least most))
+      (symm (trans (beyond g d den k 1 out (den times ceiling) (asked 1 (inl refl))) (required_barred g k long valid least most is_free_lem den (multiplier d) (den times ceiling))));
   forces =
-      both (ruled_forces (r.each k least most))
-      (both (beyond g d den k 2 out (den times ceiling) (asked 2 (inr refl))) (flip (excluded_forced g k long valid least most is_free_lem den (multiplier d) (den times ceiling))));
+      trans (ruled_forces (r.each k least most))
+      (symm (trans (beyond g d den k 2 out (den times ceiling) (asked 2 (inr refl))) (excluded_forced g k long valid least most is_free_lem den (multiplier d) (den times ceiling))));
 }
   where
     r : GivesRulings g d ceiling den (rule_reply g d ceiling den (length out)) (rule_leaves g d ceiling den out)
@@ -75,9 +70,6 @@ preview_rules g d ceiling den out k long at least most is_free_lem = record {
 
     valid : Valid g
     valid = fine.0
-
-    flip : {A B : Type 0} → A ↔ B → B ↔ A
-    flip h = (h.1, h.0)
 
     free_byte : get_or g.mark (k - 1) 0 ≡ 0
     free_byte = byte_free _ (sym (network_mark g (k - 1) (omega (arith, least, most))) ∙ subst (λ (i : ℕ). (network g).mark i ≡ free) (back k least) is_free_lem)

@@ -51,14 +51,9 @@ not-high x (inr (inl e)) (inr h) = omega arith
 not-high x (inr (inr e)) (inl h) = omega arith
 not-high x (inr (inr e)) (inr h) = omega arith
 
--- marks differ where their numbers do
-abbrev number : Mark → ℕ
-number free = 0
-number required = 1
-number excluded = 2
-
-not-both : (x y : Mark) → ¬ (number x ≡ number y) → (z : Mark) → z ≡ x → z ≡ y → ⊥
-not-both x y n z e f = n (ap number (sym e ∙ f))
+-- an edge has one mark
+not-both : (x y : Mark) → ¬ (x ≡ y) → (z : Mark) → z ≡ x → z ≡ y → ⊥
+not-both x y n z e f = n (sym e ∙ f)
 
 module _ (g : Graph) (d : List ℤ) (ceiling : ℤ) (den k : ℕ) (m : k ∈ up_to (network g).m)
     (feasible : ¬ Infeasible (scaled_by den (network g)) (multiplier d) (den times ceiling)) where
@@ -85,8 +80,8 @@ module _ (g : Graph) (d : List ℤ) (ceiling : ℤ) (den k : ℕ) (m : k ∈ up_
     );
     forces = ((λ h. (e, x.1.0 (one-ruling _ forces h))), λ q. ap ruling_byte (x.1.1 q.1));
     bars = ((λ h. (e, x.0.0 (one-ruling _ bars h))), λ q. ap ruling_byte (x.0.1 q.1));
-    was_required = ((λ h. absurd (not-high (ruling_byte r) (low e) (inl h))), λ q. absurd (not-both free required (λ n. omega arith) _ e q));
-    was_excluded = ((λ h. absurd (not-high (ruling_byte r) (low e) (inr h))), λ q. absurd (not-both free excluded (λ n. omega arith) _ e q));
+    was_required = ((λ h. absurd (not-high (ruling_byte r) (low e) (inl h))), λ q. absurd (not-both free required (λ n. cc) _ e q));
+    was_excluded = ((λ h. absurd (not-high (ruling_byte r) (low e) (inr h))), λ q. absurd (not-both free excluded (λ n. cc) _ e q));
     one_only = apart;
   }
     where
@@ -96,26 +91,26 @@ module _ (g : Graph) (d : List ℤ) (ceiling : ℤ) (den k : ℕ) (m : k ∈ up_
 
   required_byte_lem : (network g).mark k ≡ required → RuledExactly g d ceiling den k (ruling_byte r)
   required_byte_lem e = record {
-    keeps = ((λ h. absurd (omega (arith, h, three))), λ q. absurd (off free (λ n. omega arith) q.0));
-    forces = ((λ h. absurd (omega (arith, h, three))), λ q. absurd (off free (λ n. omega arith) q.0));
-    bars = ((λ h. absurd (omega (arith, h, three))), λ q. absurd (off free (λ n. omega arith) q.0));
+    keeps = ((λ h. absurd (omega (arith, h, three))), λ q. absurd (off free (λ n. cc) q.0));
+    forces = ((λ h. absurd (omega (arith, h, three))), λ q. absurd (off free (λ n. cc) q.0));
+    bars = ((λ h. absurd (omega (arith, h, three))), λ q. absurd (off free (λ n. cc) q.0));
     was_required = ((λ h. e), λ q. three);
-    was_excluded = ((λ h. absurd (omega (arith, h, three))), λ q. absurd (off excluded (λ n. omega arith) q));
+    was_excluded = ((λ h. absurd (omega (arith, h, three))), λ q. absurd (off excluded (λ n. cc) q));
     one_only = apart;
   }
     where
       three : ruling_byte r ≡ 3
       three = unfold r in ap ruling_byte (rules_required (scaled_by den (network g)) (multiplier d) (den times ceiling) k m e)
 
-      off : (x : Mark) → ¬ (number x ≡ number required) → (network g).mark k ≡ x → ⊥
+      off : (x : Mark) → ¬ (x ≡ required) → (network g).mark k ≡ x → ⊥
       off x n q = not-both x required n _ q e
 
   excluded_byte : (network g).mark k ≡ excluded → RuledExactly g d ceiling den k (ruling_byte r)
   excluded_byte e = record {
-    keeps = ((λ h. absurd (omega (arith, h, four))), λ q. absurd (off free (λ n. omega arith) q.0));
-    forces = ((λ h. absurd (omega (arith, h, four))), λ q. absurd (off free (λ n. omega arith) q.0));
-    bars = ((λ h. absurd (omega (arith, h, four))), λ q. absurd (off free (λ n. omega arith) q.0));
-    was_required = ((λ h. absurd (omega (arith, h, four))), λ q. absurd (off required (λ n. omega arith) q));
+    keeps = ((λ h. absurd (omega (arith, h, four))), λ q. absurd (off free (λ n. cc) q.0));
+    forces = ((λ h. absurd (omega (arith, h, four))), λ q. absurd (off free (λ n. cc) q.0));
+    bars = ((λ h. absurd (omega (arith, h, four))), λ q. absurd (off free (λ n. cc) q.0));
+    was_required = ((λ h. absurd (omega (arith, h, four))), λ q. absurd (off required (λ n. cc) q));
     was_excluded = ((λ h. e), λ q. four);
     one_only = apart;
   }
@@ -123,7 +118,7 @@ module _ (g : Graph) (d : List ℤ) (ceiling : ℤ) (den k : ℕ) (m : k ∈ up_
       four : ruling_byte r ≡ 4
       four = unfold r in ap ruling_byte (rules_excluded (scaled_by den (network g)) (multiplier d) (den times ceiling) k m e)
 
-      off : (x : Mark) → ¬ (number x ≡ number excluded) → (network g).mark k ≡ x → ⊥
+      off : (x : Mark) → ¬ (x ≡ excluded) → (network g).mark k ≡ x → ⊥
       off x n q = not-both x excluded n _ q e
 
   -- the byte of any edge

@@ -1,7 +1,7 @@
 // Document 02's C-11: what requiring or excluding one free edge would do to the least 1-tree. (Its words: leg for edge, struck for excluded.)
 #![tactic(auto)]
 
-ghost use Rattle.std.specs.Prelude.{◌≡◌, ◌+◌, ◌≤◌, ◌&&◌, ◌||◌, IfOk, cond, eqb, leb, length};
+ghost use Rattle.std.specs.Prelude.{◌≡◌, ◌+◌, ◌≤◌, ◌||◌, IfOk, cond, eqb, length};
 ghost use Rattle.graph.specs.Refusals.{fault_of};
 ghost use Rattle.graph.specs.Limits.{max_edges};
 ghost use Rattle.onetree.specs.Answers.{meaning};
@@ -9,13 +9,6 @@ ghost use Rattle.preview.specs.Preview.{preview_fault, preview_reply, preview_le
 
 use graph::{EXCLUDED, FREE, Graph, REQUIRED, Refusal};
 use onetree::{denominator_fault, input_fault};
-
-// Is there such an edge?
-fn is_edge(g: &Graph, edge: usize) -> bool
-    ensures { result ≡ leb 1 edge && leb edge g.now.m }
-{
-    (1..=usize::from(g.m)).contains(&edge)
-}
 
 // A new mark as a graph has it: 1 or 2. It comes in C's 32 bits, so that no caller's number is cut to a right one, and is refused here and not on the
 // way in, since 15, 11, 12 and 32 come before its 30 (document 02, C-11 and C-17).
@@ -31,6 +24,7 @@ fn new_mark(mark: u32) -> Result<u8, Refusal>
 }
 
 // The first fault of a preview, in document 02's order; or the place of the edge and its new mark.
+#[tactic(auto, using(crate::specs::Faults::of_input, graph::specs::Refusals::positive, tree_theory::specs::Accepted::no_fault), unfolding(crate::specs::Preview::preview_fault, tree_theory::specs::Inputs::input_fault, tree_theory::specs::Inputs::denominator_fits, tree_theory::specs::Inputs::denominator_fault, graph::specs::Numbered::edge_place))]
 fn asked(
     g: &Graph,
     multipliers: &[i32],
@@ -44,14 +38,10 @@ fn asked(
 {
     input_fault(g, multipliers, lent)?;
     denominator_fault(denominator)?;
-    if !is_edge(g, edge) {
-        return Err(Refusal::NoSuchEdge);
-    }
+    let place = g.place(edge).ok_or(Refusal::NoSuchEdge)?;
     let mark = new_mark(mark)?;
-    if g.mark[edge - 1] != FREE {
-        return Err(Refusal::NotFree);
-    }
-    Ok((edge - 1, mark))
+    Refusal::NotFree.unless(g.mark[place] == FREE)?;
+    Ok((place, mark))
 }
 
 // The least 1-tree of a copy of the graph in which this free edge has this mark, as the tree call answers; the graph is untouched.

@@ -13,12 +13,11 @@ use Rattle.lists.specs.Members.{◌∈◌}
 use Rattle.lists.specs.Fill.{fill, fill-size, fill-at, fill_is}
 use Rattle.graph.specs.Limits.{max_edges}
 use Rattle.recent.specs.Remainders.{next_remainder}
-use Rattle.recent.specs.Places.{take_in}
+use Rattle.lists.specs.Members.{take_in}
 use Rattle.recent.specs.Costs.{Entry, times_of, latest, greatest_or, recent_cost, recent_costs}
 use Rattle.recent.specs.Answers.{max_window}
 use Rattle.recent.specs.declared.Ring.{Ring}
-use Rattle.recent.specs.declared.Window.{Window}
-use Rattle.recent.specs.Windows.{unused, ring_of, stored, held, entered_at, entered, entered_all}
+use Rattle.recent.specs.Windows.{Window, unused, ring_of, stored, held, entered_at, entered, entered_all}
 use Rattle.recent.specs.Exact.{times-same, times_other, Keeps, keeps_none, ring_next, held-greatest}
 
 module _ (w : ℕ) (low : 1 ≤ w) (high : w ≤ max_window) (cost : List ℤ) where

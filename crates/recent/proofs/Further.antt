@@ -12,12 +12,12 @@ use Rattle.lists.specs.Members.{◌∈◌}
 use Rattle.lists.specs.Select.{keep}
 use Rattle.lists.specs.Fill.{fill, fill-size, fill-at, fill_is}
 use Rattle.graph.specs.Limits.{max_edges}
-use Rattle.recent.specs.declared.Window.{Window}
-use Rattle.recent.specs.Windows.{ring_of}
+use Rattle.recent.specs.Windows.{Window, ring_of}
 use Rattle.recent.specs.Costs.{Entry, times_of, larger, greatest, greatest_or, latest, recent_cost, recent_costs}
 use Rattle.recent.specs.Answers.{max_window}
 use Rattle.recent.specs.Remainders.{remainders_differ, LastWith, last_with}
-use Rattle.recent.specs.Places.{at_in, in_at, latest_in, in_latest}
+use Rattle.lists.specs.MembersAt.{at_in, in_at}
+use Rattle.recent.specs.Places.{latest_in, in_latest}
 use Rattle.recent.specs.Greatest.{same-greatest}
 use Rattle.recent.specs.Replay.{Replaying}
 

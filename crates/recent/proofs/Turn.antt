@@ -19,8 +19,7 @@ use mathlib.Core.List.{List}
 use Rattle.std.proofs.Math.ListN.{length, take}
 use Rattle.recent.specs.Costs.{Entry, log_of}
 use Rattle.recent.specs.Answers.{entry_ok, bad_from}
-use Rattle.recent.specs.declared.Window.{Window}
-use Rattle.recent.specs.Windows.{entry_of, unused, entered, entered_all}
+use Rattle.recent.specs.Windows.{Window, entry_of, unused, entered, entered_all}
 use Rattle.recent.specs.Replay.{log_size, log_at, ok_edge, entered-next, Replaying, next, rest}
 use Rattle.recent.proofs.Exact.{keeps_next}
 

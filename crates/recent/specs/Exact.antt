@@ -19,9 +19,8 @@ use Rattle.recent.specs.Places.{latest_in, in_latest, at_take, in_take}
 use Rattle.recent.specs.Greatest.{same-greatest}
 use Rattle.recent.specs.Costs.{Entry, times_of, latest, greatest_or, recent_cost, recent_costs}
 use Rattle.recent.specs.Answers.{max_window}
-use Rattle.recent.specs.declared.Window.{Window}
 use Rattle.recent.specs.declared.Ring.{Ring}
-use Rattle.recent.specs.Windows.{no_times, unused, ring_of}
+use Rattle.recent.specs.Windows.{Window, no_times, unused, ring_of}
 
 -- ---- an edge's times, after one entry more
 

@@ -7,7 +7,7 @@ use Rattle.lists.specs.Members.{◌∈◌}
 use Rattle.std.specs.List.{All, Contains}
 use Rattle.integers.specs.Order.{le_trans, le_antisym, lt-le, test_lt, test_not_lt}
 use Rattle.recent.specs.Costs.{larger, greatest, greatest_or}
-use Rattle.recent.specs.Places.{at_in, in_at}
+use Rattle.lists.specs.MembersAt.{at_in, in_at}
 
 -- z is among the times, and none of them is above it
 pub record Greatest (ts : List ℤ) (z : ℤ) : Type 0 where

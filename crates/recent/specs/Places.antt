@@ -1,21 +1,12 @@
--- Membership by places, which are counted from 0: in any list, in its first places, and in the last w of one. Assumes nothing.
-use Rattle.std.specs.Prelude.{◌≡◌, refl, List, [], ◌∷◌, ℕ, zero, suc, ◌+◌, ◌-◌, ◌<◌, ◌≤◌, length, get_or, take, drop, ℤ, pos}
-use Rattle.std.proofs.Common.{ap, ◌∙◌, subst, inl, inr, arith, length-drop, length-take-le, get_or-drop}
+-- Membership by places, which are counted from 0: in the first places of a list, and in the last w of one. Assumes nothing.
+use Rattle.std.specs.Prelude.{◌≡◌, List, ℕ, ◌+◌, ◌-◌, ◌<◌, ◌≤◌, length, get_or, take, drop, ℤ, pos}
+use Rattle.std.proofs.Common.{ap, ◌∙◌, subst, arith, length-drop, length-take-le, get_or-drop}
 use Rattle.std.proofs.lemmas.List.{get_or-take}
 use Rattle.lists.specs.Members.{◌∈◌}
+use Rattle.lists.specs.MembersAt.{at_in, in_at}
 use Rattle.recent.specs.Costs.{latest}
 
 module _ {A : Type 0} where
-  pub at_in : (l : List A) (i : ℕ) (z : A) → i < length l → get_or l i z ∈ l
-  at_in [] i z h = absurd (omega arith)
-  at_in (x ∷ l) zero z h = inl refl
-  at_in (x ∷ l) (suc i) z h = inr (at_in l i z (omega arith))
-
-  pub in_at : (l : List A) (z x : A) → x ∈ l → (i : ℕ) × (i < length l) × (x ≡ get_or l i z)
-  in_at [] z x m = absurd m
-  in_at (y ∷ l) z x (inl e) = (0, omega arith, e)
-  in_at (y ∷ l) z x (inr m) = let r = in_at l z x m in (suc r.0, omega (arith, r.1), r.2)
-
   -- of the first n places
   pub at_take : (n : ℕ) (l : List A) (i : ℕ) (z : A) → i < n → n ≤ length l → get_or l i z ∈ take n l
   at_take n l i z h k = rw (← get_or-take n l i z h) (at_in (take n l) i z (omega (arith, length-take-le n l k)))
@@ -25,12 +16,6 @@ module _ {A : Type 0} where
       let r = in_at (take n l) z x m in
       let h : r.0 < n = omega (arith, r.1, length-take-le n l k) in
       (r.0, h, r.2 ∙ get_or-take n l r.0 z h)
-
-  pub take_in : (n : ℕ) (l : List A) (x : A) → x ∈ take n l → x ∈ l
-  take_in zero l x m = absurd m
-  take_in (suc n) [] x m = absurd m
-  take_in (suc n) (y ∷ l) x (inl e) = inl e
-  take_in (suc n) (y ∷ l) x (inr m) = inr (take_in n l x m)
 
 -- ---- the last w
 

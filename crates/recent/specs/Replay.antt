@@ -1,5 +1,5 @@
 -- The loop over the log: what holds before entry i, one entry more, and what it promises where it stops. Assumes nothing.
-use Rattle.std.specs.Prelude.{◌≡◌, refl, true, false, ◌&&◌, ℕ, zero, suc, ◌+◌, ◌-◌, ◌<◌, ◌≤◌, leb, get_or, drop, ℤ, pos}
+use Rattle.std.specs.Prelude.{◌≡◌, refl, true, false, ◌&&◌, ℕ, zero, suc, ◌+◌, ◌-◌, ◌<◌, ◌≤◌, leb, get_or, drop, ℤ, pos, Some, None}
 use Rattle.std.proofs.Math.Path.{sym, ap}
 use Rattle.std.proofs.Common.{◌∙◌, arith, take-suc, drop-cons, leb-true}
 use mathlib.Core.List.{List, [], ◌∷◌, ◌++◌}
@@ -7,13 +7,12 @@ use Rattle.std.proofs.Math.Nat.{mod-lt}
 use Rattle.std.proofs.Math.Numerals.{add-one}
 use Rattle.std.proofs.Math.ListN.{length, take}
 use Rattle.std.proofs.Math.Seq.{take-length, drop-length}
-use Rattle.lists.specs.Bools.{and_both}
+use Rattle.lists.specs.Bools.{by_cases, and_both}
 use Rattle.integers.specs.Range.{within}
 use Rattle.graph.specs.Limits.{max_edges, max_cost}
 use Rattle.recent.specs.Costs.{Entry, log_of, times_of}
 use Rattle.recent.specs.Answers.{max_window, made, refused, entry_ok, bad_from, unless_bad}
-use Rattle.recent.specs.declared.Window.{Window}
-use Rattle.recent.specs.Windows.{unused, entered, entered_all, CanEnter, Replayed}
+use Rattle.recent.specs.Windows.{Window, entry_place, unused, entered, entered_all, CanEnter, Replayed}
 use Rattle.recent.specs.Exact.{Keeps, keeps_none}
 
 -- ---- the log of two lists
@@ -47,6 +46,15 @@ ok_edge m e h =
 pub ok_time : (m : ℕ) (e : Entry) → entry_ok m e ≡ true → within max_cost e.time ≡ true
 unfolding entry_ok
 ok_time m e h = (and_both (leb 1 e.edge && leb e.edge m) (within max_cost e.time) h).1
+
+-- the place that it names
+pub place_ok : (m k : ℕ) (e : Entry) → entry_place m e ≡ Some k → (entry_ok m e ≡ true) × (k ≡ e.edge - 1)
+unfolding entry_place
+place_ok m k e h = by_cases (entry_ok m e) (λ t. let q = (rw t at h) in (t, cc)) (λ t. let q = (rw t at h) in cc)
+
+pub place_refused : (m : ℕ) (e : Entry) → entry_place m e ≡ None → entry_ok m e ≡ false
+unfolding entry_place
+place_refused m e h = by_cases (entry_ok m e) (λ t. let q = (rw t at h) in cc) (λ t. t)
 
 -- ---- one entry more
 

@@ -1,15 +1,27 @@
 -- What the loop keeps of the log so far: for each edge a ring of 32 places, of which the first w are used, the place of the oldest of w, how many
 -- times it holds, and the cost. An entry takes the place of the oldest of w. Nothing here grows with the log.
 -- Definitions only.
-use Rattle.std.specs.Prelude.{◌≡◌, List, [], ◌∷◌, ℕ, zero, suc, ◌+◌, ◌-◌, ◌<◌, ◌≤◌, cond, ltb, min, get_or, set, take, replicate, ℤ, pos}
+use Rattle.std.specs.Prelude.{◌≡◌, List, [], ◌∷◌, ℕ, zero, suc, ◌+◌, ◌-◌, ◌<◌, ◌≤◌, cond, ltb, min, get_or, set, take, replicate, Option, Some, None, ℤ, pos}
 use Rattle.graph.specs.Limits.{max_edges}
 use Rattle.recent.specs.Costs.{Entry, greatest_or, recent_costs}
-use Rattle.recent.specs.Answers.{max_window, Reply, bad_from, unless_bad}
+use Rattle.recent.specs.Answers.{max_window, Reply, entry_ok, bad_from, unless_bad}
 use Rattle.recent.specs.declared.Ring.{Ring}
-use Rattle.recent.specs.declared.Window.{Window}
+
+-- what is kept of the log so far: of each edge the ring, and the cost
+pub record Window : Type 0 where
+  pub rings : List Ring
+  pub costs : List ℤ
+
+abbrev pub window_of : List Ring → List ℤ → Window
+window_of rings costs = record { rings = rings; costs = costs }
 
 abbrev pub entry_of : ℕ → ℤ → Entry
 entry_of edge time = record { edge = edge; time = time }
+
+-- the place of the edge that an entry names; none where it is refused
+unfoldable pub entry_place : ℕ → Entry → Option ℕ
+unfolding entry_ok
+entry_place m e = cond (entry_ok m e) (Some (e.edge - 1)) None
 
 -- one edge's ring: nothing entered; one time more; and the last w times that it holds
 unfoldable pub no_times : Ring

@@ -20,7 +20,8 @@ use Rattle.graph.specs.Valid.{EdgeAt, Valid, valid}
 use Rattle.graph.specs.Meaning.{valid_true, true_valid, not_valid}
 use Rattle.recent.specs.Costs.{Entry, log_of, times_of, latest, recent_cost, recent_costs, recent_graph}
 use Rattle.recent.specs.Greatest.{or-greatest}
-use Rattle.recent.specs.Places.{at_in, in_latest, latest_some}
+use Rattle.recent.specs.Places.{in_latest, latest_some}
+use Rattle.lists.specs.MembersAt.{at_in}
 use Rattle.recent.specs.Answers.{max_window, made, refused, entry_ok, bad_from, unless_bad, recent_reply}
 use Rattle.recent.specs.Exact.{cost_none}
 use Rattle.recent.proofs.Exact.{exact}

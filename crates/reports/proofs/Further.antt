@@ -1,6 +1,7 @@
 -- Laws of text put into a list of bytes at a place, which no proof cites today: a program's text is a string of its own. Assumes nothing.
 use Rattle.std.specs.Prelude.{ℕ, suc, ◌+◌, ◌-◌, ◌*◌, ◌/◌, ◌%◌, ◌<◌, ◌≤◌, ◌≡◌, refl, true, false, List, [], ◌∷◌, ◌++◌, length, get_or, take, drop, set, replicate, ℤ, pos, negsuc, nat_abs}
 use Rattle.std.proofs.Common.{◌∙◌, ap, true≢false, arith, add-one, length-append, length-drop, ltb-true, take-suc, take_all}
+use Rattle.std.proofs.lemmas.List.{take-replicate}
 use Rattle.std.proofs.lemmas.List.Edits.{sets}
 use Rattle.std.specs.Int.Signed.{lt_z}
 use Rattle.graph.specs.declared.Graph.{Graph}
@@ -14,7 +15,7 @@ use Rattle.reports.specs.Text.{edge_line}
 use Rattle.reports.specs.Input.{ceiling_size, chart_of}
 use Rattle.reports.specs.Rulings.{edge_lines, plain_denominator, reply_text, rules_text}
 use Rattle.reports.specs.Searching.{plain_settings, last_answer, answer_text, search_text}
-use Rattle.reports.specs.Zeros.{part, part_length}
+use Rattle.reports.specs.Zeros.{part_length}
 use Rattle.reports.specs.Room.{line_ends as text_ends}
 
 -- the text stands in `left` from place i on and ends before place j; all else is as in `found`
@@ -108,16 +109,16 @@ pub rules_put : {k l : List ℕ} {i j : ℕ} (g : Graph) → Valid g → (ceilin
 unfolding rules_text
 rules_put g v ceiling p =
     rw (
-      part max_vertices g.n (pos 0) v.high,
+      take-replicate g.n max_vertices (pos 0) v.high,
       part_length {A = ℕ} max_edges g.m 0 v.few,
-      part {A = ℕ} max_edges g.m 0 v.few,
+      take-replicate {X = ℕ} g.m max_edges 0 v.few,
     ) at p
 
 pub search-put : {k l : List ℕ} {i j : ℕ} (g : Graph) → Valid g → (ceiling : ℤ) (a : Answer)
     → a ≡ last_answer (opening_of g (take g.n (replicate max_vertices (pos 0))) (plain_settings ceiling))
     → Put (answer_text a) k i l j
     → Put (search_text ceiling g) k i l j
-search-put g v ceiling a e p = rw (← (rw (part max_vertices g.n (pos 0) v.high) at e)) p
+search-put g v ceiling a e p = rw (← (rw (take-replicate g.n max_vertices (pos 0) v.high) at e)) p
 
 -- ---- the part of an input that is its chart
 

@@ -4,18 +4,13 @@ use Rattle.std.specs.Prelude.{ℤ}
 use Rattle.std.specs.Fmt as std
 use Rattle.std.specs.Int.Signed.{mag}
 use Rattle.machine.specs.Calls.{best}
-use Rattle.reports.specs.Text.{ascii, refused_line, bound_line, edge_line, ruling_word, verdict_line, nodes_line}
+use Rattle.reports.specs.Text.{ascii, refused_line, edge_line, ruling_word, verdict_line, nodes_line}
 use Rattle.reports.specs.Numbers.{decimal_is, signed_decimal_is}
 
 pub refused_pieces : (n p : ℕ) → n < 2 ^ 64 → p < 2 ^ 64
     → refused_line n p ≡ ascii "refused " ++ (std.decimal n ++ (ascii " at " ++ (std.decimal p ++ ascii "\n")))
 unfolding refused_line
 refused_pieces n p h k = rw (decimal_is n h, decimal_is p k) (simp append_assoc)
-
-pub bound_pieces : (b c : ℤ) → mag b < 2 ^ 63 → mag c < 2 ^ 63
-    → bound_line b c ≡ ascii "bound " ++ (std.signed_decimal b ++ (ascii " ceiling " ++ (std.signed_decimal c ++ ascii "\n")))
-unfolding bound_line
-bound_pieces b c h k = rw (signed_decimal_is b h, signed_decimal_is c k) (simp append_assoc)
 
 pub edge_pieces : (k a b ruling : ℕ) → k < 256 → a < 256 → b < 256
     → edge_line k a b ruling

@@ -1,11 +1,12 @@
 -- The list that the rule call is lent for its rulings is the first places of a longer list of zeros.
 use Rattle.std.proofs.Common.{◌≡◌, ℕ, ℤ, List, length, take}
 use Rattle.std.specs.Prelude.{replicate}
+use Rattle.std.proofs.lemmas.List.{take-replicate}
 use Rattle.graph.specs.declared.Graph.{Graph}
 use Rattle.graph.specs.Limits.{max_edges}
 use Rattle.graph.specs.Valid.{Valid}
 use Rattle.onetree.specs.Answers.{Reply, rule_reply, rule_leaves}
-use Rattle.reports.specs.Zeros.{part, part_length}
+use Rattle.reports.specs.Zeros.{part_length}
 use Rattle.reports.specs.Rulings.{zero_multipliers, plain_denominator, reply_text, rules_text}
 
 pub rules_are : (g : Graph) → Valid g → (ceiling : ℤ) (reply : Reply) (left : List ℕ)
@@ -14,4 +15,4 @@ pub rules_are : (g : Graph) → Valid g → (ceiling : ℤ) (reply : Reply) (lef
     → rules_text ceiling g ≡ reply_text g ceiling reply left
 unfolding rules_text
 rules_are g v ceiling reply left p q =
-    rw (p, q, part_length {A = ℕ} max_edges g.m 0 v.few, part {A = ℕ} max_edges g.m 0 v.few)
+    rw (p, q, part_length {A = ℕ} max_edges g.m 0 v.few, take-replicate {X = ℕ} g.m max_edges 0 v.few)

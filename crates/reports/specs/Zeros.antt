@@ -1,9 +1,6 @@
--- The first places of a list of one value. Assumes nothing.
+-- The length of the first places of a list of one value. Assumes nothing.
 use Rattle.std.specs.Prelude.{ℕ, ◌≤◌, ◌≡◌, length, take, replicate}
 use Rattle.std.proofs.lemmas.List.{length-replicate, take-replicate}
 
-pub part : {A : Type 0} (n k : ℕ) (a : A) → k ≤ n → take k (replicate n a) ≡ replicate k a
-part n k a h = take-replicate k n a h
-
 pub part_length : {A : Type 0} (n k : ℕ) (a : A) → k ≤ n → length (take k (replicate n a)) ≡ k
-part_length n k a h = rw (part n k a h) (length-replicate k a)
+part_length n k a h = rw (take-replicate k n a h) (length-replicate k a)

@@ -31,9 +31,9 @@ impl Input {
     pub(crate) fn read(bytes: &[u8]) -> Result<Input, Refused>
         ensures { (text : ℤ → Graph → List ℕ) → printed_of text result ≡ printed text bytes.now }
     {
-        let Some((ceiling, chart)) = bytes.split_first_chunk::<CEILING_SIZE>() else {
-            return Err(Refused::from(Refusal::TooShort));
-        };
+        let (ceiling, chart) = bytes
+            .split_first_chunk::<CEILING_SIZE>()
+            .ok_or(Refusal::TooShort)?;
         let graph = charts::read(chart)?;
         Ok(Input {
             ceiling: i64::from_le_bytes(*ceiling),

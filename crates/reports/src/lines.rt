@@ -14,7 +14,7 @@ use itoa::{Buffer, Integer};
 use onetree::Ruling;
 
 // Two numbers of 64 bits, and the words about them: the longest line.
-const LINE_SIZE: usize = 56;
+pub(crate) const LINE_SIZE: usize = 56;
 
 // Three numbers of a byte, and a ruling's word.
 const EDGE_LINE_SIZE: usize = 21;
@@ -47,30 +47,37 @@ fn push_number<const N: usize, I: Integer>(line: &mut ArrayString<N>, n: I)
     line.push_str(Buffer::new().format(n));
 }
 
+// Two words, each with a number.
+fn labelled_two<I: Integer, J: Integer>(word: &str, n: I, next: &str, k: J) -> Line
+    requires { length word.now + I.MAX_STR_LEN + length next.now + J.MAX_STR_LEN < LINE_SIZE }
+    ensures { result.bytes ≡ word.now ++ I.text n ++ next.now ++ J.text k ++ ascii "\n" }
+{
+    let mut line = Line::new();
+    line.push_str(word);
+    push_number(&mut line, n);
+    line.push_str(next);
+    push_number(&mut line, k);
+    line.push_str("\n");
+    line
+}
+
 // 'refused N at P'
 pub(crate) fn refused(refused: Refused) -> Line
     ensures { result.bytes ≡ refused_line (number refused.refusal) (unwrap_or refused.place 0) }
 {
-    let mut line = Line::new();
-    line.push_str("refused ");
-    push_number(&mut line, u32::from(refused.refusal));
-    line.push_str(" at ");
-    push_number(&mut line, refused.place.unwrap_or(0));
-    line.push_str("\n");
-    line
+    labelled_two(
+        "refused ",
+        u32::from(refused.refusal),
+        " at ",
+        refused.place.unwrap_or(0),
+    )
 }
 
 // The first line: the bound and the ceiling.
 pub(crate) fn bound(bound: i64, ceiling: i64) -> Line
     ensures { result.bytes ≡ bound_line bound ceiling }
 {
-    let mut line = Line::new();
-    line.push_str("bound ");
-    push_number(&mut line, bound);
-    line.push_str(" ceiling ");
-    push_number(&mut line, ceiling);
-    line.push_str("\n");
-    line
+    labelled_two("bound ", bound, " ceiling ", ceiling)
 }
 
 // The line of edge k, which joins a and b.
@@ -91,7 +98,7 @@ pub(crate) fn edge(k: u8, a: u8, b: u8, ruling: Ruling) -> EdgeLine
 
 // A word and a number.
 fn labelled<I: Integer>(word: &str, n: I) -> Line
-    requires { length word.now + I.MAX_STR_LEN < 56 }
+    requires { length word.now + I.MAX_STR_LEN < LINE_SIZE }
     ensures { result.bytes ≡ word.now ++ I.text n ++ ascii "\n" }
 {
     let mut line = Line::new();
@@ -102,6 +109,7 @@ fn labelled<I: Integer>(word: &str, n: I) -> Line
 }
 
 // 'cost C'
+#[tactic(auto, using(crate::proofs::Pieces::cost_pieces))]
 pub(crate) fn cost(cost: i64) -> Line
     ensures { result.bytes ≡ verdict_line (best cost) }
 {
@@ -109,6 +117,7 @@ pub(crate) fn cost(cost: i64) -> Line
 }
 
 // 'nodes K'
+#[tactic(auto, using(crate::proofs::Pieces::nodes_pieces))]
 pub(crate) fn nodes(count: u64) -> Line
     ensures { result.bytes ≡ nodes_line count }
 {

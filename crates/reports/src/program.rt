@@ -1,12 +1,16 @@
 // What the two programs share: what is read, what is printed of a refusal, and how bytes come in and go out.
-ghost use Rattle.std.specs.Prelude.{◌≡◌, ◌≤◌, IfOk, IfSome, OnOk, length};
+ghost use Rattle.std.specs.Prelude.{◌≡◌, ◌≤◌, IfOk, IfSome, MatchResult, OnOk, length};
+ghost use Rattle.std.specs.Option.{unwrap_or};
 ghost use Rattle.std.specs.Io.KnownBytes.{Appends};
+ghost use Rattle.graph.specs.Refusals.{number};
 ghost use Rattle.reports.specs.Input.{printed};
 ghost use Rattle.reports.specs.Longest.{enough};
+ghost use Rattle.reports.specs.Text.{refused_line};
 
 use crate::input::{INPUT_SIZE, Input};
 use crate::lines;
 use arrayvec::ArrayString;
+use graph::Refused;
 use std::io;
 use std::io::{Read, Write};
 
@@ -23,9 +27,19 @@ pub trait Program {
 
     ghost says: { ℤ → Graph → List ℕ };
 
+    // The text of an input, or a refusal, whose line is then all that is printed.
     // Ruled out: a byte beside the text that `says` names; a line of another input.
-    fn text(input: &Input) -> Text
-        ensures { result.bytes ≡ says input.now.ceiling input.now.graph };
+    fn text(input: &Input) -> Result<Text, Refused>
+        ensures { MatchResult result (λ t. t.bytes ≡ says input.now.ceiling input.now.graph)
+            (λ r. refused_line (number r.refusal) (unwrap_or r.place 0) ≡ says input.now.ceiling input.now.graph) };
+}
+
+// The text of an input, or the refusal of it.
+fn text_of<P: Program>(input: &[u8]) -> Result<Text, Refused>
+    ensures { MatchResult result (λ t. t.bytes ≡ printed P.says input.now)
+        (λ r. refused_line (number r.refusal) (unwrap_or r.place 0) ≡ printed P.says input.now) }
+{
+    P::text(&Input::read(input)?)
 }
 
 // All that a program prints of an input.
@@ -33,8 +47,8 @@ pub trait Program {
 pub fn printed<P: Program>(input: &[u8]) -> Text
     ensures { result.bytes ≡ printed P.says input.now }
 {
-    match Input::read(input) {
-        Ok(read) => P::text(&read),
+    match text_of::<P>(input) {
+        Ok(text) => text,
         Err(refused) => {
             let mut text = Text::new();
             text.push_str(lines::refused(refused).as_str());

@@ -6,13 +6,14 @@ ghost use Rattle.reports.specs.Rulings.{edge_lines};
 ghost use Rattle.reports.specs.Text.{ruling_word};
 
 use crate::input::Input;
+use crate::lines::LINE_SIZE;
 use crate::program::{Program, Text};
 use crate::{PLAIN_DENOMINATOR, lines};
 use graph::{MAX_EDGES, Refused};
 use onetree::Ruling;
 
-// The ruling of a byte of the list that the rule call is lent. It leaves none above 4; of such a byte the text would say what it says of 4, as
-// `ruling_word` has it.
+// The ruling of a byte of the list that the rule call is lent: bytes, since the program prints what the rule call says. It leaves none above 4; of
+// such a byte the text would say what it says of 4, as `ruling_word` has it.
 #[tactic(auto, unfolding(crate::specs::Text::ruling_word))]
 fn ruling_of(byte: u8) -> Ruling
     ensures { ruling_word (byte_of result) ≡ ruling_word byte }
@@ -22,11 +23,11 @@ fn ruling_of(byte: u8) -> Ruling
 
 // One line an edge.
 fn push_edges(text: &mut Text, input: &Input, rulings: &[u8])
-    requires { (array_string_len text.old ≤ 56) × (length rulings.now ≡ input.now.graph.m) }
+    requires { (array_string_len text.old ≤ LINE_SIZE) × (length rulings.now ≡ input.now.graph.m) }
     ensures { text.new.bytes ≡ text.old.bytes ++ edge_lines input.now.graph rulings.now input.now.graph.m }
 {
     let g = &input.graph;
-    // By place: k is printed too, and the lists of ends are longer than that of rulings.
+    // By place: k is printed too, as a byte; three lists zipped, numbered, and the number made a byte again would be no plainer.
     for k in 0..g.m {
         let at = usize::from(k);
         text.push_str(lines::edge(k + 1, g.a[at], g.b[at], ruling_of(rulings[at])).as_str());
@@ -42,7 +43,7 @@ impl Program for Rulings {
     ghost says = { rules_text };
 
     // The rule call with zero multipliers, and the rulings that it leaves.
-    fn text(input: &Input) -> Text {
+    fn text(input: &Input) -> Result<Text, Refused> {
         let g = &input.graph;
         let mut rulings = [0u8; MAX_EDGES];
         let rulings = &mut rulings[..usize::from(g.m)];
@@ -53,14 +54,13 @@ impl Program for Rulings {
             input.ceiling,
             PLAIN_DENOMINATOR,
             rulings,
-        ) {
-            Ok(Some(bound)) => {
+        )? {
+            Some(bound) => {
                 text.push_str(lines::bound(bound, input.ceiling).as_str());
                 push_edges(&mut text, input, rulings);
             }
-            Ok(None) => text.push_str("dead\n"),
-            Err(refusal) => text.push_str(lines::refused(Refused::from(refusal)).as_str()),
+            None => text.push_str("dead\n"),
         }
-        text
+        Ok(text)
     }
 }

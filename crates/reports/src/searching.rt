@@ -25,7 +25,8 @@ fn last_answer(input: &Input) -> Result<Verdict, Refusal>
     };
     let mut search = Search::fresh();
     search.open(&input.graph, input.multipliers(), settings)?;
-    let _ = search.run(BUDGET);
+    // what the run answers, telling says too
+    let _ran = search.run(BUDGET);
     search.tell()
 }
 
@@ -38,23 +39,22 @@ impl Program for Hunt {
     ghost says = { search_text };
 
     // The line or lines of that answer.
-    fn text(input: &Input) -> Text {
+    fn text(input: &Input) -> Result<Text, Refused> {
         let mut text = Text::new();
-        match last_answer(input) {
-            Ok(Verdict::Searching(count)) => {
+        match last_answer(input)? {
+            Verdict::Searching(count) => {
                 text.push_str("going on\n");
                 text.push_str(lines::nodes(count).as_str());
             }
-            Ok(Verdict::NoTour(count)) => {
+            Verdict::NoTour(count) => {
                 text.push_str("none\n");
                 text.push_str(lines::nodes(count).as_str());
             }
-            Ok(Verdict::Best { cost, count }) => {
+            Verdict::Best { cost, count } => {
                 text.push_str(lines::cost(cost).as_str());
                 text.push_str(lines::nodes(count).as_str());
             }
-            Err(refusal) => text.push_str(lines::refused(Refused::from(refusal)).as_str()),
         }
-        text
+        Ok(text)
     }
 }

@@ -16,7 +16,7 @@ use Rattle.tree_theory.specs.OneTree.{Edges}
 use Rattle.tree_theory.specs.Valid.{Valid}
 use Rattle.tours.specs.Orders.{elem, elem_in, in_elem, not-elem}
 use Rattle.tours.specs.Tours.{Trip, Tour, cost}
-use Rattle.tours.specs.Trips.{distinct_end, along, along_in, closed_once}
+use Rattle.tours.specs.Trips.{along, along_in, trip_once}
 use Rattle.sailing.specs.Orders.{Leads, SailingOrder, in_sailing_order}
 use Rattle.sailing.specs.OrderTest.{leads_listed, not-one, calls-size, order_size, test_order, order_test}
 
@@ -50,12 +50,6 @@ module _ (g : Network) (t : Edges) where
   leads_along u [] w j = (j.listed, j.ends, tt)
   leads_along u (v ∷ vs) w j = (j.0.listed, j.0.ends, leads_along v vs w j.1)
 
-  -- a closed trip through three vertices or more has each edge once
-  once_of : (vs : List ℕ) (j : Trip g t 1 vs 1) → Distinct vs → ¬ (1 ∈ vs) → 2 ≤ length vs → Distinct (along g t 1 vs 1 j)
-  once_of [] j d new l = absurd (omega arith)
-  once_of (v ∷ []) j d new l = absurd (omega arith)
-  once_of (v ∷ z ∷ vs) j d new l = closed_once g t 1 v z vs j (distinct_end (v ∷ z ∷ vs) 1 d new)
-
 module _ (g : Network) (vg : Valid g) where
   -- ---- from a list to a tour
 
@@ -72,7 +66,7 @@ module _ (g : Network) (vg : Valid g) where
     unfolding trip
     edges_once =
         subst (λ (l : List ℕ). Distinct l) (along_trip g (set_of ks) 1 ks s.order 1 s.leads has)
-        (once_of g (set_of ks) s.order trip s.once (not-one g vg ks s) (omega (arith, calls-size g vg ks s, vg.big)))
+        (trip_once g (set_of ks) 1 s.order trip s.once (not-one g vg ks s) (omega (arith, calls-size g vg ks s, vg.big)))
 
     -- the list has the edges of its set
     pub edges_whole : Whole ks (select (set_of ks) (up_to g.m))

@@ -6,7 +6,7 @@ use Rattle.std.proofs.Math.Nat.{pow-succ'}
 use Rattle.std.proofs.Math.Decide.{dec_le, ℕ_discrete}
 use Rattle.std.specs.Int.Signed.{mag}
 use Rattle.std.specs.Int.{w32, w64}
-use Rattle.lists.specs.Bools.{Says}
+use Rattle.lists.specs.Bools.{Says, says_both}
 use Rattle.lists.specs.Fill.{fit, fit_cut, fill}
 use Rattle.lists.specs.Rows.{row, row-size, row_at}
 use Rattle.integers.specs.Words.{back32, back64}
@@ -17,13 +17,12 @@ use Rattle.graph.specs.Places.{place_at, place_past}
 use Rattle.tree_theory.specs.Inputs.{ceiling_fits, multipliers_fit, denominator_fault}
 use Rattle.machine.specs.declared.Settings.{Settings}
 use Rattle.machine.specs.Machine.{Opening, trimmed, Node, Progress, open_top, ran}
-use Rattle.machine.specs.Kept.{Waits, Nodes}
 use Rattle.machine.specs.Runs.{ran-opens, ran_empty, ran_full}
 use Rattle.mark_rows.specs.MarkRows.{rows_of, row_words, node_words, required_in}
 use Rattle.machine.specs.Calls.{fault}
-use Rattle.search.specs.Record.{max_nodes, rows_at, stack_words, carried_of, record_of, carried_size, no_settings, multipliers_at, opening_of, has_tour, opening_in}
+use Rattle.search.specs.Record.{max_nodes, rows_at, carried_size, no_settings, multipliers_at, opening_of, has_tour, opening_in}
 use Rattle.search.specs.Canonical.{Zeros, GraphTidy, used_in, StackTidy, CarriedTidy, Tidy, Idle, StackFits, CarriedFits, Bits, Fits}
-use Rattle.search.specs.CheckLoops.{says_both, says-le, says_eq}
+use Rattle.search.specs.CheckLoops.{says-le, says_eq}
 use Rattle.search.specs.CheckParts as parts
 use Rattle.std.specs.Int.Count.{ones}
 use Rattle.lists.specs.Weights.{weight}
@@ -34,7 +33,7 @@ use Rattle.mark_rows.proofs.Building.{partly_free, partly_required, partly_exclu
 use Rattle.search.specs.Begun.{begun_trimmed}
 use Rattle.search.specs.Pushing.{Put, rows_top, carried_top}
 use Rattle.search.specs.Accepted.{range_fits, range_denominator}
-use Rattle.search.specs.Runs.TopNode.{Holds, Top, place as place_of_top, holds_upper, holds_depth, holds_count, holds_valid, top-high}
+use Rattle.search.specs.Runs.TopNode.{Holds, Top, place as place_of_top, holds_upper, holds_depth, holds_count, holds_settings, holds_valid, top-high, waits, old-words, old-carried}
 use Rattle.search.specs.declared.Search.{Search}
 
 -- ---- words that are zero
@@ -315,52 +314,31 @@ module _ (g : Graph) where
 -- ---- the run: what the record r tells of the search s that it holds
 
 module _ (r : Search) (s : Progress) (h : Holds r s) where
-  settings_are : r.settings ≡ s.opening.settings
-  unfolding record_of
-  settings_are = ap (λ (x : Search). x.settings) h.is
-
-  graph_is : r.graph ≡ s.opening.graph
-  unfolding record_of
-  graph_is = ap (λ (x : Search). x.graph) h.is
-
   pub runs_ceiling : ceiling_fits r.upper ≡ true
   runs_ceiling = ap ceiling_fits (holds_upper r s h) ∙ range_fits s.upper h.kept.upper
 
   pub runs_step : r.settings.step ≤ max_step
-  runs_step = subst (λ (t : Settings). t.step ≤ max_step) (sym settings_are) h.kept.opening.step
+  runs_step = subst (λ (t : Settings). t.step ≤ max_step) (sym (holds_settings r s h)) h.kept.opening.step
 
   pub runs_sweeps : r.settings.sweeps ≤ max_sweeps
-  runs_sweeps = subst (λ (t : Settings). t.sweeps ≤ max_sweeps) (sym settings_are) h.kept.opening.sweeps
+  runs_sweeps = subst (λ (t : Settings). t.sweeps ≤ max_sweeps) (sym (holds_settings r s h)) h.kept.opening.sweeps
 
   pub runs_denominator : denominator_fault r.settings.denominator ≡ 0
   runs_denominator =
-      subst (λ (t : Settings). denominator_fault t.denominator ≡ 0) (sym settings_are)
+      subst (λ (t : Settings). denominator_fault t.denominator ≡ 0) (sym (holds_settings r s h))
       (range_denominator s.opening.settings.denominator h.kept.opening.denominator)
 
   module _ (t : Top s) where
-    words_are : r.stack ≡ stack_words (t.node ∷ t.rest)
-    unfolding record_of
-    words_are = ap (λ (x : Search). x.stack) h.is ∙ ap (λ (st : List Node). stack_words st) t.stack
-
-    carried_is : r.carried ≡ carried_of (t.node ∷ t.rest)
-    unfolding record_of
-    carried_is = ap (λ (x : Search). x.carried) h.is ∙ ap (λ (st : List Node). carried_of st) t.stack
-
     -- the words of the top node, and the multipliers that it carries
     top_rows : rows_at r.stack (r.depth - 1) ≡ rows_of t.node.marks
-    top_rows = rows_top t.node t.rest r.stack (r.depth - 1) words_are (place_of_top r s h t) (top-high r s h t)
-
-    waits_there : Waits r.graph.n r.graph.m (length t.rest) t.node
-    waits_there =
-        subst (λ (x : Graph). Waits x.n x.m (length t.rest) t.node) (sym graph_is)
-        (subst (Nodes s.opening.graph.n s.opening.graph.m) t.stack h.kept.nodes).0
+    top_rows = rows_top t.node t.rest r.stack (r.depth - 1) (old-words r s h t) (place_of_top r s h t) (top-high r s h t)
 
     pub top_fits : multipliers_fit (fit r.graph.n (pos 0) (multipliers_at max_vertices r.carried (r.depth - 1))) ≡ true
     top_fits =
         ap multipliers_fit
-        (ap (fit r.graph.n (pos 0)) (carried_top t.node t.rest r.carried (r.depth - 1) carried_is (place_of_top r s h t) (top-high r s h t))
-        ∙ fit_cut max_vertices r.graph.n (pos 0) t.node.multipliers (holds_valid r s h).high waits_there.multipliers.long)
-        ∙ waits_there.multipliers.fits
+        (ap (fit r.graph.n (pos 0)) (carried_top t.node t.rest r.carried (r.depth - 1) (old-carried r s h t) (place_of_top r s h t) (top-high r s h t))
+        ∙ fit_cut max_vertices r.graph.n (pos 0) t.node.multipliers (holds_valid r s h).high (waits r s h t).multipliers.long)
+        ∙ (waits r s h t).multipliers.fits
 
     -- a turn of the run
     pub ran-next : (budget : ℕ) → ran (suc budget) s ≡ ran budget (open_top s s.stack)

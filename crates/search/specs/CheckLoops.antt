@@ -4,17 +4,13 @@ use Rattle.std.specs.Bool.{MatchBool}
 use Rattle.std.specs.List.{range_with_len, AllWithin, HoldsAt}
 use Rattle.std.proofs.Common.{sym, ◌∙◌, subst, true≢false, leb-true, le-leb, eqb-true, eq-eqb, arith}
 use Rattle.std.proofs.lemmas.List.FromFn.{length-range_with_len, get_or-range_with_len}
-use Rattle.lists.specs.Bools.{Says}
+use Rattle.lists.specs.Bools.{Says, says_both}
 use Rattle.search.specs.Record.{is_open}
 use Rattle.search.specs.Canonical.{Flags, Tidy, Stands, Canonical}
 use Rattle.search.specs.Check.{check, check_yes, check_no}
 use Rattle.search.specs.declared.Search.{Search}
 
 -- ---- what a test says
-
-pub says_both : (b : Bool) {P Q : Type 0} → (P → Q) → (Q → P) → Says b P → Says b Q
-says_both true f g h = f h
-says_both false f g h = λ q. h (g q)
 
 -- a test that fails, of what P asks too
 pub says_fails : (b : Bool) {P Q : Type 0} → Says b Q → b ≡ false → (P → Q) → Says b P

@@ -3,7 +3,7 @@ use Rattle.std.specs.Prelude.{◌≡◌, refl, Bool, true, false, cond, List, �
 use Rattle.std.proofs.Common.{sym, ap, ◌∙◌, arith}
 use Rattle.std.proofs.Math.Decide.{dec_le}
 use Rattle.std.proofs.Math.ListN.{get_or-eq_default}
-use Rattle.lists.specs.Bools.{bit}
+use Rattle.lists.specs.Bools.{bit, bit_most, bit_back}
 use Rattle.lists.specs.Fill.{fill, fill-size, fill-at, fill_past, fill_is, replicate-at, replicate_is}
 use Rattle.graph.specs.Limits.{max_edges}
 use Rattle.machine.specs.Outcomes.{Incumbent, no_tour, a_tour}
@@ -11,18 +11,10 @@ use Rattle.machine.specs.Kept.{Sized}
 use Rattle.search.specs.Record.{bits, best_of, has_incumbent, best_bytes}
 use Rattle.search.specs.Canonical.{Zeros, Bits}
 
-pub bit_back : (b : Bool) → eqb (bit b) 1 ≡ b
-bit_back true = refl
-bit_back false = refl
-
 pub byte_back : (k : ℕ) → k ≤ 1 → bit (eqb k 1) ≡ k
 byte_back zero h = refl
 byte_back (suc zero) h = refl
 byte_back (suc (suc k)) h = absurd (omega arith)
-
-pub bit-small : (b : Bool) → bit b ≤ 1
-bit-small true = omega arith
-bit-small false = omega arith
 
 -- a flag that is not 1 is 0
 pub flag_off : (k : ℕ) → k ≤ 1 → eqb k 1 ≡ false → k ≡ 0
@@ -53,7 +45,7 @@ best_back m (a_tour r) h z =
 pub best-bits : (i : Incumbent (List Bool)) → Bits (best_bytes i)
 unfolding best_bytes
 best-bits no_tour k h = omega (arith, replicate-at {A = ℕ} max_edges 0 k)
-best-bits (a_tour r) k h = rw (fill-at max_edges (λ j. bit (get_or r j false)) k 0 h) (bit-small (get_or r k false))
+best-bits (a_tour r) k h = rw (fill-at max_edges (λ j. bit (get_or r j false)) k 0 h) (bit_most (get_or r k false))
 
 pub best_zeros : (m : ℕ) (i : Incumbent (List Bool)) → Sized m i → Zeros 0 max_edges (cond (has_incumbent i) m 0) (best_bytes i)
 unfolding best_bytes has_incumbent

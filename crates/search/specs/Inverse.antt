@@ -8,7 +8,7 @@ use Rattle.std.proofs.Math.ListN.{get_or, get_or-eq_default}
 use Rattle.std.proofs.Math.IntN.{pos}
 use Rattle.std.specs.Int.{w64}
 use mir.Val as words
-use Rattle.lists.specs.Bools.{bit}
+use Rattle.lists.specs.Bools.{bit, bit_most, bit_back}
 use Rattle.lists.specs.Fill.{fit, fit_at, fit-fill, fit_cut, replicate-at, replicate_is}
 use Rattle.graph.specs.Limits.{max_vertices, max_edges}
 use Rattle.graph.specs.declared.Graph.{Graph}
@@ -25,7 +25,7 @@ use Rattle.search.specs.Record.{max_nodes, stack_size, carried_size, fresh, node
 use Rattle.search.specs.Cells.{rows_places, carried_places, cells_at, cells_is, each-place, rows_at-size, rows_at_lem, multipliers_at_lem, multipliers_size, nodes-size, nodes-at, nodes_back, nodes_of, node_waits, node_narrow, rows_there, marks_back, multipliers_back, no_word, carried_past, cell_none}
 use Rattle.search.specs.Canonical.{Zeros, StackTidy, CarriedTidy, used_in, Tidy, Idle, Fits, Flags, Stands, Canonical}
 use Rattle.search.specs.Accepted.{fits_range, range_fits, accepted_fault, fault_accepted}
-use Rattle.search.specs.Incumbents.{bit_back, byte_back, bit-small, flag_off, best_back, best-bits, best_zeros, best_sized, has_back, bytes_back}
+use Rattle.search.specs.Incumbents.{byte_back, flag_off, best_back, best-bits, best_zeros, best_sized, has_back, bytes_back}
 use Rattle.search.specs.declared.Search.{Search}
 
 -- ---- from a state
@@ -154,7 +154,7 @@ pub encode_canonical : (s : State) → KeptState s → Canonical (encode s)
 unfolding encode record_of
 encode_canonical no_search h = fresh_canonical
 encode_canonical (searching s) h = record {
-  flags = record { «open» = omega arith; best = bit-small (has_incumbent s.incumbent) };
+  flags = record { «open» = omega arith; best = bit_most (has_incumbent s.incumbent) };
   tidy = record_tidy s h;
   stands = record_fits s h;
 }

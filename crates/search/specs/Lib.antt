@@ -26,4 +26,5 @@ pub mod Begun
 -- a run
 pub mod Runs
 -- the calls, case by case
+pub mod Unless
 pub mod ReplyCases

@@ -7,7 +7,7 @@ use Rattle.std.proofs.Math.Bool.{false}
 use Rattle.std.proofs.Math.Dec.{eqb}
 use Rattle.std.proofs.lemmas.List.{length-map}
 use borrow.Author.Tests.{eq-eqb, ne_eqb}
-use Rattle.lists.specs.Bools.{bit, by_cases}
+use Rattle.lists.specs.Bools.{bit}
 use Rattle.lists.specs.Fill.{fit, fit-size, fit_at}
 use Rattle.graph.specs.Limits.{max_edges}
 use Rattle.graph.specs.Valid.{Valid}
@@ -25,7 +25,7 @@ use Rattle.search.specs.Check.{check, check_is}
 use Rattle.search.specs.Incumbents.{byte_back, bits-size, bits_at}
 use Rattle.search.specs.Runs.Costs.{cost-bits}
 use Rattle.search.specs.Inverse.{Typed, encode-decode, decode-kept}
-use Rattle.search.specs.Replies.{Outcome, refuses, closed_fault, reply, lent}
+use Rattle.search.specs.Replies.{Outcome, refuses, reply, lent}
 use Rattle.search.specs.Seen.{state_in, Again}
 use Rattle.search.specs.declared.Search.{Search}
 use Rattle.search.specs.declared.State.TheVariants.{Broken, Empty, Waiting, Finished}
@@ -288,14 +288,3 @@ module _ (s : Search) where
       pub graph-valid : Valid s.graph
       unfolding progress_of opening_in
       graph-valid = kept.opening.valid
-
-  -- ---- what is tested before all input
-
-  module _ (t : check s ≡ true → Typed s) where
-    -- where it is passed
-    pub closed-passed : 0 ≡ closed_fault s → IsOpen s
-    closed-passed e = by_cases (check s)
-        (λ h. by_cases (is_open s)
-        (λ o. record { typed = t h; passes = h; opened = o })
-        (λ o. absurd (let z : 0 ≡ 20 = e ∙ rw (h, o) refl in omega arith)))
-        (λ h. absurd (let z : 0 ≡ 24 = e ∙ rw h refl in omega arith))

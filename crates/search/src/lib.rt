@@ -18,14 +18,14 @@ mod running;
 mod stack;
 
 use cost::tour_cost;
-use graph::{Graph, MAX_EDGES, MAX_VERTICES, Refusal};
+use graph::{Graph, MAX_EDGES, MAX_VERTICES, Refusal, ValidGraph};
 use machine::Settings;
 use node::{NODE_WORDS, Workspace};
 use onetree::PassLists;
 use opening::Opening;
 
 // As specs/Limits.antt of crate graph has it.
-pub const MAX_COUNT: u64 = 9_223_372_036_854_775_807;
+pub(crate) const MAX_COUNT: u64 = 9_223_372_036_854_775_807;
 
 // Room for the nodes that wait, six words each: a search never has more than n + 2 of them.
 pub const MAX_NODES: usize = MAX_VERTICES + 2;
@@ -39,8 +39,8 @@ pub const CARRIED_SIZE: usize = MAX_VERTICES * MAX_NODES;
 // from the bottom has six words from place NODE_WORDS * p on, three with a bit for each required edge and three with one for each excluded
 // edge, and carries a multiplier for each vertex from place MAX_VERTICES * p on), and the incumbent (1 in, 0 out). The flags `open` and
 // `has_best` are bytes, 1 yes and 0 no. The fields stand by width, so that no byte lies between them. docs/RECORD.md states the check that
-// every call makes of it. Bytes for flags, flat arrays and a depth beside them, since C lends the record, all of whose bytes count: the code reads
-// the incumbent as an `Option` (`incumbent`), and a node by `get` and `put` alone.
+// every call makes of it. Bytes for flags, flat arrays and a depth beside them, since include/planner.h and docs/RECORD.md declare them so, field by
+// field: the code reads the incumbent as an `Option` (`incumbent`), and a node by `get` and `put` alone.
 #[repr(C)]
 #[derive(Clone, Copy, Debug, PartialEq, Eq)]
 pub struct Search {
@@ -112,17 +112,13 @@ impl Search {
         ensures passed { OnOk result (IsOpen self.now) }
         ensures typed { check self.now ≡ true → Typed self.now }
     {
-        if !self.is_sound() {
-            return Err(Refusal::Record);
-        }
-        if self.open != 1 {
-            return Err(Refusal::NotOpen);
-        }
-        Ok(())
+        Refusal::Record.unless(self.is_sound())?;
+        Refusal::NotOpen.unless(self.open == 1)
     }
 
     // What the record holds, for a caller that keeps several.
     // Ruled out: no search where the record fails its check; nodes that wait where a search is finished.
+    #[tactic(auto, using(crate::specs::ReplyCases::seen_24, crate::specs::ReplyCases::seen_20, crate::specs::ReplyCases::seen_finished, crate::specs::ReplyCases::seen_waiting, crate::specs::ReplyCases::again))]
     pub fn state(&self) -> State
         ensures state { result ≡ state_in self.now }
         ensures again { Again self.now }
@@ -147,12 +143,8 @@ impl Search {
         ensures answer { means result ≡ (reply self.old (Calls.opens (opening_of g.now multipliers.now settings))).answer }
         ensures left { self.new ≡ (reply self.old (Calls.opens (opening_of g.now multipliers.now settings))).search }
     {
-        if !self.is_sound() {
-            return Err(Refusal::Record);
-        }
-        if self.open == 1 {
-            return Err(Refusal::AlreadyOpen);
-        }
+        Refusal::Record.unless(self.is_sound())?;
+        Refusal::AlreadyOpen.unless(self.open != 1)?;
         let asked = Opening {
             g,
             multipliers,
@@ -199,8 +191,9 @@ impl Search {
         let Some(best) = self.incumbent() else {
             return Ok(Verdict::NoTour(self.count));
         };
+        let valid = ValidGraph { graph: &self.graph };
         Ok(Verdict::Best {
-            cost: tour_cost(&self.graph, best),
+            cost: tour_cost(valid, best),
             count: self.count,
         })
     }
@@ -213,15 +206,9 @@ impl Search {
         ensures list { out.new ≡ lent self.now (Calls.show out.old) }
     {
         self.opened()?;
-        if self.depth != 0 {
-            return Err(Refusal::NodesWait);
-        }
-        let Some(best) = self.incumbent() else {
-            return Err(Refusal::NoTour);
-        };
-        if out.len() != usize::from(self.graph.m) {
-            return Err(Refusal::Length);
-        }
+        Refusal::NodesWait.unless(self.depth == 0)?;
+        let best = self.incumbent().ok_or(Refusal::NoTour)?;
+        Refusal::Length.unless(out.len() == usize::from(self.graph.m))?;
         out.copy_from_slice(&best[..out.len()]);
         Ok(())
     }

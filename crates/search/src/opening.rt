@@ -13,7 +13,7 @@ use graph::{Graph, MAX_EDGES, Refusal};
 use greedy::Checked;
 use machine::Settings;
 
-// The graph with zero at every place past its edges.
+// The graph with zero at every place past its edges. Asked of m, and no type: `begin` alone calls it, and knows it of an opening without a fault.
 fn trim(g: &Graph) -> Graph
     requires { g.now.m ≤ max_edges }
     ensures { result ≡ trimmed g.now }
@@ -27,7 +27,7 @@ fn trim(g: &Graph) -> Graph
     t
 }
 
-// The arguments of an opening.
+// The arguments of an opening. The calls `open` here and `add` of the dispatcher take them one by one, as the exported calls do.
 #[derive(Clone, Copy)]
 pub(crate) struct Opening<'a> {
     pub(crate) g: &'a Graph,
@@ -37,6 +37,7 @@ pub(crate) struct Opening<'a> {
 
 impl<'a> Opening<'a> {
     // The first of 15, 11, 12, 13, 14, 32 that applies: an opening is lent no list, so that none has a wrong length.
+    #[tactic(auto, using(graph::specs::Refusals::positive), unfolding(machine::specs::Calls::fault, tree_theory::specs::Inputs::input_fault, tree_theory::specs::Inputs::denominator_fault))]
     pub(crate) fn fault(&self) -> Result<(), Refusal>
         ensures { fault_of result ≡ Calls.fault (asked self.now) }
     {

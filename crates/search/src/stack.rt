@@ -4,13 +4,11 @@ ghost use Rattle.lists.specs.Fill.{fill};
 ghost use Rattle.search.specs.Pushing.{Put};
 
 // The places of node p.
-pub(crate) fn get<T: Copy + Default, const W: usize>(s: &[T], p: usize) -> [T; W]
+pub(crate) fn get<T: Copy, const W: usize>(s: &[T], p: usize) -> [T; W]
     requires { W * p + W ≤ length s.now }
     ensures { (z : T) → result ≡ fill W (λ j. get_or s.now (W * p + j) z) }
 {
-    let mut r = [T::default(); W];
-    r.copy_from_slice(&s[W * p..W * p + W]);
-    r
+    <[T; W]>::try_from(&s[W * p..W * p + W]).unwrap()
 }
 
 // x is stored at the places of node p.

@@ -3,6 +3,7 @@
 use Rattle.std.specs.Prelude.{◌≡◌, refl, Bool, true, false, not, cond, ◌&&◌, ◌||◌, List, [], ◌∷◌, map, ℕ, eqb}
 use Rattle.std.specs.List.{list_all, list_any}
 use Rattle.std.proofs.Common.{sym, ap, ◌∙◌, true≢false}
+use Rattle.std.proofs.lemmas.Bool.{not-true, not-false}
 use Rattle.lists.specs.Bools.{by_cases}
 use Rattle.machine.specs.Machine as machine
 use Rattle.machine.specs.Machine.{no_search, searching, finished}
@@ -74,15 +75,7 @@ some_broken (s ∷ l) = rw (broken_is s, some_broken l) (either (check s) (list_
 
 -- none is broken where each passes
 pub all_whole : (l : List Search) → any_broken l ≡ false → list_all check l ≡ true
-all_whole l e = go (list_all check l) (sym (some_broken l) ∙ e)
-  where
-    go : (b : Bool) → not b ≡ false → b ≡ true
-    go true f = refl
-    go false f = absurd (true≢false f)
+all_whole l e = not-false (list_all check l) (sym (some_broken l) ∙ e)
 
 pub one_broken : (l : List Search) → any_broken l ≡ true → list_all check l ≡ false
-one_broken l e = go (list_all check l) (sym (some_broken l) ∙ e)
-  where
-    go : (b : Bool) → not b ≡ true → b ≡ false
-    go true f = absurd (true≢false (sym f))
-    go false f = refl
+one_broken l e = not-true (list_all check l) (sym (some_broken l) ∙ e)

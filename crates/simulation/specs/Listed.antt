@@ -1,7 +1,7 @@
 -- The edges of a list that is in sailing order: each is one of the graph's, and its cost stands in the array. Assumes nothing.
-use Rattle.std.specs.Prelude.{◌≡◌, refl, List, [], ◌∷◌, ◌++◌, ℕ, zero, suc, ◌-◌, ◌≤◌, ◌<◌, length, get_or}
-use Rattle.std.proofs.Common.{subst, inl, inr, arith}
-use Rattle.lists.specs.Members.{◌∈◌}
+use Rattle.std.specs.Prelude.{◌≡◌, List, [], ◌∷◌, ◌++◌, ℕ, ◌-◌, ◌≤◌, ◌<◌, length, get_or}
+use Rattle.std.proofs.Common.{subst, arith}
+use Rattle.lists.specs.MembersAt.{at_in}
 use Rattle.lists.specs.Numbers.{in_up_to}
 use Rattle.integers.specs.Range.{InRange, within_range}
 use Rattle.graph.specs.Limits.{max_vertices, max_edges, max_cost}
@@ -16,18 +16,13 @@ use Rattle.sailing.specs.Simulation.{simulation_fault}
 use Rattle.sailing.specs.Refusals.{Faultless, no_fault}
 use Rattle.simulation.specs.Steps.{cost_in}
 
-place_in : (ks : List ℕ) (i : ℕ) → i < length ks → get_or ks i 0 ∈ ks
-place_in [] i h = absurd (omega arith)
-place_in (k ∷ ks) zero h = inl refl
-place_in (k ∷ ks) (suc i) h = inr (place_in ks i (omega arith))
-
 module _ (g : Graph) (ks : List ℕ) (student e len : ℕ) (f : Faultless g ks student e len) where
   -- each is one of the graph's
   edge_inside : (i : ℕ) → i < length ks → (1 ≤ get_or ks i 0) × (get_or ks i 0 ≤ g.m)
   unfolding network
   edge_inside i h =
       let order = test_order (network g) (network-valid g f.is_valid) ks f.in_order in
-      in_up_to g.m (get_or ks i 0) (leads_listed (network g) 1 ks (order.order ++ 1 ∷ []) order.leads (get_or ks i 0) (place_in ks i h))
+      in_up_to g.m (get_or ks i 0) (leads_listed (network g) 1 ks (order.order ++ 1 ∷ []) order.leads (get_or ks i 0) (at_in ks i 0 h))
 
   -- its cost, as the array has it
   pub cost-at : (i : ℕ) → i < length ks → (network g).cost (get_or ks i 0) ≡ cost_in g.cost (get_or ks i 0)

@@ -7,7 +7,6 @@ ghost use Rattle.integers.specs.Range.{InRange};
 ghost use Rattle.graph.specs.Limits.{max_cost};
 ghost use Rattle.graph.specs.Network.{network};
 ghost use Rattle.graph.specs.Refusals.{fault_of};
-ghost use Rattle.graph.specs.Valid.{Valid};
 ghost use Rattle.sailing.specs.Draws.{max_spread, modulus, next, delay, after};
 ghost use Rattle.sailing.specs.Times.{total};
 ghost use Rattle.sailing.specs.Orders.{in_sailing_order};
@@ -15,7 +14,8 @@ ghost use Rattle.sailing.specs.Simulation.{simulation_fault, times_of, simulatio
 ghost use Rattle.simulation.specs.Answers.{simulation_meaning};
 ghost use Rattle.simulation.specs.Steps.{leads_to};
 
-use graph::{Graph, Refusal, VERTEX_PLACES};
+use graph::{Graph, Refusal, VERTEX_PLACES, ValidGraph};
+use std::mem;
 
 // As specs/Draws.antt of crate sailing has them.
 pub const MAX_STUDENT: u64 = 65_535;
@@ -57,26 +57,25 @@ fn time(cost: i32, spread: u64, s: u64) -> i64
 }
 
 // Where edge k leads from vertex u: nowhere if there is no such edge, or u is no end of it.
-#[tactic(auto, using(crate::specs::Steps::leads_not_listed, crate::specs::Steps::leads_from_a, crate::specs::Steps::leads_from_b, crate::specs::Steps::leads_nowhere))]
-fn leads(g: &Graph, k: usize, u: u8) -> Option<u8>
-    requires { Valid g.now }
-    ensures { result ≡ leads_to (network g.now) k u }
+#[tactic(auto, using(crate::specs::Steps::leads_not_listed, crate::specs::Steps::leads_from_a, crate::specs::Steps::leads_from_b, crate::specs::Steps::leads_nowhere), unfolding(graph::specs::Numbered::edge_place))]
+fn leads(g: &ValidGraph, k: usize, u: u8) -> Option<u8>
+    ensures { result ≡ leads_to (network g.now.graph.now) k u }
 {
-    if !(1..=usize::from(g.m)).contains(&k) {
-        None
-    } else if g.a[k - 1] == u {
-        Some(g.b[k - 1])
-    } else if g.b[k - 1] == u {
-        Some(g.a[k - 1])
+    let place = g.graph.place(k)?;
+    let (a, b) = (g.graph.a[place], g.graph.b[place]);
+    if a == u {
+        Some(b)
+    } else if b == u {
+        Some(a)
     } else {
         None
     }
 }
 
 // Are the edges a tour of all vertices in sailing order from vertex 1? Each leads to a vertex not come to before, the last to vertex 1.
-fn in_order(g: &Graph, edges: &[usize]) -> bool
-    requires { Valid g.now × (length edges.now ≡ g.now.n) }
-    ensures { result ≡ in_sailing_order (network g.now) edges.now }
+fn in_order(g: &ValidGraph, edges: &[usize]) -> bool
+    requires { length edges.now ≡ g.now.graph.now.n }
+    ensures { result ≡ in_sailing_order (network g.now.graph.now) edges.now }
 {
     let mut met = [false; VERTEX_PLACES];
     let mut at = 1;
@@ -86,10 +85,9 @@ fn in_order(g: &Graph, edges: &[usize]) -> bool
             return false;
         };
         let place = usize::from(v);
-        if met[place] {
+        if mem::replace(&mut met[place], true) {
             return false;
         }
-        met[place] = true;
         at = v;
     }
     at == 1
@@ -110,18 +108,11 @@ impl<'a> Simulation<'a> {
     fn fault(&self, len: usize) -> Result<(), Refusal>
         ensures { fault_of result ≡ simulation_fault self.now.g.now self.now.edges.now self.now.student self.now.spread len }
     {
-        self.g.fault()?;
+        let g = self.g.valid()?;
         let n = usize::from(self.g.n);
-        if self.edges.len() != n || len != n {
-            return Err(Refusal::Length);
-        }
-        if !in_order(self.g, self.edges) {
-            return Err(Refusal::Tour);
-        }
-        if self.spread > MAX_SPREAD || self.student > MAX_STUDENT {
-            return Err(Refusal::StudentOrSpread);
-        }
-        Ok(())
+        Refusal::Length.unless(self.edges.len() == n && len == n)?;
+        Refusal::Tour.unless(in_order(&g, self.edges))?;
+        Refusal::StudentOrSpread.unless(self.spread <= MAX_SPREAD && self.student <= MAX_STUDENT)
     }
 
     // The sailing itself: each edge's time, their total and the last state.

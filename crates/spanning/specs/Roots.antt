@@ -85,14 +85,14 @@ one_root (v ∷ vs) L d h = go (ℕ_discrete (L v) v) (one_root vs L d.1 (λ u w
 -- ---- joining two components
 
 -- what holds of both numbers holds of the larger, and of the smaller
-of_max : (P : ℕ → Type 0) (x y : ℕ) → P x → P y → P (max x y)
+pub of_max : (P : ℕ → Type 0) (x y : ℕ) → P x → P y → P (max x y)
 of_max P x y hx hy = go (dec_le x y)
   where
     go : Dec (x ≤ y) → P (max x y)
     go (yes h) = let e : max x y ≡ y = omega arith in rw e hy
     go (no h) = let e : max x y ≡ x = omega arith in rw e hx
 
-of_min : (P : ℕ → Type 0) (x y : ℕ) → P x → P y → P (min x y)
+pub of_min : (P : ℕ → Type 0) (x y : ℕ) → P x → P y → P (min x y)
 of_min P x y hx hy = go (dec_le x y)
   where
     go : Dec (x ≤ y) → P (min x y)

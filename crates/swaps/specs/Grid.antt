@@ -6,7 +6,7 @@ use Rattle.std.proofs.Math.Decide.{ℕ_discrete}
 use Rattle.std.proofs.Math.ListN.{length, get_or, length-set}
 use Rattle.std.proofs.lemmas.List.{length-replicate}
 use Rattle.std.proofs.Math.Seq.{get_or-set_same, get_or-set_other}
-use Rattle.lists.specs.Rows.{zeros}
+use Rattle.lists.specs.Fill.{replicate-at}
 
 -- what stands in row i at place j
 unfoldable pub cell : List (List ℕ) → ℕ → ℕ → ℕ
@@ -65,5 +65,5 @@ zero_square n = record {
 pub zero_cell : (m n i j : ℕ) → cell (replicate n (replicate m 0)) i j ≡ 0
 unfolding cell
 zero_cell m zero i j = refl
-zero_cell m (suc n) zero j = zeros m j
+zero_cell m (suc n) zero j = replicate-at m 0 j
 zero_cell m (suc n) (suc i) j = zero_cell m n i j

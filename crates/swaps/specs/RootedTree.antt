@@ -18,7 +18,7 @@ use Rattle.graph.specs.Valid as value
 use Rattle.spanning.specs.Walks.{Walk, walk_trans, walk_sym, walk_respects, label-walk}
 use Rattle.spanning.specs.Trees.{minus_apart}
 use Rattle.tree_theory.specs.OneTree.{OneTree, away}
-use Rattle.tree_theory.specs.Valid.{is_near, is_excluded, needed, far, far_in, in_far, in_others, distinct-far, far_within, others_in}
+use Rattle.tree_theory.specs.Valid.{is_near, is_excluded, needed, far, far_in, in_far, in_others, two_in, distinct-far, far_within, others_in}
 use Rattle.tree_theory.specs.Optimal.Link.{Parts, to_parts, away_is}
 use Rattle.tree_theory.specs.Arrays.{bytes, edge_of, of_edge, needed-at, excluded_at, network-valid}
 use Rattle.tree_theory.specs.Merges.{Merges}
@@ -83,14 +83,14 @@ walkable g w from to t v ends table = record { leading = λ x a i f. leads x (ta
 pub free_mark : (x : ℕ) → x ≤ 2 → x ≢ 1 → x ≢ 2 → x ≡ 0
 free_mark x h a b = omega arith
 
+pub parts : (g : Graph) → value.Valid g → (w : List ℕ) → OneTree (network g) (bytes w) → Parts (network g) (bytes w)
+parts g v w o = to_parts (network g) (network-valid g v) (bytes w) o
+
 module _ (g : Graph) (v : value.Valid g) (w : List ℕ) (o : OneTree (network g) (bytes w)) (rep : List ℕ) (labels : Merges g rep)
     (from to : List ℕ) (labelled : Labelled g rep from to) where
-  parts : Parts (network g) (bytes w)
-  parts = to_parts (network g) (network-valid g v) (bytes w) o
-
   -- required edges are in the set
   kept : (e : ℕ) → e ∈ far (network g) → needed (network g) e ≡ true → bytes w e ≡ true
-  kept e m n = parts.keeps e (far_in (network g) e m).0 n
+  kept e m n = (parts g v w o).keeps e (far_in (network g) e m).0 n
 
   -- a listed edge is a free far edge of the set
   listed_in : (k : ℕ) → k < g.m → Inner g w k → suc k ∈ far (network g)
@@ -110,7 +110,7 @@ module _ (g : Graph) (v : value.Valid g) (w : List ℕ) (o : OneTree (network g)
     low' = omega (arith, labelled.two k h, labels.inside (get_or g.b k 0) (omega (arith, two, e.less)) (omega (arith, e.to, v.high)));
     high' = omega (arith, labelled.two k h, labels.below (get_or g.b k 0) (omega (arith, e.to, v.high)), e.to);
     apart = λ f. minus_apart (network g).a (network g).b (far (network g)) (distinct-far (network g)) (bytes w) (suc k) (listed_in k h i)
-        (eq-eqb (get_or w k 0) 1 i.chosen) parts.tree.forest
+        (eq-eqb (get_or w k 0) 1 i.chosen) (parts g v w o).tree.forest
         ((label-walk (network g).a (network g).b _ ((network g).a (suc k)) ((network g).b (suc k))).1 (circle f));
   }
     where
@@ -169,7 +169,7 @@ module _ (g : Graph) (v : value.Valid g) (w : List ℕ) (o : OneTree (network g)
         two = omega (arith, labels.below 2 (omega arith), labels.inside 2 (omega arith) (omega arith))
 
         walk : Walk (network g).a (network g).b (away (network g) (bytes w)) 2 u
-        walk = o.joined 2 u (in_others (network g) 2 (omega arith) (omega (arith, v.low))) (in_others (network g) u i.0 i.1)
+        walk = o.joined 2 u (two_in (network g) (network-valid g v)) (in_others (network g) u i.0 i.1)
 
         keeps : (e : ℕ) → e ∈ away (network g) (bytes w)
             → min 1 (depth_at r (label_of rep ((network g).a e))) ≡ min 1 (depth_at r (label_of rep ((network g).b e)))
@@ -177,7 +177,7 @@ module _ (g : Graph) (v : value.Valid g) (w : List ℕ) (o : OneTree (network g)
           where
             j : (e ∈ far (network g)) × (bytes w e ≡ true)
             j = select_in (bytes w) (far (network g)) e
-                (subst (λ (l : List ℕ). e ∈ l) (sym (away_is (network g) (bytes w) parts.avoids)) m)
+                (subst (λ (l : List ℕ). e ∈ l) (sym (away_is (network g) (bytes w) (parts g v w o).avoids)) m)
 
             go : (k : ℕ) × (k < g.m) × (e ≡ suc k) × (get_or g.a k 0 ≢ 1) × (get_or g.mark k 0 ≢ 2)
                 → min 1 (depth_at r (label_of rep ((network g).a e))) ≡ min 1 (depth_at r (label_of rep ((network g).b e)))
@@ -268,7 +268,7 @@ module _ (g : Graph) (v : value.Valid g) (w : List ℕ) (o : OneTree (network g)
         others_in (network g) ((network g).b e) q.1,
       );
       keeps = kept;
-      forest = parts.tree.forest;
+      forest = (parts g v w o).tree.forest;
     }
       where
         merged : (e : ℕ) → e ∈ far (network g) → needed (network g) e ≡ true → label_of rep ((network g).a e) ≡ label_of rep ((network g).b e)

@@ -14,13 +14,12 @@ use Rattle.graph.specs.Places.{network_a, network_b}
 use Rattle.graph.specs.Valid as value
 use Rattle.tree_theory.specs.OneTree.{OneTree}
 use Rattle.tree_theory.specs.Valid.{is_near, is_excluded, needed, far, far_in, in_far}
-use Rattle.tree_theory.specs.Optimal.Link.{Parts, to_parts}
 use Rattle.tree_theory.specs.Optimal.Criteria.{MaySwap, Apart, Place}
-use Rattle.tree_theory.specs.Arrays.{bytes, edge_of, of_edge, needed-at, excluded_at, network-valid}
+use Rattle.tree_theory.specs.Arrays.{bytes, edge_of, of_edge, needed-at, excluded_at}
 use Rattle.swaps.specs.Hanging.{Vertex, Child, Splits}
 use Rattle.swaps.specs.Visiting.{Rooting, edge_at}
 use Rattle.swaps.specs.Rooted.{Other, cut-same, same-cut, edge_above, one_vertex}
-use Rattle.swaps.specs.RootedTree.{shape, edge_over, label_of, RootedIn, free_mark}
+use Rattle.swaps.specs.RootedTree.{parts, shape, edge_over, label_of, RootedIn, free_mark}
 
 -- the ends of the edge at place k, and its mark
 abbrev pub a_at : Graph → ℕ → ℕ
@@ -51,9 +50,6 @@ pub record Swaps (g : Graph) (rep : List ℕ) (r : Rooting) (i k : ℕ) : Type 0
   pub place : SamePlace g rep r i k
 
 module _ (g : Graph) (v : value.Valid g) (w : List ℕ) (o : OneTree (network g) (bytes w)) where
-  parts : Parts (network g) (bytes w)
-  parts = to_parts (network g) (network-valid g v) (bytes w) o
-
   -- ---- marks
 
   not-needed : (k : ℕ) → k < g.m → needed (network g) (suc k) ≡ false → mark_at g k ≢ 1
@@ -72,13 +68,13 @@ module _ (g : Graph) (v : value.Valid g) (w : List ℕ) (o : OneTree (network g)
   pub in_free : (k : ℕ) → k < g.m → get_or w k 0 ≡ 1 → mark_at g k ≢ 1 → mark_at g k ≡ 0
   unfolding network
   in_free k h e f = free_mark (mark_at g k) (v.each k h).known f (λ q. true≢false (sym (eq-eqb (get_or w k 0) 1 e)
-      ∙ parts.avoids (suc k) (of_edge g.m k h) (excluded_at g k h v ∙ eq-eqb (mark_at g k) 2 q)))
+      ∙ (parts g v w o).avoids (suc k) (of_edge g.m k h) (excluded_at g k h v ∙ eq-eqb (mark_at g k) 2 q)))
 
   -- and so is one outside that is not excluded
   out_free : (k : ℕ) → k < g.m → get_or w k 0 ≢ 1 → mark_at g k ≢ 2 → mark_at g k ≡ 0
   unfolding network
   out_free k h e f = free_mark (mark_at g k) (v.each k h).known (λ q. true≢false (sym
-      (parts.keeps (suc k) (of_edge g.m k h) (needed-at g k h ∙ eq-eqb (mark_at g k) 1 q)) ∙ ne_eqb (get_or w k 0) 1 e)) f
+      ((parts g v w o).keeps (suc k) (of_edge g.m k h) (needed-at g k h ∙ eq-eqb (mark_at g k) 1 q)) ∙ ne_eqb (get_or w k 0) 1 e)) f
 
   -- ---- places
 

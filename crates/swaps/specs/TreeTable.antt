@@ -5,7 +5,7 @@ use Rattle.std.proofs.Common.{◌∙◌, sym, ap, inl, inr, arith, add-one, leng
 use Rattle.std.proofs.Math.Decide.{ℕ_discrete, dec_le}
 use Rattle.std.proofs.lemmas.Bool.{eqb-false, not-true}
 use Rattle.lists.specs.Bools.{and_both}
-use Rattle.lists.specs.Rows.{zeros}
+use Rattle.lists.specs.Fill.{replicate-at}
 use Rattle.lists.specs.Select.{select}
 use Rattle.lists.specs.Numbers.{up_to}
 use Rattle.lists.specs.Weights.{keep-length}
@@ -190,12 +190,12 @@ table_none g w from to = record {
   packed = record {
     square = zero_square 20;
     long = refl;
-    some = λ x i a l. absurd (omega (arith, zeros 21 x));
+    some = λ x i a l. absurd (omega (arith, replicate-at {A = ℕ} 21 0 x));
     none = λ x i a l. zero_cell 20 20 _ _;
   };
   only = λ x i a e. absurd (e (zero_cell 20 20 _ _));
   all = λ k h. absurd (let z : suc k ≤ 0 = h in omega arith);
-  few = λ x. omega (arith, zeros 21 x);
+  few = λ x. omega (arith, replicate-at {A = ℕ} 21 0 x);
 }
 
 module _ (g : Graph) (v : Valid g) (w : List ℕ) (o : OneTree (network g) (bytes w)) (from to : List ℕ) (ends : Ends g w from to)

@@ -9,7 +9,7 @@ use Rattle.std.proofs.Math.Numerals.{add-one}
 use Rattle.std.proofs.Math.ListN.{get_or, length-set, get_or-append}
 use Rattle.std.proofs.Math.Seq.{get_or-set_same, get_or-set_other, get_or-append_seam}
 use Rattle.std.proofs.lemmas.List.{length-append}
-use Rattle.lists.specs.Rows.{zeros}
+use Rattle.lists.specs.Fill.{replicate-at}
 use Rattle.swaps.specs.Grid.{cell}
 use Rattle.swaps.specs.TreeTable.{listed}
 
@@ -89,7 +89,7 @@ only_two v l = go (ℕ_discrete v 2)
   where
     go : Dec (v ≡ 2) → v ≡ 2
     go (yes e) = e
-    go (no e) = absurd (omega (arith, get_or-set_other {A = ℕ} (replicate 21 0) 2 v 1 0 e, zeros 21 v))
+    go (no e) = absurd (omega (arith, get_or-set_other {A = ℕ} (replicate 21 0) 2 v 1 0 e, replicate-at {A = ℕ} 21 0 v))
 
 pub hung_root : (a b : List ℕ) (t : List (List ℕ)) (n : ℕ) → 2 ≤ n → Hung a b t n alone
 hung_root a b t n h = record {
@@ -204,7 +204,7 @@ lined_root = record {
   where
     bound_at : (v : ℕ) → Dec (v ≡ 2) → depth_at alone v ≤ 1
     bound_at v (yes e) = rw e (omega arith)
-    bound_at v (no e) = omega (arith, get_or-set_other {A = ℕ} (replicate 21 0) 2 v 1 0 e, zeros 21 v)
+    bound_at v (no e) = omega (arith, get_or-set_other {A = ℕ} (replicate 21 0) 2 v 1 0 e, replicate-at {A = ℕ} 21 0 v)
 
     hangs_at : (j : ℕ) → j < 1 → 1 ≤ depth_at alone (get_or (2 ∷ []) j 0)
     hangs_at zero l = omega arith

@@ -11,10 +11,9 @@ use Rattle.std.proofs.Math.Decide.{ℕ_discrete}
 use Rattle.std.proofs.Math.Dec.{eqb}
 use Rattle.std.proofs.Math.ListN.{length}
 use Rattle.std.proofs.Math.IntN.{+ℤ_assoc, +ℤ_comm, +ℤ_idr, +ℤ_invr}
-use borrow.Author.Tests.{eq-eqb, ne_eqb, not-true}
-use Rattle.lists.specs.Bools.{and_both}
+use borrow.Author.Tests.{eq-eqb, ne_eqb}
 use Rattle.lists.specs.Members.{◌∈◌}
-use Rattle.lists.specs.Select.{select, select_in, in_select, split_length}
+use Rattle.lists.specs.Select.{select, in_select, split_length}
 use Rattle.lists.specs.Distinct.{Distinct}
 use Rattle.lists.specs.Numbers.{up_to, up_to_in, in_up_to, distinct-up_to, length-up_to}
 use Rattle.integers.specs.Sums.{sum_z, left_comm, sum_plus, sum_same, Whole, fills, more, same_members, twice}
@@ -23,9 +22,10 @@ use Rattle.spanning.specs.Walks.{Walk, stay, along as forth, back, walk_trans, w
 use Rattle.spanning.specs.Components.{rank-le}
 use Rattle.spanning.specs.Connected.{joined_rank}
 use Rattle.tree_theory.specs.OneTree.{Edges, others, OneTree, at_one, away, charge, bound}
-use Rattle.tree_theory.specs.Valid.{Valid, others_in, in_others, distinct-others, length-others, far_ends}
+use Rattle.tree_theory.specs.Valid.{Valid, others_in, in_others, two_in, distinct-others, length-others}
+use Rattle.tree_theory.specs.Looking.{away_ends}
 use Rattle.tours.specs.Tours.{Ends, Joined, Trip, Tour, Allowed, cost}
-use Rattle.tours.specs.Trips.{ends_turned, distinct_end, along, along-length, along_in, closed_once, at_ends, along_sum}
+use Rattle.tours.specs.Trips.{ends_turned, along, along-length, along_in, trip_once, at_ends, along_sum}
 
 module _ (g : Network) (vg : Valid g) (t : Edges) (tour : Tour g t) where
   at : (v : ℕ) → v ∈ tour.order → (2 ≤ v) × (v ≤ g.n)
@@ -60,12 +60,7 @@ module _ (g : Network) (vg : Valid g) (t : Edges) (tour : Tour g t) where
 
   way_once : Distinct way
   unfolding way
-  way_once = go tour.order tour.trip tour.once not-one (omega (arith, order_length, vg.big))
-    where
-      go : (vs : List ℕ) (j : Trip g t 1 vs 1) → Distinct vs → ¬ (1 ∈ vs) → 2 ≤ length vs → Distinct (along g t 1 vs 1 j)
-      go [] j d new l = absurd (let z : 2 ≤ 0 = l in omega arith)
-      go (v ∷ []) j d new l = absurd (let z : 2 ≤ 1 = l in omega arith)
-      go (v ∷ z ∷ vs) j d new l = closed_once g t 1 v z vs j (distinct_end (v ∷ z ∷ vs) 1 d new)
+  way_once = trip_once g t 1 tour.order tour.trip tour.once not-one (omega (arith, order_length, vg.big))
 
   edges : Whole way (select t (up_to g.m))
   unfolding way
@@ -149,20 +144,11 @@ module _ (g : Network) (vg : Valid g) (t : Edges) (tour : Tour g t) where
   joined : (u v : ℕ) → u ∈ others g → v ∈ others g → Walk g.a g.b (away g t) u v
   joined u v mu mv = walks u v ((tour.calls u).1 mu) ((tour.calls v).1 mv)
 
-  away_ends : (k : ℕ) → k ∈ away g t → (g.a k ∈ others g) × (g.b k ∈ others g)
-  unfolding away
-  away_ends k m =
-      let i = select_in (λ j. t j && not (eqb (g.a j) 1)) (up_to g.m) k m in
-      far_ends g vg k i.0 (not-true (eqb (g.a k) 1) (and_both (t k) (not (eqb (g.a k) 1)) i.1).1)
-
-  two : 2 ∈ others g
-  two = in_others g 2 (omega arith) (omega (arith, vg.big))
-
   many : g.n ≤ 2 + length (away g t)
   many =
       omega (
         arith,
-        joined_rank g.a g.b (others g) (away g t) (distinct-others g) away_ends 2 two joined,
+        joined_rank g.a g.b (others g) (away g t) (distinct-others g) (away_ends g vg t) 2 (two_in g vg) joined,
         rank-le g.a g.b (away g t),
         length-others g (omega (arith, vg.big)),
       )

@@ -5,7 +5,8 @@ use Rattle.std.proofs.Math.Path.{refl, ap}
 use Rattle.std.proofs.Common.{sym, ◌∙◌, subst, inl}
 use Rattle.std.proofs.Math.Logic.{inr}
 use mathlib.Core.List.{List, [], ◌∷◌, ◌++◌}
-use Prim.Native.Nat.{ℕ, suc}
+use Prim.Native.Nat.{ℕ, suc, ◌≤◌}
+use native.Mathlib.Omega.{arith}
 use Rattle.std.proofs.Math.IntN.{+ℤ_assoc, +ℤ_comm, +ℤ_idl, +ℤ_idr}
 use Rattle.lists.specs.Members.{◌∈◌, in_right, in_either}
 use Rattle.lists.specs.Select.{select, in_select}
@@ -106,6 +107,11 @@ module _ (g : Network) (t : Edges) where
           d.1.0 (subst (λ (x : ℕ). x ∈ (vs ++ u ∷ [])) (third_end g j.0.edge u v z apart j.0.ends (rw e j.1.0.ends)) last)
       new (inr m) =
           d.0 (among_ends g j.0.edge u v (z ∷ (vs ++ u ∷ [])) j.0.ends (along_ends z vs u j.1.1 j.0.edge m)).1
+
+  pub trip_once : (u : ℕ) (vs : List ℕ) (j : Trip g t u vs u) → Distinct vs → ¬ (u ∈ vs) → 2 ≤ length vs → Distinct (along u vs u j)
+  trip_once u [] j d new l = absurd (let z : 2 ≤ 0 = l in omega arith)
+  trip_once u (v ∷ []) j d new l = absurd (let z : 2 ≤ 1 = l in omega arith)
+  trip_once u (v ∷ z ∷ vs) j d new l = closed_once u v z vs j (distinct_end (v ∷ z ∷ vs) u d new)
 
   -- the sum over the edges of what stands at their ends: each vertex between counts twice
   module _ (d : ℕ → ℤ) where

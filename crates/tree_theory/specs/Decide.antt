@@ -7,6 +7,7 @@ use Rattle.std.proofs.Math.Bool.{true, false, not}
 use Rattle.std.proofs.Math.ListN.{length}
 use Rattle.std.specs.Int.Signed.{lt_z}
 use borrow.Author.Tests.{eqb-true, eq-eqb, not-true}
+use Rattle.std.proofs.lemmas.Bool.{not-false}
 use Rattle.lists.specs.Bools.{and_both, T_true, true_T}
 use Rattle.lists.specs.Members.{◌∈◌}
 use Rattle.lists.specs.All.{every_of, every_of_in, in_every_of}
@@ -132,10 +133,6 @@ module _ (g : Network) where
       barred_test =
           let a = above (λ t. not (t e)) (λ s t i. ap not (i e me)) in
           ((λ p t o h. a.0 p t o (ap not h)), λ p. a.1 (λ t o h. p t o (not-false (t e) h)))
-        where
-          not-false : (b : Bool) → not b ≡ false → b ≡ true
-          not-false true h = refl
-          not-false false h = absurd (true≢false h)
 
       pub forced_test : forced_b g d ceiling e ≡ true ↔ Forced g d ceiling e
       unfolding forced_b Forced

@@ -1,12 +1,12 @@
 -- At how many edges the loop looks is one number, and counting shows it: edges connect the vertices other than vertex 1 exactly when their rank is two
 -- less than the number of all vertices. Assumes nothing.
-use Rattle.std.specs.Prelude.{◌≡◌, refl, ◌⊎◌, ◌&&◌, List, [], ◌∷◌, ◌++◌, ℕ, zero, suc, ◌+◌, ◌<◌, ◌≤◌, length, take, ℤ, eqb}
+use Rattle.std.specs.Prelude.{◌≡◌, refl, ◌⊎◌, ◌&&◌, List, [], ◌∷◌, ◌++◌, ℕ, suc, ◌+◌, ◌<◌, ◌≤◌, length, take, ℤ, eqb}
 use Rattle.std.proofs.Common.{sym, ap, ◌∙◌, subst, inl, inr, arith}
 use Rattle.std.proofs.Math.Bool.{not}
 use Rattle.std.proofs.Math.Decide.{dec_le}
 use Rattle.std.proofs.lemmas.Bool.{not-true}
 use Rattle.lists.specs.Bools.{and_both}
-use Rattle.lists.specs.Members.{◌∈◌, in_either}
+use Rattle.lists.specs.Members.{◌∈◌, in_either, take_in}
 use Rattle.lists.specs.Select.{select_in}
 use Rattle.lists.specs.Numbers.{up_to}
 use Rattle.integers.specs.Parts.{lt_parts}
@@ -14,7 +14,7 @@ use Rattle.graph.specs.Network.{Network}
 use Rattle.spanning.specs.Components.{rank, Within}
 use Rattle.spanning.specs.Connected.{joined_rank, rank_joined}
 use Rattle.tree_theory.specs.OneTree.{Edges, others, away}
-use Rattle.tree_theory.specs.Valid.{Valid, is_free, is_required, in_others, distinct-others, length-others, far_ends}
+use Rattle.tree_theory.specs.Valid.{Valid, is_free, is_required, two_in, distinct-others, length-others, far_ends}
 use Rattle.tree_theory.specs.Looked.{Connected, required_among, Before, Sorted, InOrder, Looked}
 
 -- ---- one order, one number
@@ -71,17 +71,11 @@ module _ (g : Network) (d : ℕ → ℤ) where
 
 -- ---- by counting
 
-take_in : (q : ℕ) (es : List ℕ) (k : ℕ) → k ∈ take q es → k ∈ es
-take_in zero es k m = absurd m
-take_in (suc q) [] k m = absurd m
-take_in (suc q) (e ∷ es) k (inl h) = inl h
-take_in (suc q) (e ∷ es) k (inr m) = inr (take_in q es k m)
-
 module _ (g : Network) (vg : Valid g) where
   -- the edges of a set among the other vertices
-  among : (t : Edges) (k : ℕ) → k ∈ away g t → (g.a k ∈ others g) × (g.b k ∈ others g)
+  pub away_ends : (t : Edges) (k : ℕ) → k ∈ away g t → (g.a k ∈ others g) × (g.b k ∈ others g)
   unfolding away
-  among t k m =
+  away_ends t k m =
       let i = select_in (λ j. t j && not (eqb (g.a j) 1)) (up_to g.m) k m in
       far_ends g vg k i.0 (not-true _ (and_both (t k) (not (eqb (g.a k) 1)) i.1).1)
 
@@ -89,14 +83,11 @@ module _ (g : Network) (vg : Valid g) where
     size : length (others g) + 1 ≡ g.n
     size = length-others g (omega (arith, vg.big))
 
-    two : 2 ∈ others g
-    two = in_others g 2 (omega arith) (omega (arith, vg.big))
-
     rank_connected : rank g.a g.b es + 2 ≡ g.n → Connected g es
-    rank_connected h = rank_joined g.a g.b (others g) es (distinct-others g) inside 2 two (omega (arith, size))
+    rank_connected h = rank_joined g.a g.b (others g) es (distinct-others g) inside 2 (two_in g vg) (omega (arith, size))
 
     connected_rank : Connected g es → rank g.a g.b es + 2 ≡ g.n
-    connected_rank h = omega (arith, joined_rank g.a g.b (others g) es (distinct-others g) inside 2 two h, size)
+    connected_rank h = omega (arith, joined_rank g.a g.b (others g) es (distinct-others g) inside 2 (two_in g vg) h, size)
 
   -- the rank of the first q of an order and the required edges
   abbrev pub rank_at : List ℕ → ℕ → ℕ
@@ -116,5 +107,5 @@ module _ (g : Network) (vg : Valid g) where
       inside q k m = at (in_either k (take q es) (required_among g) m)
         where
           at : (k ∈ take q es) ⊎ (k ∈ required_among g) → (g.a k ∈ others g) × (g.b k ∈ others g)
-          at (inl i) = among (λ j. is_free (g.mark j)) k (o.only k (take_in q es k i))
-          at (inr i) = among (λ j. is_required (g.mark j)) k i
+          at (inl i) = away_ends (λ j. is_free (g.mark j)) k (o.only k (take_in q es k i))
+          at (inr i) = away_ends (λ j. is_required (g.mark j)) k i

@@ -1,5 +1,5 @@
 -- Document 02's C-17, "dues and step count in q-ths": the network that every definition is taken at, with q times the ceiling. Definitions only.
-use Rattle.std.specs.Prelude.{ℕ, ℤ}
+use Rattle.std.specs.Prelude.{ℕ}
 use Rattle.integers.specs.Multiples.{◌times◌}
 use Rattle.graph.specs.Network.{Network}
 

@@ -1,5 +1,5 @@
 -- What the laws of 1-trees ask of a network, and what they make of its vertices and edges. The check of a graph value gives it.
-use Rattle.std.specs.Prelude.{◌≡◌, refl, ◌≢◌, Bool, true, false, ◌&&◌, List, ℕ, zero, suc, ◌+◌, ◌≤◌, ◌<◌, eqb, length}
+use Rattle.std.specs.Prelude.{◌≡◌, refl, Bool, true, false, ◌&&◌, List, ℕ, zero, suc, ◌+◌, ◌≤◌, ◌<◌, eqb, length}
 use Rattle.std.proofs.Common.{sym, ap, ◌∙◌, true≢false, arith}
 use Rattle.std.proofs.Math.Bool.{not}
 use borrow.Author.Tests.{eqb-false, ne_eqb, not-true}
@@ -37,6 +37,9 @@ module _ (g : Network) where
   pub distinct-others : Distinct (others g)
   unfolding others
   distinct-others = distinct-select (λ u. not (eqb u 1)) (up_to g.n) (distinct-up_to g.n)
+
+pub two_in : (g : Network) → Valid g → 2 ∈ others g
+two_in g vg = in_others g 2 (omega arith) (omega (arith, vg.big))
 
 -- all but one of the numbers up to n
 but_one : (n : ℕ) → 1 ≤ n → length (select (λ v. not (eqb v 1)) (up_to n)) + 1 ≡ n

@@ -1,7 +1,6 @@
 -- What the passes come to on the edges that are left is spread out by their ending.
 use Rattle.std.proofs.Common.{◌≡◌, ℕ, ◌≤◌, List, ℤ, ap, ◌∙◌, subst, arith, Result, Ok, Err}
 use Rattle.std.proofs.lemmas.Result.{err_from_is_err_and}
-use Rattle.lists.specs.Filling.{Filling}
 use Rattle.graph.specs.declared.Graph.{Graph}
 use Rattle.graph.specs.declared.refusals.Refusal.{Refusal}
 use Rattle.graph.specs.Refusals.{not-zero}
@@ -16,8 +15,8 @@ use Rattle.node.specs.declared.passes.Ending.TheVariants as ending
 use Rattle.node.specs.Marks.{bytes_of}
 use Rattle.node.specs.Opened.{opened, marked, taken}
 use Rattle.node.specs.Refusing.{EndsAs}
-use Rattle.node.specs.Expanding.{expanded_at, expanded_mark, expanded_tour}
-use Rattle.node.specs.CompactGraph.{left-padded, left-places, left_expanded}
+use Rattle.node.specs.Expanding.{ExpandedTo, expanded_at, expanded_mark, expanded_tour}
+use Rattle.node.specs.CompactGraph.{left-padded}
 use Rattle.node.specs.Words.{kept_in, new_byte, Packed, packed_rows}
 use Rattle.node.specs.Opens.{opens_15, left-refused, left_shut, left_found, left_unclosed, canonical}
 use Rattle.node.proofs.open.Goals as goal
@@ -42,14 +41,14 @@ returns-then-m-gt-MAX_EDGES c = let a = c.args in
 
 pub open_left-requires : goal.open_left-requires
 open_left-requires c =
-    rw c.without_excluded.ensures.graph (left-padded (marked c.args.g.now c.args.node.now.rows))
+    rw c.without_excluded.ensures (left-padded (marked c.args.g.now c.args.node.now.rows))
 
 pub returns-in_err-open_left : goal.returns-in_err-open_left
 returns-in_err-open_left c = let a = c.args in
     let few : a.g.now.m ≤ 190 = omega (arith, c.from-m.ensures) in
     let r = c.in_err-open_left.field-0.0 in
     let v =
-    ended _ _ a.multipliers.now a.settings (Err r) c.open_left.new.g.mark _ _ c.without_excluded.ensures.graph
+    ended _ _ a.multipliers.now a.settings (Err r) c.open_left.new.g.mark _ _ c.without_excluded.ensures
     c.in_err-open_left.ensures.ending
     in
     let p = err_from_is_err_and c.from_residual.result c.from_residual.ensures.1 in
@@ -63,32 +62,23 @@ returns-in-Shut c = let a = c.args in
     let few : a.g.now.m ≤ 190 = omega (arith, c.from-m.ensures) in
     let v =
     ended _ _ a.multipliers.now a.settings (Ok ending.Shut) c.open_left.new.g.mark a.node.now.last c.open_left.new.last
-    c.without_excluded.ensures.graph (rw c.in-Shut.is at c.in_ok-open_left.ensures.ending)
+    c.without_excluded.ensures (rw c.in-Shut.is at c.in_ok-open_left.ensures.ending)
     in
     c.close.ensures ∙ left_shut (taken (marked a.g.now a.node.now.rows) a.multipliers.now a.settings) _ few v.0 v.1
-
-pub expand-requires : goal.expand-requires
-expand-requires c = let a = c.args in
-    let few : a.g.now.m ≤ 190 = omega (arith, c.from-m.ensures) in
-    rw (c.open_left.ensures.marks_alone, c.without_excluded.ensures.graph)
-    (left-places (bytes_of (marks_in_rows a.g.now.m a.node.now.rows)) _ few _ c.without_excluded.ensures.listed)
 
 pub returns-in-Found : goal.returns-in-Found
 returns-in-Found c = let a = c.args in
     let few : a.g.now.m ≤ 190 = omega (arith, c.from-m.ensures) in
     let bytes : List ℕ = bytes_of (marks_in_rows a.g.now.m a.node.now.rows) in
-    let Tells : List ℕ → List ℕ → Type 0 = λ w r. Filling 0 190 a.g.now.m (expanded_at bytes w 0) r in
     let v =
     ended _ _ a.multipliers.now a.settings (Ok ending.Found) c.open_left.new.g.mark a.node.now.last c.open_left.new.last
-    c.without_excluded.ensures.graph (rw c.in-Found.is at c.in_ok-open_left.ensures.ending)
+    c.without_excluded.ensures (rw c.in-Found.is at c.in_ok-open_left.ensures.ending)
     in
-    let placed = rw (c.open_left.ensures.marks_alone, c.without_excluded.ensures.graph) at c.expand.ensures in
     let tour =
-    expanded_tour bytes a.g.now.m few v.1.tour _ (subst (λ (w : List ℕ). Tells w c.expand.new.tour) v.1.bytes
-    (left_expanded bytes a.g.now.m few _ c.without_excluded.ensures.listed _ _ placed))
-    in
+    expanded_tour bytes a.g.now.m few v.1.tour _
+    (subst (λ (w : List ℕ). ExpandedTo bytes w a.g.now.m c.expand-tour.result) v.1.bytes (rw c.from-m.ensures at c.expand-tour.ensures)) in
     (λ i. let blank = c.blank.ensures i in
-    opened (Ok fate.Finds) (record { rows = blank.rows; top = blank.top; tour = c.expand.new.tour; last = blank.last }))
+    opened (Ok fate.Finds) (record { rows = blank.rows; top = blank.top; tour = c.expand-tour.result; last = blank.last }))
     ∙ left_found (taken (marked a.g.now a.node.now.rows) a.multipliers.now a.settings) _ few v.0 _ _ v.1 tour
 
 pub split-requires-clause-of_marks : goal.split-requires-clause-of_marks
@@ -96,7 +86,7 @@ split-requires-clause-of_marks c = let a = c.args in
     let few : a.g.now.m ≤ 190 = omega (arith, c.from-m.ensures) in
     let v =
     ended _ _ a.multipliers.now a.settings (Ok ending.Unclosed) c.open_left.new.g.mark a.node.now.last c.open_left.new.last
-    c.without_excluded.ensures.graph (rw c.in-Unclosed.is at c.in_ok-open_left.ensures.ending)
+    c.without_excluded.ensures (rw c.in-Unclosed.is at c.in_ok-open_left.ensures.ending)
     in
     let packed = packed_is a.g.now.m a.node.now.rows few v.1.marks _ _ v.1.bytes (rw c.from-m.ensures at c.pack-node.ensures) in
     rw c.from-m.ensures
@@ -107,7 +97,7 @@ returns-in-Unclosed c = let a = c.args in
     let few : a.g.now.m ≤ 190 = omega (arith, c.from-m.ensures) in
     let v =
     ended _ _ a.multipliers.now a.settings (Ok ending.Unclosed) c.open_left.new.g.mark a.node.now.last c.open_left.new.last
-    c.without_excluded.ensures.graph (rw c.in-Unclosed.is at c.in_ok-open_left.ensures.ending)
+    c.without_excluded.ensures (rw c.in-Unclosed.is at c.in_ok-open_left.ensures.ending)
     in
     let packed = packed_is a.g.now.m a.node.now.rows few v.1.marks _ _ v.1.bytes (rw c.from-m.ensures at c.pack-node.ensures) in
     (rw c.from-m.ensures at c.split.ensures) v.1.multipliers v.1.told

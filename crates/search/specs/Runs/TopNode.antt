@@ -81,11 +81,11 @@ module _ (r : Search) (s : Progress) (h : Holds r s) where
   unfolding record_of
   holds_count = ap (λ (x : Search). x.count) h.is
 
-  holds_graph : r.graph ≡ s.opening.graph
+  pub holds_graph : r.graph ≡ s.opening.graph
   unfolding record_of
   holds_graph = ap (λ (x : Search). x.graph) h.is
 
-  holds_settings : r.settings ≡ s.opening.settings
+  pub holds_settings : r.settings ≡ s.opening.settings
   unfolding record_of
   holds_settings = ap (λ (x : Search). x.settings) h.is
 
@@ -209,15 +209,15 @@ module _ (r : Search) (s : Progress) (h : Holds r s) (t : Top s) where
   out : M.Opened
   out = open_node s.opening s.upper t.node
 
-  waits : Waits r.graph.n r.graph.m (length t.rest) t.node
+  pub waits : Waits r.graph.n r.graph.m (length t.rest) t.node
   waits =
       subst (λ (x : Graph). Waits x.n x.m (length t.rest) t.node) (sym (holds_graph r s h))
       (subst (Nodes s.opening.graph.n s.opening.graph.m) t.stack h.kept.nodes).0
 
-  old-words : r.stack ≡ stack_words (t.node ∷ t.rest)
+  pub old-words : r.stack ≡ stack_words (t.node ∷ t.rest)
   old-words = holds_words r s h ∙ ap (λ (st : List Node). stack_words st) t.stack
 
-  old-carried : r.carried ≡ carried_of (t.node ∷ t.rest)
+  pub old-carried : r.carried ≡ carried_of (t.node ∷ t.rest)
   old-carried = holds_carried r s h ∙ ap (λ (st : List Node). carried_of st) t.stack
 
   row-marks : marks_in_rows r.graph.m (rows_at r.stack (r.depth - 1)) ≡ t.node.marks

@@ -6,4 +6,4 @@ use Rattle.simulation.specs.Steps.{WalkedTo}
 use Rattle.simulation.proofs.in_order.Given as goal
 
 abbrev pub invariant-loop-k : goal.invariant-loop-k
-invariant-loop-k l = (length l.met ≡ max_vertices + 1) × WalkedTo (network l.g) l.edges l.met l.at l.k-index
+invariant-loop-k l = (length l.met ≡ max_vertices + 1) × WalkedTo (network l.g.graph.now) l.edges l.met l.at l.k-index

@@ -111,6 +111,14 @@ module _ (g : Network) (d : ℕ → ℤ) (K : ℕ) (c : ℕ → ℕ) (off : Shif
       let w = swapped_weight (up_to g.m) (distinct-up_to g.m) s a b ma mb sa sb c in
       ((λ l. omega (arith, w, i.0 l)), λ l. i.1 (omega (arith, w)))
 
+-- of a 1-tree: two edges may change places exactly where that makes a 1-tree
+pub tree_swap : (g : Network) → Valid g → (t : Edges) → OneTree g t → (f h : ℕ) → f ∈ up_to g.m → h ∈ up_to g.m → t f ≡ true → t h ≡ false
+    → MaySwap g t f h ↔ OneTree g (t ⊖ f ⊕ h)
+tree_swap g vg t o f h mf mh tf th = (
+  (λ m. of_parts g vg (t ⊖ f ⊕ h) (may_swap g t (to_parts g vg t o) f h mf mh tf th m)),
+  λ x. swap_may g t (to_parts g vg t o) f h mf mh tf th (to_parts g vg (t ⊖ f ⊕ h) x),
+)
+
 -- s is a minimal 1-tree
 module _ (g : Network) (vg : Valid g) (d : ℕ → ℤ) (K : ℕ) (c : ℕ → ℕ) (off : Shifted g d K c) (s : Edges) (least : Minimal g d s)
     (z : ℤ) (u v : ℕ) (ceiling : IsDiff z u v) where
@@ -118,13 +126,10 @@ module _ (g : Network) (vg : Valid g) (d : ℕ → ℤ) (K : ℕ) (c : ℕ → �
   one-swap : (a b : ℕ) → a ∈ up_to g.m → b ∈ up_to g.m → s a ≡ true → s b ≡ false
       → (OneTree g (s ⊖ a ⊕ b) → z <ℤ bound g d (s ⊖ a ⊕ b)) ↔ (MaySwap g s a b → SwapAbove g d K c s u v a b)
   one-swap a b ma mb sa sb = (
-    (λ h w. let x : Parts g (s ⊖ a ⊕ b) = may_swap g s os a b ma mb sa sb w in (above x).0 (h (of_parts g vg (s ⊖ a ⊕ b) x))),
-    λ h o. let x : Parts g (s ⊖ a ⊕ b) = to_parts g vg (s ⊖ a ⊕ b) o in (above x).1 (h (swap_may g s os a b ma mb sa sb x)),
+    (λ h w. let o = (tree_swap g vg s least.tree a b ma mb sa sb).0 w in (above (to_parts g vg (s ⊖ a ⊕ b) o)).0 (h o)),
+    λ h o. (above (to_parts g vg (s ⊖ a ⊕ b) o)).1 (h ((tree_swap g vg s least.tree a b ma mb sa sb).1 o)),
   )
     where
-      os : Parts g s
-      os = to_parts g vg s least.tree
-
       above : Parts g (s ⊖ a ⊕ b) → (z <ℤ bound g d (s ⊖ a ⊕ b)) ↔ SwapAbove g d K c s u v a b
       above x = swap-above g d K c off s a b ma mb sa sb x z u v ceiling
 

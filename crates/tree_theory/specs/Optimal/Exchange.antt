@@ -129,9 +129,6 @@ abbrev NoWorse : Network → (ℕ → ℤ) → Edges → Edges → Type 0
 NoWorse g d r t = OneTree g r × (bound g d r ≤ℤ bound g d t)
 
 module _ (g : Network) (vg : Valid g) (d : ℕ → ℤ) (K : ℕ) (c : ℕ → ℕ) (off : Shifted g d K c) (s : Edges) (least : Minimal g d s) where
-  os : Parts g s
-  os = to_parts g vg s least.tree
-
   -- b for a in s, where a for b in t makes a 1-tree too
   no_worse : (t : Edges) → Parts g t → (a b : ℕ) → a ∈ up_to g.m → b ∈ up_to g.m → s a ≡ true → s b ≡ false → t b ≡ true → t a ≡ false
       → Parts g (s ⊖ a ⊕ b) → Parts g (t ⊖ b ⊕ a) → NoWorse g d (s ⊖ a ⊕ b) t
@@ -141,7 +138,7 @@ module _ (g : Network) (vg : Valid g) (d : ℕ → ℤ) (K : ℕ) (c : ℕ → �
       lighter =
           omega (
             arith,
-            le-bound g d K c off s (t ⊖ b ⊕ a) os one' (least.least (t ⊖ b ⊕ a) (of_parts g vg (t ⊖ b ⊕ a) one')),
+            le-bound g d K c off s (t ⊖ b ⊕ a) (to_parts g vg s least.tree) one' (least.least (t ⊖ b ⊕ a) (of_parts g vg (t ⊖ b ⊕ a) one')),
             swapped_weight (up_to g.m) (distinct-up_to g.m) s a b ma mb sa sb c,
             swapped_weight (up_to g.m) (distinct-up_to g.m) t b a mb ma tb ta c,
           )
@@ -151,7 +148,7 @@ module _ (g : Network) (vg : Valid g) (d : ℕ → ℤ) (K : ℕ) (c : ℕ → �
       → (f : ℕ) × (f ∈ up_to g.m) × (s f ≡ true) × NoWorse g d (s ⊖ f ⊕ e) t
   with_edge_lem e me se t o te =
       let ot : Parts g t = to_parts g vg t o in
-      let x : Exchanged g s t e = exchanged g s t os ot e me se te in
+      let x : Exchanged g s t e = exchanged g s t (to_parts g vg s least.tree) ot e me se te in
       (x.f, x.listed, x.mine, no_worse t ot x.f e x.listed me x.mine se te x.other x.one x.one')
 
   -- any 1-tree t without e is no better than s with some f put in for e
@@ -159,7 +156,7 @@ module _ (g : Network) (vg : Valid g) (d : ℕ → ℤ) (K : ℕ) (c : ℕ → �
       → (f : ℕ) × (f ∈ up_to g.m) × (s f ≡ false) × NoWorse g d (s ⊖ e ⊕ f) t
   without_edge e me se t o te =
       let ot : Parts g t = to_parts g vg t o in
-      let x : Exchanged g t s e = exchanged g t s ot os e me te se in
+      let x : Exchanged g t s e = exchanged g t s ot (to_parts g vg s least.tree) e me te se in
       (x.f, x.listed, x.other, no_worse t ot e x.f me x.listed se x.other x.mine te x.one' x.one)
 
   -- BARRED, outside the minimal 1-tree: no swap that brings the edge in stays within the ceiling

@@ -18,7 +18,7 @@ use Rattle.spanning.specs.Connected.{rank_most, joined_rank, rank_joined}
 use Rattle.spanning.specs.Forests.{Forest}
 use Rattle.spanning.specs.Trees.{Tree}
 use Rattle.tree_theory.specs.OneTree.{Edges, OneTree, others, away, at_one}
-use Rattle.tree_theory.specs.Valid.{Valid, in_others, distinct-others, length-others, required_is, excluded_is, is_excluded}
+use Rattle.tree_theory.specs.Valid.{Valid, two_in, distinct-others, length-others, required_is, excluded_is, is_excluded}
 use Rattle.tree_theory.specs.Valid.{needed, is_near, near, far, far_within}
 
 pub record Parts (g : Network) (t : Edges) : Type 0 where
@@ -73,14 +73,11 @@ module _ (g : Network) (vg : Valid g) (t : Edges) where
   inner : Within g.a g.b (others g) (select t (far g))
   inner k m = far_within g vg k (sub k m)
 
-  two_is : 2 ∈ others g
-  two_is = in_others g 2 (omega arith) (omega (arith, vg.big))
-
   size : length (others g) + 1 ≡ g.n
   size = length-others g (omega (arith, vg.big))
 
   most : rank g.a g.b (far g) + 1 ≤ length (others g)
-  most = rank_most g.a g.b (others g) (far g) (distinct-others g) (far_within g vg) 2 two_is
+  most = rank_most g.a g.b (others g) (far g) (distinct-others g) (far_within g vg) 2 (two_in g vg)
 
   mono : rank g.a g.b (select t (far g)) ≤ rank g.a g.b (far g)
   mono = inside-rank g.a g.b (select t (far g)) (far g) (sub-inside g.a g.b (select t (far g)) (far g) sub)
@@ -103,7 +100,7 @@ module _ (g : Network) (vg : Valid g) (t : Edges) where
 
       whole : rank g.a g.b (select t (far g)) + 1 ≡ length (others g)
       whole =
-          joined_rank g.a g.b (others g) (select t (far g)) (distinct-others g) inner 2 two_is
+          joined_rank g.a g.b (others g) (select t (far g)) (distinct-others g) inner 2 (two_in g vg)
           (λ u v i j. rw (away_is g t av) (o.joined u v i j))
 
   pub of_parts : Parts g t → OneTree g t
@@ -118,5 +115,5 @@ module _ (g : Network) (vg : Valid g) (t : Edges) where
     where
       walks : (u v : ℕ) → u ∈ others g → v ∈ others g → Walk g.a g.b (select t (far g)) u v
       walks =
-          rank_joined g.a g.b (others g) (select t (far g)) (distinct-others g) inner 2 two_is
+          rank_joined g.a g.b (others g) (select t (far g)) (distinct-others g) inner 2 (two_in g vg)
           (omega (arith, o.tree.forest, o.tree.size, o.span, size))

@@ -128,23 +128,20 @@ module _ (g : Network) (w : ℕ → ℕ) (f₁ r₁ f₂ r₂ : List ℕ) (o₁ 
       omega (
         arith,
         shuffle_length (select_listing (near g) (f₁ ++ r₁) o₁.listing t),
-        parts.two,
+        (to_parts g vg t o).two,
         simp length-append at (ap length (select-append t f₁ r₁)),
         ap length all₁,
       ),
       rw all₂ at (forest_base g.a g.b t f₂ r₂ forest),
     )
       where
-        parts : Parts g t
-        parts = to_parts g vg t o
-
         all₁ : select t r₁ ≡ r₁
         all₁ = select_full t r₁
-            (λ k m. parts.keeps k (near_in g k (o₁.listing.back k (in_right k f₁ r₁ m))).0 (o₁.must k m))
+            (λ k m. (to_parts g vg t o).keeps k (near_in g k (o₁.listing.back k (in_right k f₁ r₁ m))).0 (o₁.must k m))
 
         all₂ : select t r₂ ≡ r₂
         all₂ = select_full t r₂
-            (λ k m. parts.keeps k (far_in g k (o₂.listing.back k (in_right k f₂ r₂ m))).0 (o₂.must k m))
+            (λ k m. (to_parts g vg t o).keeps k (far_in g k (o₂.listing.back k (in_right k f₂ r₂ m))).0 (o₂.must k m))
 
         same : Shuffle (select t (f₂ ++ r₂)) (select t (far g))
         same = select_listing (far g) (f₂ ++ r₂) o₂.listing t

@@ -1,26 +1,12 @@
--- The cases of `reply` at close, one for each return (specs/Cases).
-use Rattle.std.proofs.Common.{◌≡◌, Err, set, ap, ◌∙◌, rules}
+-- The search's own answer (specs/Cases): the check finds the rest.
+use Rattle.std.proofs.Common.{ap, ◌∙◌}
 use Rattle.machine.specs.Calls.{Answer}
-use Rattle.search.specs.declared.Search.{Search}
 use Rattle.dispatch_theory.specs.Dispatcher.{said}
-use Rattle.dispatcher.specs.Replies.{means, Outcome}
-use Rattle.dispatcher.specs.Cases.{close_refused, close_done}
+use Rattle.dispatcher.specs.Replies.{Outcome}
+use Rattle.dispatcher.specs.Cases.{close_done}
 use Rattle.dispatcher.proofs.Dispatcher.close.Goals as goal
 
-pub returns-in_err-at : goal.returns-in_err-at
-returns-in_err-at c =
-    let refusal = c.in_err-at.field-0.0 in
-    let is : c.from_residual.result ≡ Err refusal = search rules in
-    let e = c.in_err-at.ensures in
-    let reply = close_refused c.args.self.now e.laid c.args.place refusal e.held in
-    record { answer = ap means is ∙ ap (λ (o : Outcome). o.answer) reply; left = ap (λ (o : Outcome). o.dispatcher) reply }
-
-pub returns : goal.returns
-returns c =
+pub returns-clause-answer : goal.returns-clause-answer
+returns-clause-answer c =
     let e = c.in_ok-at.ensures in
-    let d = c.args.self.now in
-    record {
-      answer = ap (λ (a : Answer). said a) c.close.ensures.answer ∙ ap (λ (o : Outcome). o.answer) (close_done d e.laid c.args.place c.in_ok-at.at e.held _);
-      left = ap (λ (s : Search). record { last = d.last; places = set d.places c.in_ok-at.at s }) c.close.ensures.left
-          ∙ ap (λ (o : Outcome). o.dispatcher) (close_done d e.laid c.args.place c.in_ok-at.at e.held _);
-    }
+    ap (λ (a : Answer). said a) c.close.ensures.answer ∙ ap (λ (o : Outcome). o.answer) (close_done c.args.self.now e.laid c.args.place c.in_ok-at.at e.held _)

@@ -1,10 +1,12 @@
 -- Edge by edge: one that is in counts at both its ends. What the loop meets are the three arrays' first m places, zipped.
-use Rattle.std.proofs.Common.{◌≡◌, ℕ, List, Option, Some, None, Iter, Bor, length, take, get_or, ◌+◌, ◌<◌, ◌≤◌, sym, ap, ◌∙◌, arith, get_or-set_other}
+use Rattle.std.proofs.Common.{◌≡◌, ℕ, List, Option, Some, None, Iter, Bor, length, take, get_or, ◌<◌, ◌≤◌, sym, ap, ◌∙◌, arith}
 use Rattle.std.specs.List.{zip}
 use Rattle.std.specs.Iterator.{Yields}
 use Rattle.std.specs.Iterator.Adapters.{zip_first, zip_second}
 use Rattle.std.specs.Slice.Iter.{iter_rest}
 use Rattle.std.specs.declared.iter.Zip.{Zip}
+use Rattle.std.proofs.Math.Decide.{dec_le}
+use Rattle.std.proofs.Math.ListN.{get_or-eq_default}
 use Rattle.std.proofs.iter.Yields.{fronts}
 use Rattle.std.proofs.lemmas.List.{get_or_default, get_or-take, length-take, length_push}
 use Rattle.std.proofs.lemmas.Slice.Zip.{length-zip, get_or-zip}
@@ -12,8 +14,9 @@ use Rattle.std.proofs.lemmas.Iterator.{YieldsList, YieldsList-from_slice, Yields
 use Rattle.std.proofs.lemmas.Iterator.Consumers.{YieldsList-turn, YieldsList-end}
 use Rattle.graph.specs.declared.Graph.{Graph}
 use Rattle.graph.specs.Valid.{Valid}
-use Rattle.tours.specs.Counted.{Ends, degrees_none, degrees_skip, degrees_more, degrees_to, ends_of}
+use Rattle.tours.specs.Counted.{Ends, degrees_none, degrees_skip, degrees_more, ends_of}
 use Rattle.node.proofs.passes.count_degrees.Goals as goal
+use Rattle.node.proofs.passes.count_degrees.Goals.{In-Some}
 
 abbrev Triples : Type 0
 Triples = Zip (Zip (Iter ℕ) (Iter ℕ)) (Iter ℕ)
@@ -29,128 +32,112 @@ record Met (g : Graph) (w : List ℕ) (n : ℕ) (p : (Bor ℕ × Bor ℕ) × Bor
   pub b : get_or g.b n 0 ≡ p.0.1.now
   pub byte : get_or w n 0 ≡ p.1.now
 
-module _ (g : Graph) (valid : Valid g) (w : List ℕ) (m : ℕ) (is : m ≡ g.m) (la : g.m ≤ length g.a) (lb : g.m ≤ length g.b)
-    (lw : g.m ≤ length w) where
-  abbrev edges : List ((ℕ × ℕ) × ℕ)
-  edges = zip (zip (take m g.a) (take m g.b)) (take m w)
+abbrev edges : Graph → ℕ → List ℕ → List ((ℕ × ℕ) × ℕ)
+edges g m w = zip (zip (take m g.a) (take m g.b)) (take m w)
 
-  pairs : length (zip (take m g.a) (take m g.b)) ≡ g.m
-  pairs = omega (arith, is, la, lb, length-zip (take m g.a) (take m g.b), length-take m g.a, length-take m g.b)
+abbrev Over : Graph → ℕ → List ℕ → Triples → Type 0
+Over g m w s =
+    (iter_rest (zip_first (zip_first s)) ≡ take m g.a)
+    × (iter_rest (zip_second (zip_first s)) ≡ take m g.b)
+    × (iter_rest (zip_second s) ≡ take m w)
 
-  size : length edges ≡ g.m
-  size = omega (arith, is, lw, pairs, length-zip (zip (take m g.a) (take m g.b)) (take m w), length-take m w)
+listed : (g : Graph) (m : ℕ) (w : List ℕ) (s : Triples) → Over g m w s → YieldsList steps (λ p. ((p.0.0.now, p.0.1.now), p.1.now)) s (edges g m w)
+listed g m w s o =
+    YieldsList-from_zip (YieldsList-from_zip (YieldsList-from_slice (take m g.a) o.0) (YieldsList-from_slice (take m g.b) o.1))
+    (YieldsList-from_slice (take m w) o.2)
 
-  module _ (s : Triples) (first : iter_rest (zip_first (zip_first s)) ≡ take m g.a) (second : iter_rest (zip_second (zip_first s)) ≡ take m g.b)
-      (third : iter_rest (zip_second s) ≡ take m w) (xs : List ((Bor ℕ × Bor ℕ) × Bor ℕ)) (t u : Triples) (y : Yields steps s xs t) where
-    listed : YieldsList steps (λ p. ((p.0.0.now, p.0.1.now), p.1.now)) s edges
-    listed = YieldsList-from_zip (YieldsList-from_zip (YieldsList-from_slice (take m g.a) first) (YieldsList-from_slice (take m g.b) second))
-        (YieldsList-from_slice (take m w) third)
+met : {g : Graph} {m : ℕ} {r : Option ((Bor ℕ × Bor ℕ) × Bor ℕ)} {p : (Bor ℕ × Bor ℕ) × Bor ℕ} (s t u : Triples) (xs : List ((Bor ℕ × Bor ℕ) × Bor ℕ))
+    → Valid g → (w : List ℕ) → m ≡ g.m → Yields steps s xs t → r ≡ Some p → steps t r u → Over g m w s → Met g w (length xs) p
+met {g} {m} {r} {p} s t u xs valid w is y q z o =
+    let n : ℕ = length xs in
+    let pairs : List (ℕ × ℕ) = zip (take m g.a) (take m g.b) in
+    let h = YieldsList-turn (listed g m w s o) xs t y r u p q z in
+    let size = length-zip pairs (take m w) in
+    let both = length-zip (take m g.a) (take m g.b) in
+    let a = length-take m g.a in
+    let b = length-take m g.b in
+    let bytes = length-take m w in
+    let item =
+    h.1 ∙ get_or-zip pairs (take m w) n ((p.0.0.now, p.0.1.now), p.1.now) (omega (arith, h.0, size)) (omega (arith, h.0, size))
+    ∙ ap (λ (i : ℕ × ℕ). (i, get_or (take m w) n p.1.now))
+    (get_or-zip (take m g.a) (take m g.b) n (p.0.0.now, p.0.1.now) (omega (arith, h.0, size, both)) (omega (arith, h.0, size, both))) in
+    record {
+      inside = omega (arith, is, h.0, size, bytes);
+      ends = ends_of g valid n (omega (arith, is, h.0, size, bytes));
+      a =
+          sym (ap (λ (i : (ℕ × ℕ) × ℕ). i.0.0) item
+          ∙ get_or-take m g.a n _ (omega (arith, h.0, size, bytes)) ∙ get_or_default g.a n _ 0 (omega (arith, h.0, size, both, a)));
+      b =
+          sym (ap (λ (i : (ℕ × ℕ) × ℕ). i.0.1) item
+          ∙ get_or-take m g.b n _ (omega (arith, h.0, size, bytes)) ∙ get_or_default g.b n _ 0 (omega (arith, h.0, size, both, b)));
+      byte =
+          sym (ap (λ (i : (ℕ × ℕ) × ℕ). i.1) item
+          ∙ get_or-take m w n _ (omega (arith, h.0, size, bytes)) ∙ get_or_default w n _ 0 (omega (arith, h.0, size, bytes)));
+    }
 
-    met : (r : Option ((Bor ℕ × Bor ℕ) × Bor ℕ)) (p : (Bor ℕ × Bor ℕ) × Bor ℕ) → r ≡ Some p → steps t r u → Met g w (length xs) p
-    met r p q z =
-        let n : ℕ = length xs in
-        let h = YieldsList-turn listed xs t y r u p q z in
-        let k : n < g.m = omega (arith, h.0, size) in
-        let item =
-        h.1 ∙ get_or-zip (zip (take m g.a) (take m g.b)) (take m w) n ((p.0.0.now, p.0.1.now), p.1.now)
-        (omega (arith, k, pairs)) (omega (arith, k, is, lw, length-take m w))
-        ∙ ap (λ (i : ℕ × ℕ). (i, get_or (take m w) n p.1.now))
-        (get_or-zip (take m g.a) (take m g.b) n (p.0.0.now, p.0.1.now) (omega (arith, k, is, la, length-take m g.a))
-        (omega (arith, k, is, lb, length-take m g.b))) in
-        record {
-          inside = k;
-          ends = ends_of g valid n k;
-          a = sym (ap (λ (i : (ℕ × ℕ) × ℕ). i.0.0) item ∙ get_or-take m g.a n _ (omega (arith, k, is)) ∙ get_or_default g.a n _ 0 (omega (arith, k, la)));
-          b = sym (ap (λ (i : (ℕ × ℕ) × ℕ). i.0.1) item ∙ get_or-take m g.b n _ (omega (arith, k, is)) ∙ get_or_default g.b n _ 0 (omega (arith, k, lb)));
-          byte = sym (ap (λ (i : (ℕ × ℕ) × ℕ). i.1) item ∙ get_or-take m w n _ (omega (arith, k, is)) ∙ get_or_default w n _ 0 (omega (arith, k, lw)));
-        }
+-- no place past a list's end has an end of an edge
+room : (m : ℕ) (l : List ℕ) → ((k : ℕ) → k < m → 1 ≤ get_or l k 0) → m ≤ length l
+room m l some = go (dec_le m (length l))
+  where
+    go : Dec (m ≤ length l) → m ≤ length l
+    go (yes h) = h
+    go (no h) = let e : get_or l (length l) 0 ≡ 0 = get_or-eq_default l 0 (omega arith) in absurd (omega (arith, e, some (length l) (omega arith)))
 
-    all_met : (r : Option ((Bor ℕ × Bor ℕ) × Bor ℕ)) → r ≡ None → steps t r u → length xs ≡ g.m
-    all_met r q z = (YieldsList-end listed xs t y r u q z).1 ∙ size
+all_met : {m : ℕ} {r : Option ((Bor ℕ × Bor ℕ) × Bor ℕ)} (g : Graph) (s t u : Triples) (xs : List ((Bor ℕ × Bor ℕ) × Bor ℕ)) (w : List ℕ)
+    → m ≡ g.m → Valid g → g.m ≤ length w → Yields steps s xs t → r ≡ None → steps t r u → Over g m w s
+    → length xs ≡ g.m
+all_met {m} {r} g s t u xs w is valid long y q z o =
+    let e = (YieldsList-end (listed g m w s o) xs t y r u q z).1 in
+    omega (
+      arith,
+      e,
+      is,
+      long,
+      room g.m g.a (λ k h. (valid.each k h).from),
+      room g.m g.b (λ k h. omega (arith, (valid.each k h).from, (valid.each k h).less)),
+      length-zip (zip (take m g.a) (take m g.b)) (take m w),
+      length-zip (take m g.a) (take m g.b),
+      length-take m g.a,
+      length-take m g.b,
+      length-take m w,
+    )
+
+-- the edge that a turn meets
+turn : (c : In-Some) → Met c.args.valid.now.graph.now c.args.tree.now (length c.loop-a.yielded) ((c.in-Some.field-0-0-0, c.in-Some.field-0-0-1), c.in-Some.field-0-1)
+turn c = let a = c.args in let l = c.loop-a in
+    met c.into_iter-a-iterator.result l.a-iterator c.next.new.self _ a.valid.now.valid a.tree.now c.from-m.ensures l.yielded_by c.in-Some.is
+    c.next.ensures.steps (cc, cc, cc)
 
 pub loop-a-init : goal.loop-a-init
 loop-a-init c = degrees_none _ _
 
 pub bounds-degrees-from : goal.bounds-degrees-from
-bounds-degrees-from c =
-    let l = c.loop-a in
-    let few = c.requires.few in
-    let t =
-    met c.args.g.now c.requires c.args.tree.now _ c.from-m.ensures (omega (arith, few)) (omega (arith, few)) (omega (arith, few)) c.into_iter-a-iterator.result
-    (cc) (cc) (cc) l.yielded _ c.next.new.self l.yielded_by _ _ c.in-Some.is c.next.ensures.steps in
+bounds-degrees-from c = let a = c.args in let l = c.loop-a in
+    let t = turn (goal.at.bounds-degrees-from c).In-Some in
     omega (arith, t.ends.less, t.ends.high, t.a, t.b)
 
-pub overflow_add-degrees : goal.overflow_add-degrees
-overflow_add-degrees c =
-    let l = c.loop-a in
-    let few = c.requires.few in
-    let t =
-    met c.args.g.now c.requires c.args.tree.now _ c.from-m.ensures (omega (arith, few)) (omega (arith, few)) (omega (arith, few)) c.into_iter-a-iterator.result
-    (cc) (cc) (cc) l.yielded _ c.next.new.self l.yielded_by _ _ c.in-Some.is c.next.ensures.steps in
-    record { fits = omega (arith, few, t.inside, l.invariant.most c.from.result) }
-
 pub bounds-degrees-from-then-w-eq1 : goal.bounds-degrees-from-then-w-eq1
-bounds-degrees-from-then-w-eq1 c =
-    let l = c.loop-a in
-    let few = c.requires.few in
-    let t =
-    met c.args.g.now c.requires c.args.tree.now _ c.from-m.ensures (omega (arith, few)) (omega (arith, few)) (omega (arith, few)) c.into_iter-a-iterator.result
-    (cc) (cc) (cc) l.yielded _ c.next.new.self l.yielded_by _ _ c.in-Some.is c.next.ensures.steps in
+bounds-degrees-from-then-w-eq1 c = let a = c.args in let l = c.loop-a in
+    let t = turn (goal.at.bounds-degrees-from-then-w-eq1 c).In-Some in
     omega (arith, t.ends.less, t.ends.high, t.a, t.b)
 
 pub bounds-degrees-from-then-w-eq1-2 : goal.bounds-degrees-from-then-w-eq1-2
-bounds-degrees-from-then-w-eq1-2 c =
-    let l = c.loop-a in
-    let few = c.requires.few in
-    let t =
-    met c.args.g.now c.requires c.args.tree.now _ c.from-m.ensures (omega (arith, few)) (omega (arith, few)) (omega (arith, few)) c.into_iter-a-iterator.result
-    (cc) (cc) (cc) l.yielded _ c.next.new.self l.yielded_by _ _ c.in-Some.is c.next.ensures.steps in
+bounds-degrees-from-then-w-eq1-2 c = let a = c.args in let l = c.loop-a in
+    let t = turn (goal.at.bounds-degrees-from-then-w-eq1-2 c).In-Some in
     omega (arith, t.ends.less, t.ends.high, t.a, t.b)
 
 pub bounds-degrees-from-then-w-eq1-3 : goal.bounds-degrees-from-then-w-eq1-3
-bounds-degrees-from-then-w-eq1-3 c =
-    let l = c.loop-a in
-    let few = c.requires.few in
-    let t =
-    met c.args.g.now c.requires c.args.tree.now _ c.from-m.ensures (omega (arith, few)) (omega (arith, few)) (omega (arith, few)) c.into_iter-a-iterator.result
-    (cc) (cc) (cc) l.yielded _ c.next.new.self l.yielded_by _ _ c.in-Some.is c.next.ensures.steps in
+bounds-degrees-from-then-w-eq1-3 c = let a = c.args in let l = c.loop-a in
+    let t = turn (goal.at.bounds-degrees-from-then-w-eq1-3 c).In-Some in
     omega (arith, t.ends.less, t.ends.high, t.a, t.b)
 
-pub overflow_add-degrees-then-w-eq1 : goal.overflow_add-degrees-then-w-eq1
-overflow_add-degrees-then-w-eq1 c =
-    let l = c.loop-a in
-    let few = c.requires.few in
-    let t =
-    met c.args.g.now c.requires c.args.tree.now _ c.from-m.ensures (omega (arith, few)) (omega (arith, few)) (omega (arith, few)) c.into_iter-a-iterator.result
-    (cc) (cc) (cc) l.yielded _ c.next.new.self l.yielded_by _ _ c.in-Some.is c.next.ensures.steps in
-    let other =
-    get_or-set_other l.degrees c.from.result c.from-then-w-eq1.result (get_or l.degrees c.from.result 0 + 1) 0 (omega (arith, t.ends.less, t.a, t.b)) in
-    record { fits = omega (arith, few, t.inside, l.invariant.most c.from-then-w-eq1.result, other) }
-
 pub loop-a-preserved : goal.loop-a-preserved
-loop-a-preserved c =
-    let l = c.loop-a in
-    let few = c.requires.few in
-    let t =
-    met c.args.g.now c.requires c.args.tree.now _ c.from-m.ensures (omega (arith, few)) (omega (arith, few)) (omega (arith, few)) c.into_iter-a-iterator.result
-    (cc) (cc) (cc) l.yielded _ c.next.new.self l.yielded_by _ _ c.in-Some.is c.next.ensures.steps in
+loop-a-preserved c = let a = c.args in let l = c.loop-a in
+    let t = turn (goal.at.loop-a-preserved c).In-Some in
     rw length_push (degrees_skip (length l.yielded) _ _ l.degrees t.inside l.invariant (λ e. c.if-w-eq1.false (sym t.byte ∙ e)))
 
 pub loop-a-preserved-then-w-eq1 : goal.loop-a-preserved-then-w-eq1
-loop-a-preserved-then-w-eq1 c =
-    let l = c.loop-a in
-    let few = c.requires.few in
-    let t =
-    met c.args.g.now c.requires c.args.tree.now _ c.from-m.ensures (omega (arith, few)) (omega (arith, few)) (omega (arith, few)) c.into_iter-a-iterator.result
-    (cc) (cc) (cc) l.yielded _ c.next.new.self l.yielded_by _ _ c.in-Some.is c.next.ensures.steps in
+loop-a-preserved-then-w-eq1 c = let a = c.args in let l = c.loop-a in
+    let t = turn (goal.at.loop-a-preserved-then-w-eq1 c).In-Some in
     rw (length_push, c.from.ensures, c.from-then-w-eq1.ensures, ← t.a, ← t.b)
     (degrees_more (length l.yielded) _ _ l.degrees t.inside l.invariant t.ends (t.byte ∙ c.if-w-eq1.true))
-
-pub returns : goal.returns
-returns c =
-    let l = c.loop-a in
-    let few = c.requires.few in
-    let all =
-    all_met c.args.g.now c.requires c.args.tree.now _ c.from-m.ensures (omega (arith, few)) (omega (arith, few)) (omega (arith, few)) c.into_iter-a-iterator.result
-    (cc) (cc) (cc) l.yielded _ c.next.new.self l.yielded_by _ c.in-None.is c.next.ensures.steps in
-    degrees_to (length l.yielded) _ _ _ l.degrees all l.invariant

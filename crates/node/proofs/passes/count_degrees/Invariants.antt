@@ -4,4 +4,4 @@ use Rattle.tours.specs.Counted.{DegreesTo}
 use Rattle.node.proofs.passes.count_degrees.Given as goal
 
 abbrev pub invariant-loop-a : goal.invariant-loop-a
-invariant-loop-a l = DegreesTo (length l.yielded) l.g l.tree l.degrees
+invariant-loop-a l = DegreesTo (length l.yielded) l.valid.graph.now l.tree l.degrees

@@ -5,11 +5,6 @@ use Rattle.integers.specs.Words.{back32}
 use Rattle.node.specs.Gains.{gains_more}
 use Rattle.node.proofs.passes.gains.Goals as goal
 
-pub gained-requires-clause-multiplier : goal.gained-requires-clause-multiplier
-gained-requires-clause-multiplier c = let l = c.loop-v in
-    let fits : mag (get_or l.d l.v (pos 0)) < 2147483648 = omega arith in
-    rw (back32 (get_or l.d l.v (pos 0)) fits, l.invariant.rest l.v (omega arith)) (c.requires.ranged l.v (omega arith))
-
 pub loop-v-preserved : goal.loop-v-preserved
 loop-v-preserved c = let l = c.loop-v in
     let fits : mag (get_or l.d l.v (pos 0)) < 2147483648 = omega arith in

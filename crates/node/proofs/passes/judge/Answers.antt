@@ -1,18 +1,13 @@
 -- By what the tree part found.
-use Rattle.std.proofs.Common.{sym, ◌∙◌, true≢false, arith}
+use Rattle.std.proofs.Common.{sym, ◌∙◌, true≢false}
 use Rattle.node.specs.Faults.{fault-fit}
 use Rattle.node.specs.OnePass.{tree_found, tree-ruled}
 use Rattle.node.proofs.passes.judge.Goals as goal
 
-pub count_degrees-degrees-requires : goal.count_degrees-degrees-requires
-count_degrees-degrees-requires c =
+pub invariant_of-count_degrees : goal.invariant_of-count_degrees
+invariant_of-count_degrees c =
     let least = rw c.in-Some.is at c.in_ok-found.ensures in
-    (fault-fit _ least.none).valid
-
-pub slice_bounds-two_each-end : goal.slice_bounds-two_each-end
-slice_bounds-two_each-end c =
-    let least = rw c.in-Some.is at c.in_ok-found.ensures in
-    omega (arith, c.from.ensures, (fault-fit _ least.none).valid.high)
+    record { valid = (fault-fit _ least.none).valid }
 
 pub returns-then-two_each-clause-verdict : goal.returns-then-two_each-clause-verdict
 returns-then-two_each-clause-verdict c =
@@ -22,11 +17,6 @@ returns-then-two_each-clause-verdict c =
       least.none,
       tree_found _ _ (fault-fit _ least.none).valid _ _ _ w.tree w.least w.low _ _ least.bytes c.count_degrees-degrees.ensures two,
     )
-
-pub apply-requires-clause-valid : goal.apply-requires-clause-valid
-apply-requires-clause-valid c =
-    let least = rw c.in-Some.is at c.in_ok-found.ensures in
-    (fault-fit _ least.none).valid
 
 pub returns-clause-verdict : goal.returns-clause-verdict
 returns-clause-verdict c =

@@ -1,15 +1,12 @@
 -- Turn by turn, by the verdict of its pass.
-use Rattle.std.proofs.Common.{rules, ◌≡◌, ◌≤◌, refl, ap, ◌∙◌, inl, length, pos, arith}
+use Rattle.std.proofs.Common.{rules, ◌≡◌, ◌≤◌, refl, ap, ◌∙◌, length, pos, arith}
 use Rattle.std.proofs.lemmas.Result.{err_from_is_err_and}
 use Rattle.lists.specs.Filling.{take-fit}
 use Rattle.graph.specs.declared.Graph.{Graph}
 use Rattle.node.specs.Marks.{with_bytes}
-use Rattle.node.proofs.Turns.{at_padded, at_refused, at_shut, at_found, at_ruled}
+use Rattle.node.proofs.Turns.{at_padded, at_refused, at_shut, at_found, at_ruled, Turned}
 use Rattle.node.proofs.passes.open_left.Goals as goal
-use Rattle.node.proofs.passes.open_left.Goals.{then-left-gt0, else-left-gt0, else-loop-left-test, then-loop-left-test+in_ok-judge+in-Ruled+else-left-gt0}
-
-pub loop-left-init : goal.loop-left-init
-loop-left-init c = record { turn = inl (refl, refl, refl); marks_alone = refl; hint = omega arith }
+use Rattle.node.proofs.passes.open_left.Goals.{In-Ruled, then-left-gt0, else-left-gt0, else-loop-left-test, then-loop-left-test+in_ok-judge+in-Ruled+else-left-gt0}
 
 pub judge-requires : goal.judge-requires
 judge-requires c = let i = c.loop-left.invariant in
@@ -31,33 +28,31 @@ returns-in-Found-clause-ending c = let i = c.loop-left.invariant in
     at_found c.args.g.now _ _ c.requires _ c.loop-left.g _ i.marks_alone i.turn _
     (rw c.in-Found.is at c.in_ok-judge.ensures.verdict)
 
+-- what a turn knows whose pass rules edges
+ruled : (c : In-Ruled)
+    → Turned c.args.g.now c.args.multipliers.now c.args.settings c.loop-left.left c.loop-left.d c.judge.new.g.mark c.in-Ruled.degrees c.in-Ruled.next
+ruled c = let i = c.loop-left.invariant in
+    at_ruled c.args.g.now _ _ c.requires _ c.loop-left.g _ i.marks_alone i.turn _ _ _ (rw c.in-Ruled.is at c.in_ok-judge.ensures.verdict)
+
 pub gains-requires-clause-some : goal.gains-requires-clause-some
 gains-requires-clause-some c = let i = c.loop-left.invariant in
-    let t =
-    at_ruled c.args.g.now _ _ c.requires _ c.loop-left.g _ i.marks_alone i.turn _ _ _ (rw c.in-Ruled.is at c.in_ok-judge.ensures.verdict)
-    in
+    let t = ruled (goal.at.gains-requires-clause-some c).In-Ruled in
     omega (arith, c.min-n.ensures, c.from.ensures, t.some)
 
 pub gains-requires-clause-step : goal.gains-requires-clause-step
 gains-requires-clause-step c = let i = c.loop-left.invariant in
-    let t =
-    at_ruled c.args.g.now _ _ c.requires _ c.loop-left.g _ i.marks_alone i.turn _ _ _ (rw c.in-Ruled.is at c.in_ok-judge.ensures.verdict)
-    in
+    let t = ruled (goal.at.gains-requires-clause-step c).In-Ruled in
     t.step
 
 pub gains-requires-clause-ranged : goal.gains-requires-clause-ranged
 gains-requires-clause-ranged c = let i = c.loop-left.invariant in
-    let t =
-    at_ruled c.args.g.now _ _ c.requires _ c.loop-left.g _ i.marks_alone i.turn _ _ _ (rw c.in-Ruled.is at c.in_ok-judge.ensures.verdict)
-    in
+    let t = ruled (goal.at.gains-requires-clause-ranged c).In-Ruled in
     let n : c.min-n.result ≡ c.args.g.now.n = omega (arith, c.min-n.ensures, c.from.ensures, t.high) in
     rw n t.ranged
 
 pub loop-left-preserved : goal.loop-left-preserved
 loop-left-preserved c = let i = c.loop-left.invariant in
-    let t =
-    at_ruled c.args.g.now _ _ c.requires _ c.loop-left.g _ i.marks_alone i.turn _ _ _ (rw c.in-Ruled.is at c.in_ok-judge.ensures.verdict)
-    in
+    let t = ruled (goal.at.loop-left-preserved c).In-Ruled in
     let n : c.min-n.result ≡ c.args.g.now.n = omega (arith, c.min-n.ensures, c.from.ensures, t.high) in
     let same = c.judge.ensures.marks_alone ∙ ap (λ (h : Graph). with_bytes h c.judge.new.g.mark) i.marks_alone in
     elim c.if-left-gt0.branch [

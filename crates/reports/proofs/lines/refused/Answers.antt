@@ -6,5 +6,4 @@ use Rattle.reports.proofs.lines.refused.Goals as goal
 pub returns : goal.returns
 returns c =
     let line = refused_pieces c.from.result c.unwrap_or.result (omega arith) (omega arith) in
-    rw (← c.from.ensures, ← c.unwrap_or.ensures, line)
-    (simp (append_assoc, c.new-line.ensures, c.push_str-3.ensures.bytes, c.push_number-2.ensures.text, c.push_str-2.ensures.bytes, c.push_number.ensures.text, c.push_str.ensures.bytes))
+    rw (← c.from.ensures, ← c.unwrap_or.ensures, line) (simp (append_assoc, c.labelled_two.ensures))

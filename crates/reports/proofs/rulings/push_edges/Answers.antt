@@ -19,9 +19,6 @@ pub loop-k-init : goal.loop-k-init
 unfolding edge_lines
 loop-k-init c = (c.requires.0, sym (append-nil c.args.text.now.bytes))
 
-pub push_str-requires : goal.push_str-requires
-push_str-requires c = omega (arith, c.args.input.now.valid.few)
-
 pub loop-k-preserved : goal.loop-k-preserved
 loop-k-preserved c =
     let k = c.loop-k.k in

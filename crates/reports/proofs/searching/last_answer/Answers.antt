@@ -23,5 +23,5 @@ returns c =
     let o = plain_opening c.args.input.now.ceiling c.args.input.now.graph in
     let said = rw (c.fresh-search.ensures, ceiling, c.multipliers.ensures) at c.in_ok-open.ensures.answer in
     let opened : c.open.new.self ≡ (reply fresh (opens o)).search = rw (c.fresh-search.ensures, ceiling, c.multipliers.ensures) at c.open.ensures.left in
-    let ran : c.run.new.self ≡ (reply (reply fresh (opens o)).search (run budget)).search = rw opened at c.run.ensures.left in
+    let ran : c.run-ran.new.self ≡ (reply (reply fresh (opens o)).search (run budget)).search = rw opened at c.run-ran.ensures.left in
     (rw ran at c.tell.ensures.answer) ∙ answer-told o (ap is_accepted (sym said))

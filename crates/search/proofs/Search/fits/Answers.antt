@@ -1,12 +1,11 @@
 -- A graph that is valid has few vertices and few edges, so the nodes are few.
 use Rattle.std.proofs.Common.{◌≡◌, ◌≤◌, ℕ, sym, ◌∙◌, subst, rules, arith}
-use Rattle.lists.specs.Bools.{Says, says_yes}
+use Rattle.lists.specs.Bools.{Says, says_yes, says_both}
 use Rattle.machine.specs.Calls.{fault}
 use Rattle.search.specs.Record.{opening_in}
 use Rattle.search.specs.Begun.{begun_valid}
 use Rattle.integers.specs.Words.{back64}
 use Rattle.tree_theory.specs.Inputs.{ceiling_fits}
-use Rattle.search.specs.CheckLoops.{says_both}
 use Rattle.search.specs.Canonical.{StackFits, CarriedFits, Fits}
 use Rattle.search.specs.declared.Search.{Search}
 use Rattle.search.proofs.Search.fits.Goals as goal

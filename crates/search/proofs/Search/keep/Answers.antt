@@ -16,10 +16,12 @@ use Rattle.search.proofs.Search.keep.Goals.{in-Some, in-None, then-better, else-
 abbrev takes : Graph → Bool → List ℕ → List ℕ → Bool
 takes g h f b = cond h (machine.replaces (network g) (bits g.m f) (bits g.m b)) true
 
--- what `replaces` says of the two costs is what the machine says
-says : (g : Graph) (m : ℕ) (x y : ℤ) (f b l : List ℕ) → m ≡ g.m → x ≡ cost (network g) (bytes f) → y ≡ cost (network g) (bytes l) → l ≡ b
-    → (h : Bool) → h ≡ true → replaces_by m x y f l ≡ takes g h f b
-says g m x y f b l e p q same h is = (λ i. replaces_by (e i) (p i) (q i) f l) ∙ sym (replaces_is g f l) ∙ (λ i. takes g (sym is i) f (same i))
+-- what `replaces` says of the incumbent b is what the machine says
+says : (s : Search) (f b : List ℕ) (x : ℤ) → x ≡ cost (network s.graph) (bytes f) → b ≡ s.best → has_tour s ≡ true
+    → replaces_by s.graph.m x (cost (network s.graph) (bytes b)) f b ≡ takes s.graph (has_tour s) f s.best
+says s f b x p same h =
+    ap (λ (z : ℤ). replaces_by s.graph.m z (cost (network s.graph) (bytes b)) f b) p
+    ∙ sym (replaces_is s.graph f b) ∙ (λ i. takes s.graph (sym h i) f (same i))
 
 kept : (g : Graph) (h x : Bool) (f b : List ℕ) → x ≡ takes g h f b → cond x f b ≡ kept_of g h f b
 unfolding kept_of
@@ -41,8 +43,7 @@ returns c =
     let f = c.args.found.now in
     let paid = back64 c.tour_cost-cost.result c.tour_cost-cost.type_inv ∙ c.tour_cost-cost.ensures.0 in
     let better : c.match-incumbent.better ≡ takes s.graph (has_tour s) f s.best = elim c.match-incumbent.branch [
-      | in-Some w ↦ w.better-is ∙ w.replaces-better.ensures
-          ∙ says s.graph _ _ _ f s.best _ c.from-m.ensures paid (back64 w.tour_cost.result w.tour_cost.type_inv ∙ w.tour_cost.ensures.0) w.in-Some.ensures.1 _ w.in-Some.ensures.0
+      | in-Some w ↦ w.better-is ∙ w.replaces-better.ensures ∙ says s f _ _ paid w.in-Some.ensures.1 w.in-Some.ensures.0
       | in-None w ↦ w.better-is ∙ (λ i. takes s.graph (sym (rw w.in-None.is at c.incumbent.ensures) i) f s.best)
     ] in
     elim c.if-better.branch [

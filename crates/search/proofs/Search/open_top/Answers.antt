@@ -15,6 +15,7 @@ use Rattle.search.specs.declared.Search.{Search}
 use Rattle.search.specs.Record.{rows_at, multipliers_at}
 use Rattle.search.specs.Runs.TopNode.{Holds, Top, holds_mag, holds_size, holds_carried-size, holds_valid, top_depth, top-high, top-room, opens_is, not_refused, next_closes, next_finds, next_splits, split_room}
 use Rattle.search.proofs.Search.open_top.Goals as goal
+use Rattle.search.proofs.Search.open_top.Goals.{After-open}
 
 rows_read : (x l : List ℕ) (p : ℕ) → x ≡ fill node_words (λ j. get_or l (node_words * p + j) 0) → x ≡ rows_at l p
 unfolding rows_at
@@ -39,6 +40,12 @@ module _ (r : Search) (s : Progress) (h : Holds r s) (t : Top s) where
   accepted (Ok a) left e = search rules
   accepted (Err q) left e = absurd (not_refused r s h t _ e (number q) refl)
 
+-- so it is of the node that is opened
+here : (c : After-open) (s : Progress) (h : Holds c.args.self.now s) (t : Top s)
+    → opened c.open.result c.open.new.node ≡ opened_as (open_node s.opening s.upper t.node)
+here c s h t =
+    came _ s h t _ _ _ _ _ _ (c.get-node.ensures 0) (c.get-multipliers.ensures (pos 0)) (back64 c.args.self.now.upper (holds_mag _ _ h)) c.open.ensures
+
 pub overflow_sub-p : goal.overflow_sub-p
 overflow_sub-p c = top_depth _ _ c.requires.1 c.requires.2
 
@@ -55,8 +62,7 @@ get-node-requires c =
 pub unwrap-fate-requires : goal.unwrap-fate-requires
 unwrap-fate-requires c =
     accepted _ _ c.requires.1 c.requires.2 _ _
-    (came _ _ c.requires.1 c.requires.2 _ _ _ _ _ _ (c.get-node.ensures 0) (c.get-multipliers.ensures (pos 0))
-    (back64 c.args.self.now.upper (holds_mag _ _ c.requires.1)) c.open.ensures)
+    (here (goal.at.unwrap-fate-requires c).After-open _ c.requires.1 c.requires.2)
 
 pub put-requires : goal.put-requires
 put-requires c =
@@ -80,8 +86,7 @@ keep-requires c = holds_valid _ _ c.requires.1
 pub put-requires-in-Splits : goal.put-requires-in-Splits
 put-requires-in-Splits c =
     let h = c.requires.1 in
-    let e = came _ _ h c.requires.2 _ _ _ _ _ _ (c.get-node.ensures 0) (c.get-multipliers.ensures (pos 0))
-    (back64 c.args.self.now.upper (holds_mag _ _ h)) c.open.ensures in
+    let e = here (goal.at.put-requires-in-Splits c).After-open _ h c.requires.2 in
     let room = split_room _ _ h c.requires.2 _ e (ap meaning (c.unwrap-fate.ensures ∙ ap (λ (a : Fate). Ok a) c.in-Splits.is)) in
     let size = (c.put.ensures 0).size ∙ holds_size _ _ h in
     let k : 6 * (c.args.self.now.depth - 1 + 1) + 6 ≤ length c.put.new.s = omega (arith, room, size) in (omega arith, k)
@@ -89,8 +94,7 @@ put-requires-in-Splits c =
 pub put-requires-in-Splits-2 : goal.put-requires-in-Splits-2
 put-requires-in-Splits-2 c =
     let h = c.requires.1 in
-    let e = came _ _ h c.requires.2 _ _ _ _ _ _ (c.get-node.ensures 0) (c.get-multipliers.ensures (pos 0))
-    (back64 c.args.self.now.upper (holds_mag _ _ h)) c.open.ensures in
+    let e = here (goal.at.put-requires-in-Splits-2 c).After-open _ h c.requires.2 in
     let room = split_room _ _ h c.requires.2 _ e (ap meaning (c.unwrap-fate.ensures ∙ ap (λ (a : Fate). Ok a) c.in-Splits.is)) in
     let size = (c.put-2.ensures (pos 0)).size ∙ holds_carried-size _ _ h in
     let k : 20 * (c.args.self.now.depth - 1 + 1) + 20 ≤ length c.put-2.new.s = omega (arith, room, size) in (omega arith, k)
@@ -100,20 +104,17 @@ overflow_add-self-in-Splits c = record { fits = omega (arith, top-high _ _ c.req
 
 pub returns-in-Closes : goal.returns-in-Closes
 returns-in-Closes c = λ s h t.
-    let e = came _ s h t _ _ _ _ _ _ (c.get-node.ensures 0) (c.get-multipliers.ensures (pos 0))
-    (back64 c.args.self.now.upper (holds_mag _ _ h)) c.open.ensures in
+    let e = here (goal.at.returns-in-Closes c).After-open s h t in
     next_closes _ s h t _ e _ _ (ap meaning (c.unwrap-fate.ensures ∙ ap (λ (a : Fate). Ok a) c.in-Closes.is)) (c.put.ensures 0) (c.put-2.ensures (pos 0))
 
 pub returns-in-Finds : goal.returns-in-Finds
 returns-in-Finds c = λ s h t.
-    let e = came _ s h t _ _ _ _ _ _ (c.get-node.ensures 0) (c.get-multipliers.ensures (pos 0))
-    (back64 c.args.self.now.upper (holds_mag _ _ h)) c.open.ensures in
+    let e = here (goal.at.returns-in-Finds c).After-open s h t in
     c.keep.ensures
     ∙ next_finds _ s h t _ e _ _ (ap meaning (c.unwrap-fate.ensures ∙ ap (λ (a : Fate). Ok a) c.in-Finds.is)) (c.put.ensures 0) (c.put-2.ensures (pos 0))
 
 pub returns-in-Splits : goal.returns-in-Splits
 returns-in-Splits c = λ s h t.
-    let e = came _ s h t _ _ _ _ _ _ (c.get-node.ensures 0) (c.get-multipliers.ensures (pos 0))
-    (back64 c.args.self.now.upper (holds_mag _ _ h)) c.open.ensures in
+    let e = here (goal.at.returns-in-Splits c).After-open s h t in
     next_splits _ s h t _ e _ _ _ _ (ap meaning (c.unwrap-fate.ensures ∙ ap (λ (a : Fate). Ok a) c.in-Splits.is)) (c.put.ensures 0) (c.put-2.ensures (pos 0))
     (c.put-in-Splits.ensures 0) (c.put-in-Splits-2.ensures (pos 0))

@@ -1,12 +1,11 @@
 -- The loop keeps: the record runs, with the budget that is left, to what the first one runs to. It then stands for the reply.
-use Rattle.std.proofs.Common.{rules, ◌≡◌, sym, ap, Err, ◌-◌, ◌+◌, inl, inr, arith}
+use Rattle.std.proofs.Common.{rules, ◌≡◌, refl, Err, ◌-◌, ◌+◌, inl, inr, arith}
 use Rattle.machine.specs.Machine.{ran}
-use Rattle.machine.specs.Calls as Calls
+use Rattle.machine.specs.Calls.{run}
 use Rattle.search.specs.Record.{progress_of}
-use Rattle.search.specs.Replies.{Outcome}
 use Rattle.search.specs.Runs.TopNode.{Holds, top_of_lem}
 use Rattle.search.specs.Runs.Running.{run_stops, run_spent, run_turn, run_begins, run_finished, run_going}
-use Rattle.search.proofs.Closed.{closed-refused}
+use Rattle.search.proofs.Closed.{parts, closed-refused}
 use Rattle.search.specs.declared.Search.{Search}
 use Rattle.search.proofs.Search.run.Goals as goal
 use Rattle.search.proofs.Search.run.Goals.{else-loop-test, then-loop-test+then-self-eq0, then-self-eq0-via-then-self-eq0, then-self-eq0-via-else-self-eq0+then-self-ge-MAX_COUNT}
@@ -16,8 +15,7 @@ returns-in_err-opened c =
     let s : Search = c.args.self.now in
     let r = c.in_err-opened.field-0.0 in
     let e : c.from_residual.result ≡ Err r = search rules in
-    let k = (closed-refused s c.opened.ensures.typed (Calls.run c.args.budget) tt r c.in_err-opened.ensures.fault).0 in
-    rw e (record { answer = ap (λ (x : Outcome). x.answer) (sym k); left = ap (λ (x : Outcome). x.search) (sym k) })
+    rw e (parts s s (run c.args.budget) _ (closed-refused s c.opened.ensures.typed (run c.args.budget) tt r c.in_err-opened.ensures.fault).0 refl)
 
 pub loop-init : goal.loop-init
 loop-init c = run_begins c.args.self.now c.in_ok-opened.ensures.passed c.args.budget (c.args.budget - 0) (omega arith)

@@ -43,23 +43,23 @@ module _ (k : ℕ) (g : Graph) (w : List ℕ) (sum : ℤ) (v : Valid g) (h : k <
   no-more r n q = ticked k g w sum r h range s (record { yes' = λ e. absurd (n e); no' = λ _. q })
 
 pub loop-k-init : goal.loop-k-init
-loop-k-init c = record { is = sym (cost_none c.args.g.now c.args.w.now); high = omega arith; low = omega arith }
+loop-k-init c = record { is = sym (cost_none c.args.valid.graph.now c.args.w.now); high = omega arith; low = omega arith }
 
 pub loop-k-preserved : goal.loop-k-preserved
 loop-k-preserved c =
-    let g = c.args.g.now in
+    let g = c.args.valid.graph.now in
     let w = c.args.w.now in
     let h : c.loop-k.k < g.m = omega (arith, c.from-k-end.ensures) in
     elim c.if-w-k-eq1.branch [
-      | then-w-k-eq1 b ↦ more c.loop-k.k g w _ c.requires h c.loop-k.invariant b.from-sum.result _ b.if-w-k-eq1.true (b.from-sum.ensures ∙ back32 _ (search rules)) b.sum-is
-      | else-w-k-eq1 b ↦ no-more c.loop-k.k g w _ c.requires h c.loop-k.invariant _ b.if-w-k-eq1.false b.sum-is
+      | then-w-k-eq1 b ↦ more c.loop-k.k g w _ c.args.valid.valid h c.loop-k.invariant b.from-sum.result _ b.if-w-k-eq1.true (b.from-sum.ensures ∙ back32 _ (search rules)) b.sum-is
+      | else-w-k-eq1 b ↦ no-more c.loop-k.k g w _ c.args.valid.valid h c.loop-k.invariant _ b.if-w-k-eq1.false b.sum-is
     ]
 
 pub returns : goal.returns
 returns c =
-    let g = c.args.g.now in
+    let g = c.args.valid.graph.now in
     let sum = c.loop-k.invariant in
     let all : c.loop-k.k ≡ g.m = omega (arith, c.from-k-end.ensures) in (
       sum.is ∙ ap (λ (k : ℕ). cost_to k g c.args.w.now) all ∙ cost_all g c.args.w.now,
-      record { high = omega (arith, sum.high, all, c.requires.few); low = omega (arith, sum.low, all, c.requires.few) },
+      record { high = omega (arith, sum.high, all, c.args.valid.valid.few); low = omega (arith, sum.low, all, c.args.valid.valid.few) },
     )

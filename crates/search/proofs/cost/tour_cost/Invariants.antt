@@ -3,4 +3,4 @@ use Rattle.search.specs.Runs.Costs.{CostTo}
 use Rattle.search.proofs.cost.tour_cost.Given as goal
 
 abbrev pub invariant-loop-k : goal.invariant-loop-k
-invariant-loop-k l = CostTo l.k l.g l.w l.sum
+invariant-loop-k l = CostTo l.k l.valid.graph.now l.w l.sum

@@ -1,11 +1,11 @@
 -- The nodes in use, then all that is past them.
 use Rattle.std.proofs.Common.{ℕ, ◌<◌, List, ℤ, pos, refl, arith, rules, tests}
 use Rattle.std.proofs.lemmas.Iterator.{YieldsList-from_range, cases_from_all}
-use Rattle.lists.specs.Bools.{Says, says_yes}
+use Rattle.lists.specs.Bools.{Says, says_yes, says_both}
 use Rattle.search.specs.Canonical.{Zeros}
 use Rattle.search.specs.Record.{multipliers_at}
 use Rattle.search.specs.CheckParts.{carried_nodes, carried_past, carried_whole}
-use Rattle.search.specs.CheckLoops.{says_both, says_fails, says_below}
+use Rattle.search.specs.CheckLoops.{says_fails, says_below}
 use Rattle.search.proofs.record.carried_tidy.Goals as goal
 
 -- what node p carries is zero past n

@@ -11,4 +11,4 @@ stretch a w k l z e b =
     (λ i h. let c : i < k = omega arith in sym (get_or-take k (drop a l) i z c ∙ get_or-drop a l i z)))
 
 pub returns : goal.returns
-returns g c = λ z. c.copy_from_slice.ensures.after ∙ stretch _ _ _ c.args.s.now z (omega arith) c.requires
+returns g c = λ z. (rw c.unwrap.ensures at c.try_from.ensures.1).same ∙ stretch _ _ _ c.args.s.now z (omega arith) c.requires

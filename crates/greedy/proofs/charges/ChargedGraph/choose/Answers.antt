@@ -2,10 +2,10 @@
 -- (looks_as_said).
 use Rattle.std.proofs.Common.{◌≡◌, refl, sym, ap, subst, Bool, true, false, List, [], ℕ, suc, ◌+◌, ◌*◌, ◌-◌, ◌<◌, ◌≤◌, length, take, arith}
 use Rattle.std.proofs.Math.Decide.{dec_le}
-use Rattle.std.proofs.lemmas.List.{get_or-take, length-take-le}
+use Rattle.std.proofs.lemmas.List.{length-take-le}
 use Rattle.std.specs.Bool.{then_some}
 use Rattle.lists.specs.Bools.{Says, says_yes, says_no}
-use Rattle.lists.specs.Rows.{zeros}
+use Rattle.lists.specs.Fill.{replicate-at}
 use Rattle.graph.specs.declared.Graph.{Graph}
 use Rattle.graph.specs.Limits.{max_edges}
 use Rattle.graph.specs.Network.{Network, network}
@@ -20,7 +20,7 @@ use Rattle.greedy.specs.Charged.{max_charge}
 use Rattle.greedy.specs.Chosen.{SumOf}
 use Rattle.greedy.specs.Kruskal.{Choice, Whole}
 use Rattle.greedy.specs.Stopping.{stopped, looks_as_said}
-use Rattle.greedy.proofs.Slices.{keys_of, away, fars, away-length, away-places, away-small, away-edge, near-edge, near-order, far-order, taken-places, taken-queued, taken-small}
+use Rattle.greedy.proofs.Slices.{keys_of, away, fars, away-length, away-places, away-small, away-edges, all_edges, near-order, far-order, taken-places, taken-queued, taken-small, taken-edges}
 use Rattle.greedy.proofs.charges.ChargedGraph.choose.Goals as goal
 
 -- a number that is at most another and not below it
@@ -33,61 +33,40 @@ all_of n r le stop = at (dec_le (suc n) r)
 
 pub grow-requires : goal.grow-requires
 grow-requires c =
-    let g = c.args.self.now.graph.now in
-    let cs = c.args.self.now.charges.now in
-    let ks = c.args.keys.now in
-    let k = keys_of c.args.self.now ks c.requires.0 c.requires.1 in
+    let k = keys_of c.args.self.now c.args.keys.now c.requires.0 c.requires.1 in
     let near = c.reached-near in
-    let others : List ℕ = away g cs ks k near.result near.ensures in
+    let others : List ℕ = away k near.result near.ensures in
     let r = c.reached-required in
-    let size : length (take r.result others) ≡ r.result = length-take-le r.result others r.ensures.0 in
     let none = c.none-grown.ensures in (
-      (
-        omega (arith, size, r.ensures.0, away-length g cs ks k near.result near.ensures, k.keyed.few, k.valid.few),
-        λ i h.
-            let l : i < r.result = omega (arith, size) in
-            rw (get_or-take r.result others i 0 l) (away-edge g cs ks k near.result near.ensures i (omega (arith, r.ensures.0))),
-      ),
+      taken-edges c.args.self.now.graph.now r.result others r.ensures.0 (away-edges k near.result near.ensures),
       omega (arith, none.0),
       rw (none.0, none.1, none.2)
-          (choice_none (network g) cs _ _ _ none.3 none.4 (ap length c.requires.2) (rw c.requires.2 (zeros 190))),
+          (choice_none _ _ _ _ _ none.3 none.4 (ap length c.requires.2) (rw c.requires.2 (replicate-at 190 0))),
     )
 
 pub grow-requires-2 : goal.grow-requires-2
 grow-requires-2 c =
-    let g = c.args.self.now.graph.now in
-    let cs = c.args.self.now.charges.now in
-    let ks = c.args.keys.now in
-    let k = keys_of c.args.self.now ks c.requires.0 c.requires.1 in
+    let k = keys_of c.args.self.now c.args.keys.now c.requires.0 c.requires.1 in
     let near = c.reached-near in
-    let others : List ℕ = away g cs ks k near.result near.ensures in
+    let others : List ℕ = away k near.result near.ensures in
     let r = c.reached-required in
     let size : length (take r.result others) ≡ r.result = length-take-le r.result others r.ensures.0 in
     let one = c.grow.ensures in
     let s = c.grow.new.self in (
-      (omega (arith, away-length g cs ks k near.result near.ensures, k.keyed.few, k.valid.few), away-edge g cs ks k near.result near.ensures),
+      away-edges k near.result near.ensures,
       omega (arith, size, r.ensures.0, one.3),
-      choice-same (network g) cs _ others r.result (taken-places r.result others) s.next s.labels c.grow.new.tree s.far s.sum
+      choice-same _ _ _ others r.result (taken-places r.result others) s.next s.labels c.grow.new.tree s.far s.sum
           (omega (arith, size, one.3)) one.0,
     )
 
 pub take_two-sum-requires : goal.take_two-sum-requires
 take_two-sum-requires c =
-    let g = c.args.self.now.graph.now in
-    let cs = c.args.self.now.charges.now in
-    let ks = c.args.keys.now in
-    let k = keys_of c.args.self.now ks c.requires.0 c.requires.1 in
+    let k = keys_of c.args.self.now c.args.keys.now c.requires.0 c.requires.1 in
     let near = c.reached-near in
-    let size : length (take near.result ks) ≡ near.result = length-take-le near.result ks near.ensures.0 in
-    let two = c.grow-2.ensures in
-    let fit : length ks ≤ 190 = omega (arith, k.keyed.few, k.valid.few) in (
-      (
-        omega (arith, size, near.ensures.0, fit),
-        λ i h.
-            let l : i < near.result = omega (arith, size) in
-            rw (get_or-take near.result ks i 0 l) (near-edge g cs ks k near.result near.ensures i (omega (arith, near.ensures.0))),
-      ),
-      omega (arith, two.0.light, two.3, away-length g cs ks k near.result near.ensures, fit),
+    let edges = all_edges k near.result near.ensures in
+    let two = c.grow-2.ensures in (
+      taken-edges c.args.self.now.graph.now near.result _ near.ensures.0 edges,
+      omega (arith, two.0.light, two.3, away-length k near.result near.ensures, edges.0),
     )
 
 sum_of : (g : Graph) (made : Choice g) (b : Bool) (sum : ℕ) → Says b (Whole g made) → made.sum ≡ sum → sum ≤ max_charge * max_edges
@@ -104,16 +83,16 @@ returns c =
     let n = c.reached-near.result in
     let cut = c.reached-near.ensures in
     let G : Network = network g in
-    let others : List ℕ = away g cs ks k n cut in
-    let keys : List ℕ = fars g cs ks k n cut in
+    let others : List ℕ = away k n cut in
+    let keys : List ℕ = fars k n cut in
     let f : ℕ = length others in
-    let size : f ≡ length ks - n = away-length g cs ks k n cut in
+    let size : f ≡ length ks - n = away-length k n cut in
     let fit : length ks ≤ 190 = omega (arith, k.keyed.few, k.valid.few) in
     let r = c.reached-required.result in
-    let small : Small keys f r = away-small g cs ks k n cut r c.reached-required.ensures in
+    let small : Small keys f r = away-small k n cut r c.reached-required.ensures in
     let front : length (take r others) ≡ r = length-take-le r others small.0 in
-    let order = far-order g cs ks k n cut in
-    let places = away-places g cs ks k n cut in
+    let order = far-order k n cut in
+    let places = away-places k n cut in
     -- the required edges
     let s = c.grow.new.self in
     let one = c.grow.ensures in
@@ -142,7 +121,7 @@ returns c =
       order = order;
       near_keys = ks;
       near_count = n;
-      near_order = near-order g cs ks k n cut;
+      near_order = near-order k n cut;
       tree = w;
       far = t.far;
       sum = sum;

@@ -8,6 +8,6 @@ use Rattle.greedy.proofs.charges.ChargedGraph.take_two.Given as goal
 abbrev pub invariant-loop-key : goal.invariant-loop-key
 invariant-loop-key l = record {
   long : length l.tree ≡ max_edges;
-  light : l.all ≤ l.sum + max_charge * l.key-index;
-  taken : TwoTaken l.self.charges.now l.keys l.key-index l.initial.tree l.sum l.tree l.all;
+  light : l.all ≤ l.sum + max_charge * length l.yielded;
+  taken : TwoTaken l.self.charges.now l.keys (length l.yielded) l.initial.tree l.sum l.tree l.all;
 }

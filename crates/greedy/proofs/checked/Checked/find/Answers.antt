@@ -1,6 +1,7 @@
 -- What the choice comes to (found, missing), and the bound that its charges stand for (bound_is).
-use Rattle.std.proofs.Common.{◌≡◌, sym, subst, List, ℕ, ◌*◌, ◌<◌, ◌≤◌, length, get_or, ℤ, None, Some, arith}
+use Rattle.std.proofs.Common.{◌≡◌, ◌∙◌, sym, ap, subst, List, ℕ, ◌*◌, ◌<◌, ◌≤◌, length, ℤ, None, Some, arith}
 use Rattle.std.specs.Int.Signed.{mag}
+use Rattle.lists.specs.Fill.{replicate-at}
 use Rattle.integers.specs.Differences.{diff_range}
 use Rattle.integers.specs.Words.{back64}
 use Rattle.graph.specs.declared.Graph.{Graph}
@@ -16,12 +17,12 @@ use Rattle.greedy.specs.declared.Lists.{Lists}
 use Rattle.greedy.specs.declared.Found.{Found}
 use Rattle.greedy.specs.declared.kruskal.Chosen.{Chosen}
 use Rattle.greedy.specs.Charged.{max_charge, Charged}
-use Rattle.greedy.specs.Charging.{BoundOf, ChargesOf, charged_of, bound_is}
+use Rattle.greedy.specs.Charging.{BoundOf, AllCharged, charged_of, bound_is}
 use Rattle.greedy.specs.Hint.{Hinted}
 use Rattle.greedy.specs.Hinting.{keyed_hinted}
 use Rattle.greedy.specs.Kruskal.{Whole, found, missing, weighs, bit_at, past_none}
 use Rattle.greedy.specs.Chosen.{ChosenIs, SumOf}
-use Rattle.greedy.specs.Least.{Weighed, TreeFound}
+use Rattle.greedy.specs.Least.{blank_lists, Weighed, TreeFound}
 use Rattle.greedy.proofs.checked.Checked.find.Goals as goal
 
 module _ (q : ℕ) (g : Graph) (d : List ℤ) (after : Lists) (r : Chosen) (k : ChosenIs g after.charges after.tree after.labels r)
@@ -51,38 +52,42 @@ module _ (q : ℕ) (g : Graph) (d : List ℤ) (after : Lists) (r : Chosen) (k : 
         hinted = rw live_is hinted;
       }
 
-weighed_of : (q : ℕ) (g : Graph) (d : List ℤ) (after : Lists) → ChargesOf q g d after.charges g.m
-    → ((k : ℕ) → g.m ≤ k → get_or after.charges k 0 ≡ 0) → length after.charges ≡ 190 → Merges g after.labels → Weighed q g d after
-weighed_of q g d after each rest long merges = record { charged = charged_of q g d after.charges each; rest = rest; long = long; merges = merges }
+-- past the edges stand the zeros that stood there
+weighed_of : (q : ℕ) (g : Graph) (d : List ℤ) (before after : Lists) → before ≡ blank_lists → AllCharged q g d before.charges after.charges
+    → Merges g after.labels → Weighed q g d after
+weighed_of q g d before after is made merges = record {
+  charged = charged_of q g d after.charges made.0;
+  rest = λ k h. made.2 k h ∙ rw is (replicate-at 190 0 k);
+  long = made.1;
+  merges = merges;
+}
 
 pub returns-in_default : goal.returns-in_default
 returns-in_default c =
-    let q = c.args.q in
+    let q = c.args.q.q in
     let g = c.args.self.now.graph.now in
     let chosen = c.choose-chosen in
-    let made = c.charge.ensures in
-    let weighed = weighed_of q g c.args.self.now.multipliers.now _ made.0 made.1 made.2 chosen.ensures.merges in
+    let weighed = weighed_of q g c.args.self.now.multipliers.now c.args.lists.now _ c.requires c.charge.ensures chosen.ensures.merges in
     let none : SumOf g chosen.ensures.made None = rw c.in_default.is at chosen.ensures.sum in
     ((weighed, missing g chosen.ensures.made q none), chosen.ensures.looked q _ weighed.charged)
 
 pub returns : goal.returns
 returns c =
-    let q = c.args.q in
+    let q = c.args.q.q in
     let me = c.args.self.now in
     let g = me.graph.now in
     let d = me.multipliers.now in
-    let keys = c.order.new.keys.items in
+    let keys = c.order.new.meeting.keys.items in
     let chosen = c.choose-chosen in
     let low = c.bound in
     let after : Lists = record { tree = chosen.new.tree; charges = c.charge.new.charges; order = c.places.new.order; labels = chosen.new.labels } in
-    let made = c.charge.ensures in
-    let weighed : Weighed q g d after = weighed_of q g d after made.0 made.1 made.2 chosen.ensures.merges in
+    let weighed : Weighed q g d after = weighed_of q g d c.args.lists.now after c.requires c.charge.ensures chosen.ensures.merges in
     let hinted : Hinted g.mark g.m after.order (length keys) =
     keyed_hinted g after.charges keys (length keys) after.order me.valid.few c.order.ensures.0
-    (rw c.as_slice.ensures.value at c.places.ensures.0) c.places.ensures.1 in
+    (rw c.as_slice-keys.ensures.value at c.places.ensures.0) c.places.ensures.1 in
     let whole : SumOf g chosen.ensures.made (Some c.in-Some.sum) = rw c.in-Some.is at chosen.ensures.sum in
     rw (back64 low.result low.type_inv) (
-      tree_found q g d after chosen.result chosen.ensures me.valid weighed (length keys) hinted (record { bound = low.result; live = c.len.result }) c.len.ensures.value
+      tree_found q g d after chosen.result chosen.ensures me.valid weighed (length keys) hinted (record { bound = low.result; live = length c.as_slice-keys.result.now }) (ap length c.as_slice-keys.ensures.value)
           c.in-Some.sum whole low.ensures low.type_inv,
       chosen.ensures.looked q d weighed.charged,
     )

@@ -14,9 +14,6 @@ ends c = c.requires.1 c.loop-k.k (omega arith) (inner c)
 pub loop-k-init : goal.loop-k-init
 loop-k-init c = let p = c.requires in rw (p.2, p.3) (table_none _ _ _ _)
 
-pub swappable-requires : goal.swappable-requires
-swappable-requires c = c.requires.0.bits c.loop-k.k
-
 pub push-requires : goal.push-requires
 push-requires c =
     let s = c.args in

@@ -4,11 +4,11 @@ use Rattle.swaps.specs.Visiting.{Rows, Hung, Lined, Closed}
 use Rattle.onetree.specs.HungTree.{rooting_of, queue_of, count_of}
 use Rattle.onetree.proofs.rooted.Rooting.walk.Given as goal
 
-abbrev pub invariant-loop-i : goal.invariant-loop-i
-invariant-loop-i l = (l.i ≤ count_of l.self) × Lined l.self.depth (queue_of l.self) (count_of l.self)
+abbrev pub invariant-loop-x : goal.invariant-loop-x
+invariant-loop-x l = (l.i ≤ count_of l.self) × Lined l.self.depth (queue_of l.self) (count_of l.self)
     × ((n : ℕ) → 2 ≤ n → Rows l.ends.from l.ends.to n l.listed.rows
     → Hung l.ends.from l.ends.to l.listed.rows n (rooting_of l.self))
     × Closed l.ends.from l.ends.to l.listed.rows l.self.depth (queue_of l.self) l.i
 
-abbrev pub decreases-loop-i : goal.decreases-loop-i
-decreases-loop-i l = 21 - l.i
+abbrev pub decreases-loop-x : goal.decreases-loop-x
+decreases-loop-x l = 21 - l.i

@@ -1,6 +1,6 @@
 -- Place by place.
-use Rattle.std.proofs.Common.{◌∙◌, ◌<◌, ap, sym, length, get_or, arith}
-use Rattle.std.proofs.lemmas.List.{map-set, length-map, get_or-map}
+use Rattle.std.proofs.Common.{◌∙◌, ◌<◌, ℕ, ap, sym, length, get_or, arith}
+use Rattle.std.proofs.lemmas.List.{map-set, length-map, get_or-map, get_or-take}
 use Rattle.lists.specs.FilledFrom.{updated_more}
 use Rattle.onetree.specs.Answers.{byte_of, ruling_bytes}
 use Rattle.onetree.specs.declared.rulings.Ruling.TheVariants.{Keep}
@@ -11,7 +11,8 @@ pub loop-k-preserved : goal.loop-k-preserved
 loop-k-preserved c =
     let k = c.loop-k.k in
     let i = c.loop-k.invariant in
+    let marks = c.args.self.now.tree.graph.now.mark in
     let room : k < length (ruling_bytes c.args.res.now) = omega (arith, length-map c.args.res.now byte_of) in
     let was = sym (get_or-map byte_of c.loop-k.res k Keep 0 (omega (arith, i.long, length-map c.loop-k.res byte_of))) ∙ i.rest k (omega arith) in
     rw (map-set byte_of c.loop-k.res k c.ruling_of.result)
-    (updated_more _ _ _ _ _ room i (c.ruling_of.ensures ∙ ap (ruling_of (get_or c.args.self.now.tree.graph.now.mark k 0)) was))
+    (updated_more _ _ _ _ _ room i (c.ruling_of.ensures ∙ ap (λ (x : ℕ). ruling_of x (byte_of (get_or c.loop-k.res k Keep))) (get_or-take c.from.result marks k 0 (omega arith)) ∙ ap (ruling_of (get_or marks k 0)) was))

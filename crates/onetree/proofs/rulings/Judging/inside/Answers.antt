@@ -13,7 +13,7 @@ queued c = c.from-v.ensures ∙ c.below_root-v-items.ensures.same c.loop-v.v-ind
 
 small : (c : After-from-v) → c.from-v.result < 21
 small c =
-    c.requires.0.below.each.small _ (c.loop-v.v-index + 1, omega arith, omega (arith, c.below_root-v-items.ensures.long), sym (queued c))
+    c.requires.below.each.small _ (c.loop-v.v-index + 1, omega arith, omega (arith, c.below_root-v-items.ensures.long), sym (queued c))
 
 pub bounds-self-v : goal.bounds-self-v
 bounds-self-v c = small (goal.at.bounds-self-v c).After-from-v
@@ -27,5 +27,5 @@ loop-v-preserved c =
     let rest = c.below_root-v-items.ensures in
     rw (map-set byte_of c.loop-v.res c.from-k.result _)
     (forcing_more (queue_of a.self.now.hung.now) a.self.now.tree.lists.now.charges a.self.now.hung.now.edge a.cheapest.now a.self.now.slack (ruling_bytes a.res.now) (ruling_bytes c.loop-v.res) (c.loop-v.v-index + 1) (count_of a.self.now.hung.now) _ _ _
-    (omega arith) (omega (arith, rest.long)) (queued (goal.at.loop-v-preserved c).After-from-v) c.requires.0.below.each c.loop-v.invariant
-    (length-map a.res.now byte_of ∙ c.requires.1) c.from-k.ensures c.force.ensures)
+    (omega arith) (omega (arith, rest.long)) (queued (goal.at.loop-v-preserved c).After-from-v) c.requires.below.each c.loop-v.invariant
+    (length-map a.res.now byte_of ∙ c.told-res) c.from-k.ensures c.force.ensures)

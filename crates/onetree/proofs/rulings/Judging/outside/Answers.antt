@@ -17,7 +17,7 @@ climb-top-requires c =
     let j = c.requires.0 in
     let here : c.loop-k.k < c.args.self.now.tree.graph.now.m = omega arith in
     let ends = ends_hang c.args.self.now.tree.graph.now j.ready.valid c.args.self.now.tree.lists.now.tree j.ready.tree _ _ j.ready.rooted c.loop-k.k here c.if-g-k-eq1.false in
-    (j.ready.rooted.hangs, rw (c.from-from.ensures ∙ j.labelled.one c.loop-k.k here) ends.0, rw (c.from-to.ensures ∙ j.labelled.two c.loop-k.k here) ends.1, c.loop-k.invariant.long.1)
+    (j.ready.rooted.hangs, rw (c.from-from.ensures ∙ j.labelled.one c.loop-k.k here) ends.0, rw (c.from-to.ensures ∙ j.labelled.two c.loop-k.k here) ends.1)
 
 pub loop-k-preserved : goal.loop-k-preserved
 loop-k-preserved c =

@@ -1,8 +1,8 @@
 -- The first places of a longer list of zeros.
 use Rattle.std.proofs.Common.{pos}
+use Rattle.std.proofs.lemmas.List.{take-replicate}
 use Rattle.graph.specs.Limits.{max_vertices}
-use Rattle.reports.specs.Zeros.{part}
 use Rattle.reports.proofs.input.Input.multipliers.Goals as goal
 
 pub returns : goal.returns
-returns c = let graph = c.args.self.now.graph in rw c.from.ensures (part max_vertices graph.n (pos 0) c.args.self.now.valid.high)
+returns c = let graph = c.args.self.now.graph in rw c.from.ensures (take-replicate graph.n max_vertices (pos 0) c.args.self.now.valid.high)

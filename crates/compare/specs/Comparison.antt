@@ -9,10 +9,9 @@ use Rattle.graph.specs.Limits.{max_sweeps, max_step}
 use Rattle.graph.specs.Valid.{valid}
 use Rattle.tree_theory.specs.Inputs.{multipliers_fit, ceiling_fits, denominator_fault}
 use Rattle.machine.specs.declared.Settings.{Settings}
-use Rattle.machine.specs.Machine.{Opening, no_search}
+use Rattle.machine.specs.Machine.{Opening, no_search, opening_of}
 use Rattle.machine.specs.Calls.{opens, run, refused, accepted, runs, tells, step}
 use Rattle.machine.specs.Calls as machine
-use Rattle.search.specs.Record.{opening_of}
 use Rattle.compare.specs.declared.Terms.{Terms}
 
 -- "up to 16 pairs of sweeps and step"

@@ -6,7 +6,7 @@ ghost use Rattle.std.specs.Prelude.{◌≡◌, leb, length};
 ghost use Rattle.std.specs.List.{list_all};
 ghost use Rattle.std.specs.Option.{unwrap_or};
 ghost use Rattle.graph.specs.Refusals.{fault_of};
-ghost use Rattle.search.specs.Record.{opening_of};
+ghost use Rattle.machine.specs.Machine.{opening_of};
 ghost use Rattle.search.specs.Replies.{means, run_means};
 ghost use Rattle.compare.specs.Faults.{sizes_fit};
 ghost use Rattle.compare.specs.Comparison.{settings_of, pairs_fit, settings_fit, finished_in, finishes, finishes_with};

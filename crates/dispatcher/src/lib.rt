@@ -5,7 +5,7 @@
 ghost use Rattle.std.specs.Prelude.{◌≡◌};
 ghost use Rattle.dispatch_theory.specs.Dispatcher as Calls;
 ghost use Rattle.lent_records.specs.Records.{replies};
-ghost use Rattle.search.specs.Record.{opening_of};
+ghost use Rattle.machine.specs.Machine.{opening_of};
 ghost use Rattle.dispatcher.specs.Replies.{dispatchers, add_means, turn_means, tell_means, means, reply, lent};
 
 mod survey;

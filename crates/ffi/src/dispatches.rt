@@ -3,7 +3,7 @@
 ghost use Rattle.std.specs.Prelude.{◌≡◌};
 ghost use Rattle.dispatch_theory.specs.Dispatcher as Calls;
 ghost use Rattle.lent_records.specs.Records.{replies};
-ghost use Rattle.search.specs.Record.{opening_of};
+ghost use Rattle.machine.specs.Machine.{opening_of};
 ghost use Rattle.dispatcher.specs.Replies.{dispatchers};
 ghost use Rattle.ffi.specs.Dispatches.{Leaves, LeavesList};
 

@@ -1,7 +1,8 @@
 // The calls on a search, on a record that the caller lends: each is crate search's, and its answer in numbers.
 ghost use Rattle.std.specs.Prelude.{◌≡◌};
 ghost use Rattle.machine.specs.Calls as Calls;
-ghost use Rattle.search.specs.Record.{opening_of, fresh};
+ghost use Rattle.search.specs.Record.{fresh};
+ghost use Rattle.machine.specs.Machine.{opening_of};
 ghost use Rattle.ffi.specs.Searches.{Leaves, LeavesList};
 
 use crate::{Outcome, Reply};

@@ -13,7 +13,7 @@ ghost use Rattle.greedy.specs.Chosen.{ChosenIs};
 ghost use Rattle.tree_theory.specs.Arrays.{blank};
 
 use crate::charges::ChargedGraph;
-use crate::order::{FAR_KEYS, PLACES, place};
+use crate::order::{CHARGE_UNIT, FAR_KEYS, place};
 use graph::{MAX_EDGES, VERTEX_PLACES};
 
 // The label z where those that are high become low.
@@ -158,8 +158,8 @@ impl ChargedGraph<'_> {
         let near = reached(keys, FAR_KEYS);
         let at_1 = &keys[..near];
         let away = &keys[near..];
-        let must = reached(at_1, PLACES);
-        let required = reached(away, FAR_KEYS + PLACES);
+        let must = reached(at_1, CHARGE_UNIT);
+        let required = reached(away, FAR_KEYS + CHARGE_UNIT);
         let n = usize::from(self.graph.n);
         let enough = n - 2;
         let mut grown = Grown::none();

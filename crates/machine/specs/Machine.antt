@@ -139,6 +139,9 @@ pub record Opening : Type 0 where
   pub multipliers : List ℤ
   pub settings : Settings
 
+abbrev pub opening_of : Graph → List ℤ → Settings → Opening
+opening_of g d t = record { graph = g; multipliers = d; settings = t }
+
 -- a graph without what counts for nothing: "places past m count for nothing"
 unfoldable pub trimmed : Graph → Graph
 unfolding row place

@@ -17,7 +17,7 @@ use Rattle.tree_theory.specs.Inputs.{multiplier}
 use Rattle.tree_theory.specs.Scaled.{scaled_by}
 use Rattle.onetree.specs.Answers.{Reply, refused, none, bounded, tree_reply, tree_leaves, rule_reply, rule_leaves}
 use Rattle.machine.specs.declared.Settings.{Settings}
-use Rattle.machine.specs.Machine.{Opening, State, no_search}
+use Rattle.machine.specs.Machine.{Opening, State, no_search, opening_of}
 use Rattle.machine.specs.Calls.{opens, accepted, fault, step}
 use Rattle.machine.specs.Calls as machine
 
@@ -151,9 +151,6 @@ pub record OpeningExactly (o : Opening) : Type 0 where
   pub nothing : (fault o ≡ 0) ↔ Fine (opening_asks o)
 
 -- ---- "Two charts are the same when n, m and legs 1 to m agree; places past m count for nothing."
-
-abbrev pub opening_of : Graph → List ℤ → Settings → Opening
-opening_of g d s = record { graph = g; multipliers = d; settings = s }
 
 -- the same replies and the same bytes, of two values of the same chart
 pub record SameAnswers (g h : Graph) : Type 0 where

@@ -23,9 +23,9 @@ use Rattle.tree_theory.specs.Scaled.{scaled_by}
 use Rattle.tree_theory.specs.Enumeration.{least_tree, ruling}
 use Rattle.onetree.specs.Answers.{unless_fault, leaves, tree_fault, tree_says, tree_writes, tree_reply, tree_leaves, rule_fault, rule_says, rule_writes, rule_reply, rule_leaves}
 use Rattle.machine.specs.declared.Settings.{Settings}
-use Rattle.machine.specs.Machine.{Opening, State, no_search, searching, trimmed, held, begin}
+use Rattle.machine.specs.Machine.{Opening, State, no_search, searching, trimmed, held, begin, opening_of}
 use Rattle.machine.specs.Calls.{opens, accepted, accepts, fault, opened_by, step}
-use Rattle.onetree_theorems.specs.Calls.{opening_of, SameAnswers}
+use Rattle.onetree_theorems.specs.Calls.{SameAnswers}
 
 -- ---- one array
 

@@ -9,7 +9,7 @@ use Rattle.graph.specs.Limits.{max_vertices, max_edges}
 use Rattle.graph.specs.Valid.{Valid}
 use Rattle.onetree.specs.Answers.{rule_reply, rule_leaves}
 use Rattle.machine.specs.Calls.{Answer}
-use Rattle.search.specs.Record.{opening_of}
+use Rattle.machine.specs.Machine.{opening_of}
 use Rattle.reports.specs.Decimal.{decimal, signed_decimal, decimal_digit, decimal-more}
 use Rattle.reports.specs.Text.{edge_line}
 use Rattle.reports.specs.Input.{ceiling_size, chart_of}

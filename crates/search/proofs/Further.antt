@@ -16,11 +16,11 @@ use Rattle.graph.specs.Network.{place, Mark, free, required, excluded, mark_of}
 use Rattle.graph.specs.Places.{place_at, place_past}
 use Rattle.tree_theory.specs.Inputs.{ceiling_fits, multipliers_fit, denominator_fault}
 use Rattle.machine.specs.declared.Settings.{Settings}
-use Rattle.machine.specs.Machine.{Opening, trimmed, Node, Progress, open_top, ran}
+use Rattle.machine.specs.Machine.{Opening, trimmed, Node, Progress, open_top, ran, opening_of}
 use Rattle.machine.specs.Runs.{ran-opens, ran_empty, ran_full}
 use Rattle.mark_rows.specs.MarkRows.{rows_of, row_words, node_words, required_in}
 use Rattle.machine.specs.Calls.{fault}
-use Rattle.search.specs.Record.{max_nodes, rows_at, carried_size, no_settings, multipliers_at, opening_of, has_tour, opening_in}
+use Rattle.search.specs.Record.{max_nodes, rows_at, carried_size, no_settings, multipliers_at, has_tour, opening_in}
 use Rattle.search.specs.Canonical.{Zeros, GraphTidy, used_in, StackTidy, CarriedTidy, Tidy, Idle, StackFits, CarriedFits, Bits, Fits}
 use Rattle.search.specs.CheckLoops.{says-le, says_eq}
 use Rattle.search.specs.CheckParts as parts

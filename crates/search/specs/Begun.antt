@@ -13,7 +13,7 @@ use Rattle.graph.specs.Network.{free, mark_of, network}
 use Rattle.graph.specs.Places.{network_mark}
 use Rattle.graph.specs.Valid.{Valid}
 use Rattle.tree_theory.specs.Multipliers.{Ranged, fit_ranged}
-use Rattle.machine.specs.Machine.{Node, node_of, marks_of, Opening, Progress, trimmed, held, begin}
+use Rattle.machine.specs.Machine.{Node, node_of, marks_of, Opening, Progress, trimmed, held, begin, opening_of}
 use Rattle.machine.specs.Outcomes.{no_tour}
 use Rattle.machine.specs.Calls.{fault}
 use Rattle.machine.specs.Trimmed.{valid-trimmed}
@@ -21,7 +21,7 @@ use Rattle.machine.specs.Preserved.{accepts-held}
 use Rattle.mark_rows.specs.MarkRows.{node_words, rows_of}
 use Rattle.mark_rows.proofs.Building.{no_bits}
 use Rattle.node.specs.Marks.{marks_in}
-use Rattle.search.specs.Record.{stack_size, carried_size, word_at, multiplier_at, stack_words, carried_of, has_incumbent, best_bytes, opening_of, record_of}
+use Rattle.search.specs.Record.{stack_size, carried_size, word_at, multiplier_at, stack_words, carried_of, has_incumbent, best_bytes, record_of}
 use Rattle.search.specs.Cells.{rows_places, carried_places, cells_empty}
 use Rattle.search.specs.Pushing.{PutRows, PutCarried, pushed, carried_pushed}
 use Rattle.search.specs.declared.Search.{Search}

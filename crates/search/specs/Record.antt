@@ -3,12 +3,11 @@
 use Rattle.std.specs.Prelude.{Bool, true, false, cond, List, [], ◌∷◌, ℕ, zero, suc, ◌+◌, ◌*◌, ◌/◌, ◌%◌, eqb, length, get_or, replicate, ℤ, pos}
 use Rattle.lists.specs.Bools.{bit}
 use Rattle.lists.specs.Fill.{fill, fit}
-use Rattle.graph.specs.declared.Graph.{Graph}
 use Rattle.graph.specs.Limits.{max_vertices, max_edges}
 use Rattle.graph.specs.Edgeless.{edgeless}
 use Rattle.machine.specs.declared.Settings.{Settings}
 use Rattle.machine.specs.Outcomes.{Incumbent, no_tour, a_tour}
-use Rattle.machine.specs.Machine.{Marks, Node, node_of, Opening, Progress, State, no_search, searching}
+use Rattle.machine.specs.Machine.{Marks, Node, node_of, Opening, Progress, State, no_search, searching, opening_of}
 use Rattle.mark_rows.specs.MarkRows.{node_words, rows_of, marks_in_rows}
 use Rattle.node.specs.Marks.{bytes_of_tour}
 use Rattle.search.specs.declared.Search.{Search}
@@ -125,10 +124,6 @@ is_open s = eqb s.«open» 1
 
 abbrev pub has_tour : Search → Bool
 has_tour s = eqb s.has_best 1
-
--- the arguments of an opening
-abbrev pub opening_of : Graph → List ℤ → Settings → Opening
-opening_of g d t = record { graph = g; multipliers = d; settings = t }
 
 -- the opening that a record holds; the multipliers are the first n
 unfoldable pub opening_in : Search → Opening

@@ -5,7 +5,8 @@
 ghost use Rattle.std.specs.Prelude.{◌≡◌, true, OnOk};
 ghost use Rattle.machine.specs.Calls as Calls;
 ghost use Rattle.graph.specs.Refusals.{fault_of};
-ghost use Rattle.search.specs.Record.{fresh, opening_of};
+ghost use Rattle.search.specs.Record.{fresh};
+ghost use Rattle.machine.specs.Machine.{opening_of};
 ghost use Rattle.search.specs.Check.{check};
 ghost use Rattle.search.specs.Seen.{state_in, Again};
 ghost use Rattle.search.specs.Replies.{closed_fault, means, run_means, tell_means, reply, lent};

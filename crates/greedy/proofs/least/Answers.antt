@@ -22,12 +22,3 @@ returns-in_err-q c =
       fault = c.in_err-q.ensures.fault ∙ sym (fault_next c.args.g.now c.args.multipliers.now c.args.g.now.m _ (sym new.fault));
       leaves = refl;
     })
-
-pub returns : goal.returns
-returns c =
-    let new = rw c.from.ensures at c.in_ok-checked.ensures in
-    let q = c.in_ok-q.ensures in
-    record {
-      fault = q.fault ∙ sym (fault_next c.args.g.now c.args.multipliers.now c.args.g.now.m _ (sym new.fault));
-      leaves = rw (new.same.0, new.same.1, q.same) at c.least.ensures;
-    }

@@ -3,7 +3,7 @@ use Rattle.std.proofs.Common.{ap, ◌∙◌, Option, ℕ, rules}
 use Rattle.std.specs.Option.{unwrap_or}
 use Rattle.integers.specs.Words.{back64}
 use Rattle.machine.specs.Calls.{opens, run}
-use Rattle.search.specs.Record.{opening_of}
+use Rattle.machine.specs.Machine.{opening_of}
 use Rattle.search.specs.Replies.{reply}
 use Rattle.search.specs.declared.Search.{Search}
 use Rattle.compare.specs.Comparison.{finished_in}

@@ -4,7 +4,7 @@ use Rattle.graph.specs.declared.refusals.Refusal.TheVariants.{Full}
 use Rattle.graph.specs.Refusals.{number}
 use Rattle.machine.specs.Calls.{is_accepted}
 use Rattle.lent_records.specs.Places.{place_some}
-use Rattle.search.specs.Record.{opening_of}
+use Rattle.machine.specs.Machine.{opening_of}
 use Rattle.search.specs.Unless.{lacks_value}
 use Rattle.search.specs.declared.Search.{Search}
 use Rattle.dispatch_theory.specs.Dispatcher.{free_place}

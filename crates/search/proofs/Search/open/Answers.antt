@@ -3,9 +3,8 @@ use Rattle.std.proofs.Common.{rules, ◌≡◌, refl, sym, ◌∙◌, Err}
 use Rattle.std.proofs.lemmas.Bool.{not-true, not-false}
 use Rattle.graph.specs.declared.refusals.Refusal.TheVariants.{Record, AlreadyOpen}
 use Rattle.graph.specs.Refusals.{number, not-zero}
-use Rattle.machine.specs.Machine.{Opening}
+use Rattle.machine.specs.Machine.{Opening, opening_of}
 use Rattle.machine.specs.Calls.{opens}
-use Rattle.search.specs.Record.{opening_of}
 use Rattle.search.specs.ReplyCases.{reply_24, open_21, open_fault, open_done}
 use Rattle.search.specs.Unless.{unless_refused}
 use Rattle.search.proofs.Closed.{parts}

@@ -9,7 +9,8 @@ use Rattle.lists.specs.Fill.{fit}
 use Rattle.lists.specs.Filling.{take-fit}
 use Rattle.machine.specs.Calls.{fault}
 use Rattle.node.specs.Faults.{too_many}
-use Rattle.search.specs.Record.{opening_of, opening_in}
+use Rattle.search.specs.Record.{opening_in}
+use Rattle.machine.specs.Machine.{opening_of}
 use Rattle.search.specs.CheckLoops.{says-le}
 use Rattle.search.specs.declared.Search.{Search}
 use Rattle.search.proofs.Search.opening_fits.Goals as goal

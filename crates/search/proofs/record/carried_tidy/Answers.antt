@@ -4,8 +4,8 @@ use Rattle.std.proofs.lemmas.Iterator.{YieldsList-from_range, cases_from_all}
 use Rattle.lists.specs.Bools.{Says, says_yes, says_both}
 use Rattle.search.specs.Canonical.{Zeros}
 use Rattle.search.specs.Record.{multipliers_at}
-use Rattle.search.specs.CheckParts.{carried_nodes, carried_past, carried_whole}
-use Rattle.search.specs.CheckLoops.{says_fails, says_below}
+use Rattle.search.specs.CheckParts.{carried_past, carried_whole}
+use Rattle.search.specs.CheckLoops.{says_below}
 use Rattle.search.proofs.record.carried_tidy.Goals as goal
 
 -- what node p carries is zero past n
@@ -23,13 +23,3 @@ returns-then-all c =
     says_both c.zero_from.result
     (λ z. carried_whole _ _ _ a.carried.now u z (says_yes c.all.result nodes c.if-all.true))
     (carried_past _ _ _ a.carried.now u) c.zero_from.ensures
-
-pub returns-else-all : goal.returns-else-all
-returns-else-all c =
-    let a = c.args in
-    let u = c.min-used.ensures in
-    let nodes : Says c.all.result ((p : ℕ) → p < c.min-used.result → Tidied a.n a.carried.now p) =
-    says_below _ (Tidied a.n a.carried.now) _
-    (cases_from_all _ _ _ (Tidied a.n a.carried.now) (λ p. Tidied a.n a.carried.now p → ⊥) c.all.ensures.ran
-    (YieldsList-from_range 0 c.min-used.result c.min-used.result refl (omega arith)) (λ p q k. search (rules, tests)) (λ p q k. search (rules, tests))) in
-    says_fails c.all.result nodes c.if-all.false (λ t p l. carried_nodes _ _ _ a.carried.now u t p l)

@@ -5,7 +5,7 @@
 int main(void) {
     static planner_search s;
     planner_graph g = {{4, 3, 5, 2, 6, 1}, {1, 1, 1, 2, 2, 3}, {2, 3, 4, 3, 4, 4}, {0}, 4, 6};
-    planner_settings settings = {12, 0, 0, 1}; /* ceiling, sweeps, step, denominator */
+    planner_settings settings = {12, 0, 0, 1, 0}; /* ceiling, sweeps, step, denominator, lifting */
     int32_t multipliers[4] = {0};
     uint8_t out[6];
 

@@ -13,7 +13,7 @@ static void print(const Bytes &bytes) {
 
 int main() {
     const planner_graph g = {{4, 3, 5, 2, 6, 1}, {1, 1, 1, 2, 2, 3}, {2, 3, 4, 3, 4, 4}, {}, 4, 6};
-    const planner_settings settings = {12, 0, 0, 1}; // ceiling, sweeps, step, denominator
+    const planner_settings settings = {12, 0, 0, 1, 0}; // ceiling, sweeps, step, denominator, lifting
     const std::array<std::int32_t, 4> multipliers = {};
     Bytes out = {};
 

@@ -30,6 +30,7 @@ fn main() -> Result<(), Refusal> {
         sweeps: 0,
         step: 0,
         denominator,
+        lifting: 0,
     };
     let mut search = Search::fresh();
     search.open(&graph, &multipliers, settings)?;

@@ -64,11 +64,14 @@ typedef struct {
 } planner_graph;
 
 /* What an opening takes beside the graph and the multipliers. Multipliers, step and bounds count in parts of a cost's unit, as many to the unit as
- * the denominator says (1 to PLANNER_DENOMINATOR; with 1 they count as costs do). Ceilings and the costs of tours count in the unit itself. */
+ * the denominator says (1 to PLANNER_DENOMINATOR; with 1 they count as costs do). Ceilings and the costs of tours count in the unit itself. With
+ * lifting (0 no, 1 yes; any other number but 0 is yes) each edge that a pass keeps is tried again under multipliers lifted for it alone: as a
+ * rule a search opens fewer nodes, and each takes longer; the verdict and the cost are the same. */
 typedef struct {
     int64_t ceiling;
     uint32_t sweeps, step;
     uint64_t denominator;
+    uint64_t lifting;
 } planner_settings;
 
 /* What a simulation answers: 0 with the total and the last state, or a refusal. */
@@ -79,11 +82,12 @@ typedef struct {
     uint64_t state;
 } planner_sailed;
 
-/* What every search of a comparison has alike. */
+/* What every search of a comparison has alike; lifting as in planner_settings. */
 typedef struct {
     int64_t ceiling;
     uint64_t budget;
     uint64_t denominator;
+    uint64_t lifting;
 } planner_terms;
 
 /* A search record (docs/RECORD.md). Begin with planner_fresh; write nothing in it. A node of the stack is two rows of bits, that of its required
@@ -213,15 +217,16 @@ planner_reply planner_close_at(planner_dispatcher *d, size_t place);
 PLANNER_ASSERT(sizeof(planner_graph) == 1332);
 PLANNER_ASSERT(offsetof(planner_graph, cost) == 0 && offsetof(planner_graph, a) == 760 && offsetof(planner_graph, b) == 950);
 PLANNER_ASSERT(offsetof(planner_graph, mark) == 1140 && offsetof(planner_graph, n) == 1330 && offsetof(planner_graph, m) == 1331);
-PLANNER_ASSERT(sizeof(planner_settings) == 24);
+PLANNER_ASSERT(sizeof(planner_settings) == 32);
 PLANNER_ASSERT(offsetof(planner_settings, ceiling) == 0 && offsetof(planner_settings, sweeps) == 8);
 PLANNER_ASSERT(offsetof(planner_settings, step) == 12 && offsetof(planner_settings, denominator) == 16);
-PLANNER_ASSERT(sizeof(planner_search) == 4464);
-PLANNER_ASSERT(offsetof(planner_search, settings) == 0 && offsetof(planner_search, upper) == 24 && offsetof(planner_search, count) == 32);
-PLANNER_ASSERT(offsetof(planner_search, stack) == 40 && offsetof(planner_search, depth) == 1096 && offsetof(planner_search, graph) == 1100);
-PLANNER_ASSERT(offsetof(planner_search, multipliers) == 2432 && offsetof(planner_search, carried) == 2512);
-PLANNER_ASSERT(offsetof(planner_search, best) == 4272);
-PLANNER_ASSERT(offsetof(planner_search, open) == 4462 && offsetof(planner_search, has_best) == 4463);
+PLANNER_ASSERT(offsetof(planner_settings, lifting) == 24);
+PLANNER_ASSERT(sizeof(planner_search) == 4472);
+PLANNER_ASSERT(offsetof(planner_search, settings) == 0 && offsetof(planner_search, upper) == 32 && offsetof(planner_search, count) == 40);
+PLANNER_ASSERT(offsetof(planner_search, stack) == 48 && offsetof(planner_search, depth) == 1104 && offsetof(planner_search, graph) == 1108);
+PLANNER_ASSERT(offsetof(planner_search, multipliers) == 2440 && offsetof(planner_search, carried) == 2520);
+PLANNER_ASSERT(offsetof(planner_search, best) == 4280);
+PLANNER_ASSERT(offsetof(planner_search, open) == 4470 && offsetof(planner_search, has_best) == 4471);
 PLANNER_ASSERT(sizeof(planner_shelf) == PLANNER_PLACES * sizeof(planner_search));
 PLANNER_ASSERT(sizeof(planner_dispatcher) == sizeof(size_t) + PLANNER_PLACES * sizeof(planner_search));
 PLANNER_ASSERT(offsetof(planner_dispatcher, last) == 0 && offsetof(planner_dispatcher, places) == sizeof(size_t));
@@ -229,8 +234,8 @@ PLANNER_ASSERT(sizeof(planner_reply) == 32 && offsetof(planner_reply, number) ==
 PLANNER_ASSERT(offsetof(planner_reply, value) == 16 && offsetof(planner_reply, nodes) == 24);
 PLANNER_ASSERT(sizeof(planner_sailed) == 32 && offsetof(planner_sailed, number) == 0 && offsetof(planner_sailed, place) == 8);
 PLANNER_ASSERT(offsetof(planner_sailed, total) == 16 && offsetof(planner_sailed, state) == 24);
-PLANNER_ASSERT(sizeof(planner_terms) == 24 && offsetof(planner_terms, ceiling) == 0 && offsetof(planner_terms, budget) == 8);
-PLANNER_ASSERT(offsetof(planner_terms, denominator) == 16);
+PLANNER_ASSERT(sizeof(planner_terms) == 32 && offsetof(planner_terms, ceiling) == 0 && offsetof(planner_terms, budget) == 8);
+PLANNER_ASSERT(offsetof(planner_terms, denominator) == 16 && offsetof(planner_terms, lifting) == 24);
 #undef PLANNER_ASSERT
 #endif
 

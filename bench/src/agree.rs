@@ -1,6 +1,6 @@
 //! Before anything is timed: all sides agree on graphs that the tables do not have, small and
 //! sparse ones with marks of all three kinds, many equal costs, and costs, multipliers and ceilings
-//! at their limits.
+//! at their limits; and every node that waits is compared.
 
 use crate::fast::Verdict;
 use crate::forms::Forms;
@@ -9,7 +9,7 @@ use crate::inputs::{
     VERTICES,
 };
 use crate::ours::Ours;
-use crate::planner::{Job, Planner, Reference};
+use crate::planner::{Job, Planner, Reference, Stored};
 
 /// How many graphs.
 const CASES: u64 = 3_000;
@@ -74,7 +74,7 @@ fn same<T: PartialEq + std::fmt::Debug>(
     ours
 }
 
-/// Tree, rulings under ceilings about the bound, and a short search.
+/// Tree, rulings under ceilings about the bound, and a short search without lifting and with it.
 fn one_graph(random: &mut Random) {
     let graph = sparse(random);
     let d = any_multipliers(random, graph.n());
@@ -84,25 +84,26 @@ fn one_graph(random: &mut Random) {
     same("rule", |side, out| {
         side.rule(&graph, &d, ceiling, &mut out[..m])
     });
-    let job = Job {
+    let mut job = Job {
         ceiling,
         sweeps: random.below(16) as u32,
         step: [0, 1, 20, 10_000][random.below(4)],
+        lifting: 0,
         budget: random.below(60) as u64,
         multipliers: d,
         graph,
     };
     same("search", |side, out| search(side, &job, &mut out[..m]));
+    job.lifting = [1, 2, u64::MAX][random.below(3)];
+    same("lifted search", |side, out| {
+        search(side, &job, &mut out[..m])
+    });
 }
 
-fn search(
-    side: &mut dyn Planner,
-    job: &Job,
-    out: &mut [u8],
-) -> (bool, (i64, usize), (Verdict, u64)) {
+fn search(side: &mut dyn Planner, job: &Job, out: &mut [u8]) -> (bool, Stored, (Verdict, u64)) {
     side.open(job);
     let finished = side.run(job.budget);
-    (finished, side.state(), side.finish(out))
+    (finished, side.stored(), side.finish(out))
 }
 
 pub fn check() {

@@ -28,13 +28,13 @@ impl Options {
     }
 }
 
-const SIZES: [usize; 4] = [8, 12, 16, 20];
+pub const SIZES: [usize; 4] = [8, 12, 16, 20];
 
 /// Nodes that a search may open; without passes there can be millions.
 pub const BUDGET: u64 = 20_000;
 
 /// Sweeps and their step.
-const NO_SWEEPS: (u32, u32) = (0, 0);
+pub const NO_SWEEPS: (u32, u32) = (0, 0);
 pub const SWEEPS: (u32, u32) = (15, 20);
 
 /// The ceiling of a search.
@@ -77,6 +77,7 @@ pub fn job(graph: Graph, ceiling: Ceiling, (sweeps, step): (u32, u32)) -> Job {
         graph,
         sweeps,
         step,
+        lifting: 0,
         budget: BUDGET,
     }
 }

@@ -5,10 +5,13 @@
 
 mod agree;
 mod clock;
+#[cfg(test)]
+mod definition;
 mod dynamic;
 mod fast;
 mod forms;
 mod inputs;
+mod lifted;
 mod lines;
 mod measure;
 mod optimum;
@@ -73,6 +76,7 @@ fn main() {
     let mut tables = lines::searches(&options);
     tables.extend(lines::calls(&options));
     tables.extend(optimum::lines(&options));
+    tables.extend(lifted::lines(&options));
     if ours {
         recent::lines(&options);
         turns::lines(&options);

@@ -77,6 +77,15 @@ impl<T: Copy> Sides<T> {
         }
     }
 
+    /// Each side's beside its other.
+    pub fn beside<U: Copy, V>(self, other: Sides<U>, f: impl Fn(T, U) -> V) -> Sides<V> {
+        Sides {
+            ours: f(self.ours, other.ours),
+            forms: f(self.forms, other.forms),
+            free: f(self.free, other.free),
+        }
+    }
+
     pub fn map<U>(self, f: impl Fn(T) -> U) -> Sides<U> {
         Sides {
             ours: f(self.ours),
@@ -128,25 +137,32 @@ fn repeat(plan: &Plan, mut turn: impl FnMut()) {
 
 /// The least times of all sides on one search; they must come to the same.
 pub fn search(plan: &Plan, job: &Job) -> (Sides<Times>, Outcome) {
+    let [one] = searches(plan, [job]);
+    one
+}
+
+/// The same of several searches by turns.
+pub fn searches<const N: usize>(plan: &Plan, jobs: [&Job; N]) -> [(Sides<Times>, Outcome); N] {
     let (mut ours, mut forms, mut free) = (Ours::new(), Forms::new(), Reference::new());
-    let mut times = Sides::all(Times::LONGEST);
-    let mut last = None;
-    let mut note = |least: &mut Times, (time, outcome): (Times, Outcome)| {
-        *least = least.least(time);
-        agree(&mut last, outcome);
-    };
+    let mut all = [(Sides::all(Times::LONGEST), None); N];
     repeat(plan, || {
-        if plan.wanted.ours {
-            note(&mut times.ours, search_once(&mut ours, job));
-        }
-        if plan.wanted.forms {
-            note(&mut times.forms, search_once(&mut forms, job));
-        }
-        if plan.wanted.free {
-            note(&mut times.free, search_once(&mut free, job));
+        for (job, (times, last)) in jobs.iter().zip(&mut all) {
+            let mut note = |least: &mut Times, (time, outcome): (Times, Outcome)| {
+                *least = least.least(time);
+                agree(last, outcome);
+            };
+            if plan.wanted.ours {
+                note(&mut times.ours, search_once(&mut ours, job));
+            }
+            if plan.wanted.forms {
+                note(&mut times.forms, search_once(&mut forms, job));
+            }
+            if plan.wanted.free {
+                note(&mut times.free, search_once(&mut free, job));
+            }
         }
     });
-    (times, last.expect("a side runs"))
+    all.map(|(times, last)| (times, last.expect("a side runs")))
 }
 
 fn agree<T: PartialEq + std::fmt::Debug + Copy>(last: &mut Option<T>, now: T) {

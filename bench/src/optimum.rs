@@ -7,7 +7,7 @@ use crate::lines::{job, Ceiling, Options, SWEEPS};
 use crate::measure::{self, Sides};
 use crate::table::{number, Table};
 
-const SIZES: [usize; 3] = [12, 16, 20];
+pub const SIZES: [usize; 3] = [12, 16, 20];
 
 /// One search from open to close, and dynamic programming on the same graph.
 struct Result {

@@ -2,8 +2,8 @@
 
 use crate::fast::Verdict;
 use crate::inputs::Graph;
-use crate::planner::{Job, Planner};
-use ::planner::raw::{self, Reply};
+use crate::planner::{Job, Planner, Stored};
+use ::planner::raw::{self, Reply, ROW, VERTICES};
 use ::planner::Settings;
 
 pub struct Ours(Box<raw::Record>);
@@ -33,6 +33,7 @@ impl Planner for Ours {
             sweeps: job.sweeps,
             step: job.step,
             denominator: 1,
+            lifting: job.lifting,
         };
         let record = &mut *self.0;
         let said = unsafe { raw::planner_open(record, job.graph.0, d.as_ptr(), d.len(), settings) };
@@ -46,6 +47,24 @@ impl Planner for Ours {
 
     fn state(&self) -> (i64, usize) {
         (self.0.upper, self.0.depth as usize)
+    }
+
+    fn stored(&self) -> Stored {
+        let record = &self.0;
+        let (n, m) = (record.graph.n as usize, record.graph.m as usize);
+        let bit = |row: usize, k: usize| record.stack[row * ROW + k / 64] >> (k % 64) & 1;
+        let mark = |p: usize, k: usize| (bit(2 * p, k) + 2 * bit(2 * p + 1, k)) as u8;
+        let view = |p: usize| {
+            let marks = (0..m).map(|k| mark(p, k)).collect();
+            let d = &record.carried[p * VERTICES..][..n];
+            (marks, d.to_vec())
+        };
+        Stored {
+            upper: record.upper,
+            count: record.count,
+            nodes: (0..record.depth as usize).map(view).collect(),
+            best: (record.has_best == 1).then(|| record.best[..m].to_vec()),
+        }
     }
 
     fn finish(&mut self, tour: &mut [u8]) -> (Verdict, u64) {

@@ -11,6 +11,8 @@ pub struct Job {
     pub ceiling: i64,
     pub sweeps: u32,
     pub step: u32,
+    /// document 02's C-13, 1 with and 0 without
+    pub lifting: u64,
     pub budget: u64,
 }
 
@@ -25,11 +27,22 @@ pub struct Outcome {
     pub tour: [u8; PLACES],
 }
 
+/// All that a search stores, in one form for all sides.
+#[derive(PartialEq, Eq, Debug)]
+pub struct Stored {
+    pub upper: i64,
+    pub count: u64,
+    /// nodes that wait, from bottom to top: the mark of each edge, and the multipliers
+    pub nodes: Vec<(Vec<u8>, Vec<i32>)>,
+    pub best: Option<Vec<u8>>,
+}
+
 pub trait Planner {
     fn open(&mut self, job: &Job);
     fn run(&mut self, budget: u64) -> bool;
     /// The upper bound and how many nodes wait.
     fn state(&self) -> (i64, usize);
+    fn stored(&self) -> Stored;
     /// Tell, show where there is a tour, and close.
     fn finish(&mut self, tour: &mut [u8]) -> (Verdict, u64);
     fn tree(&mut self, graph: &Graph, d: &[i32], out: &mut [u8]) -> Option<i64>;
@@ -52,7 +65,8 @@ impl Reference {
 impl Planner for Reference {
     fn open(&mut self, job: &Job) {
         let d = &job.multipliers;
-        let search = fast::Search::open(&job.graph, d, job.ceiling, job.sweeps, job.step);
+        let (graph, ceiling) = (&job.graph, job.ceiling);
+        let search = fast::Search::open(graph, d, ceiling, job.sweeps, job.step, job.lifting);
         self.0 = Some(search);
     }
 
@@ -62,6 +76,10 @@ impl Planner for Reference {
 
     fn state(&self) -> (i64, usize) {
         self.search().state()
+    }
+
+    fn stored(&self) -> Stored {
+        self.search().stored()
     }
 
     fn finish(&mut self, tour: &mut [u8]) -> (Verdict, u64) {

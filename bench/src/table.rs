@@ -21,12 +21,15 @@ pub fn number(value: f64, digits: usize) -> String {
 impl Table {
     /// Prints the title and the head: a name, the given columns, then those of the three sides.
     pub fn new(title: &str, columns: &str, unit: &str) -> Table {
+        let sides = format!("ours, {unit} | in the forms, {unit} | ratio | free, {unit} | ratio");
+        Table::of(title, &format!("{columns} | {sides}"))
+    }
+
+    /// Prints the title and a head with these columns after the name; whoever prints the rows gives the ratios to `note`.
+    pub fn of(title: &str, columns: &str) -> Table {
         println!("\n## {title}\n");
-        println!(
-            "| line | {columns} | ours, {unit} | in the forms, {unit} | ratio | free, {unit} | ratio |"
-        );
-        let cells = columns.split('|').count() + 5;
-        println!("|---|{}", "---:|".repeat(cells));
+        println!("| line | {columns} |");
+        println!("|---|{}", "---:|".repeat(columns.split('|').count()));
         Table {
             title: title.to_string(),
             forms: Vec::new(),
@@ -42,10 +45,16 @@ impl Table {
     }
 
     pub fn row(&mut self, name: &str, cells: &str, time: Sides<f64>) {
+        let [forms, free] = self.note(time);
+        print_row(name, cells, time, forms, free);
+    }
+
+    /// Ours to each of the references, also for the summary.
+    pub fn note(&mut self, time: Sides<f64>) -> [f64; 2] {
         let ratios = [time.ours / time.forms, time.ours / time.free];
         self.forms.extend(Some(ratios[0]).filter(|r| r.is_finite()));
         self.free.extend(Some(ratios[1]).filter(|r| r.is_finite()));
-        print_row(name, cells, time, ratios[0], ratios[1]);
+        ratios
     }
 
     /// One line of the summary.

@@ -20,6 +20,7 @@ fn eight(kind: Kind) -> (Dispatcher, Vec<Search>) {
             sweeps: 0,
             step: 0,
             denominator: 1,
+            lifting: 0,
         };
         let place = class.add(&graph.0, &[0; 20], settings);
         assert_eq!(place, Ok(number as usize), "add refused");

@@ -74,10 +74,14 @@ def simulate(chart: Chart, edges: Sequence[int], student: int, spread: int) -> S
 
 
 def compare(
-    chart: Chart, ceiling: int, budget: int, pairs: Sequence[tuple[int, int]], multipliers: Sequence[int] | None = None, denominator: int = 1
-) -> tuple[int, ...]:
-    """For each pair of sweeps and step the count of nodes with which a search finishes, or 0 if it is still going on after the budget."""
-    return _library.compare(graph_of(chart), ceiling, budget, pairs, multipliers, denominator)
+    chart: Chart, ceiling: int, budget: int, pairs: Sequence[tuple[int, int]], multipliers: Sequence[int] | None = None, denominator: int = 1,
+    lifting: bool = False,
+) -> tuple[int, ...]:  # fmt: skip
+    """For each pair of sweeps and step the count of nodes with which a search finishes, or 0 if it is still going on after the budget.
+
+    With lifting each edge that a pass keeps is tried again under multipliers lifted for it alone.
+    """
+    return _library.compare(graph_of(chart), ceiling, budget, pairs, multipliers, denominator, lifting)
 
 
 __all__ = [

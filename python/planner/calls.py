@@ -1,8 +1,8 @@
 """A script of calls, one answer a line: what a line says is sent to the library as it is, and the library judges it.
 
 One search record, one shelf of saved searches and one dispatcher serve the whole script. Settings print nothing: the current chart ('sea',
-'chart'), the dues, the length of the next list that is lent ('list'), the denominator. Calls print one line: tree, preview, rule, recent,
-simulate, compare, open, run, tell, show, close, save, back, add, turn, tellat, showat, closeat.
+'chart'), the dues, the length of the next list that is lent ('list'), the denominator, lifting. Calls print one line: tree, preview, rule,
+recent, simulate, compare, open, run, tell, show, close, save, back, add, turn, tellat, showat, closeat.
 """
 from __future__ import annotations
 
@@ -10,7 +10,7 @@ import re
 from collections.abc import Callable, Iterator
 from typing import IO
 
-from .faults import Faults, shown, whole_number
+from .faults import Faults, shown, whole_number, yes_or_no
 from .formats import LONGEST, load
 from .library import (
     BYTE, EXCLUDED, FREE, INT32, INT64, REQUIRED, UINT32, UINT64, Dispatcher, Edge, Graph, Refused, Search, Shelf, Told, Tree, compare, preview,
@@ -51,6 +51,7 @@ class Script:
         self.use(Graph(0))
         self.settings: dict[str, Callable[[list[str]], None]] = {
             "sea": self.sea, "dues": self.set_dues, "list": self.set_list, "denominator": self.set_denominator,
+            "lifting": self.set_lifting,
         }  # fmt: skip
         self.calls: dict[str, Callable[..., Answer]] = {name: getattr(self, name) for name in FORMS}
 
@@ -60,7 +61,7 @@ class Script:
         """A chart becomes the current one, and every other setting what it is at first."""
         self.graph, self.dues = graph, [0] * graph.n
         self.length: int | None = None
-        self.denominator = 1
+        self.denominator, self.lifting = 1, False
 
     def sea(self, words: list[str]) -> None:
         """The chart that a line says."""
@@ -96,6 +97,11 @@ class Script:
         """How many parts of a minute dues, step and bounds count in."""
         (word,) = taken(words, "denominator Q")
         self.denominator = whole_number(word, "denominator", UINT64)
+
+    def set_lifting(self, words: list[str]) -> None:
+        """Whether hunts try each leg that a pass keeps again under dues lifted for it alone."""
+        (word,) = taken(words, "lifting yes|no")
+        self.lifting = yes_or_no(word, "lifting")
 
     def next_length(self) -> int:
         """The length of the list for this call; a length said serves one call."""
@@ -141,13 +147,13 @@ class Script:
         """A hunt for each pair of sweeps and step."""
         read = [pair(word) for word in pairs]
         top, allowance = whole_number(ceiling, "ceiling", INT64), whole_number(budget, "budget", UINT64)
-        counts = compare(self.graph, top, allowance, read, self.dues, self.denominator)
+        counts = compare(self.graph, top, allowance, read, self.dues, self.denominator, self.lifting)
         return f"nodes {listed(counts)}", {"nodes": counts}
 
     def open(self, ceiling: str, sweeps: str, step: str) -> Answer:
         """An opening."""
         number, passes, gain = whole_number(ceiling, "ceiling", INT64), whole_number(sweeps, "sweeps", UINT32), whole_number(step, "step", UINT32)
-        self.search.open(self.graph, number, passes, gain, self.dues, self.denominator)
+        self.search.open(self.graph, number, passes, gain, self.dues, self.denominator, self.lifting)
         return "accepted", {"verdict": "accepted"}
 
     def run(self, budget: str) -> Answer:
@@ -187,7 +193,7 @@ class Script:
     def add(self, ceiling: str, sweeps: str, step: str) -> Answer:
         """A hunt more for the dispatcher."""
         numbers = whole_number(ceiling, "ceiling", INT64), whole_number(sweeps, "sweeps", UINT32), whole_number(step, "step", UINT32)
-        place = self.dispatcher.add(self.graph, *numbers, self.dues, self.denominator)
+        place = self.dispatcher.add(self.graph, *numbers, self.dues, self.denominator, self.lifting)
         return f"place {place}", {"place": place}
 
     def turn(self, nodes: str) -> Answer:
@@ -224,7 +230,7 @@ class Script:
             self.settings[name](rest)
             return None
         if name not in self.calls:
-            raise Faults(f"'{shown(name)}' is unknown; allowed are sea, chart, dues, list, denominator, {', '.join(FORMS)}")
+            raise Faults(f"'{shown(name)}' is unknown; allowed are sea, chart, dues, list, denominator, lifting, {', '.join(FORMS)}")
         try:
             return self.calls[name](*taken(rest, FORMS[name]))
         except Refused as refused:

@@ -1,6 +1,6 @@
 """Up to eight seas on one machine: their hunts take turns on a dispatcher, and each is told as soon as it is finished.
 
-Every answer is the library's. What is chosen here, ceilings, dues, sweeps, step and denominator, decides how long a hunt takes: see search.py.
+Every answer is the library's. What is chosen here, ceilings, dues, sweeps, step, denominator and lifting, decides how long a hunt takes: see search.py.
 """
 from __future__ import annotations
 
@@ -8,7 +8,7 @@ from collections.abc import Callable, Iterator, Sequence
 from typing import NamedTuple
 
 from .library import HIGHEST_TOUR, STEPS, SWEEPS, Dispatcher, Graph
-from .search import SWEEP_SHARE, Answer, ascent_of, guessed_cost, spread, within
+from .search import SWEEP_SHARE, Answer, ascent_of, guessed_cost, lifts, spread, within
 
 TURN = 1_000  # nodes of a turn: some hundredths of a second at 20 vertices
 
@@ -22,10 +22,11 @@ class Hunt(NamedTuple):
 
 
 def add(dispatcher: Dispatcher, hunt: Hunt) -> int:
-    """A hunt with dues, sweeps, step and denominator that fit its sea; its place."""
+    """A hunt with dues, sweeps, step, denominator and lifting that fit its sea; its place."""
     ascent = ascent_of(hunt.graph)
     step = within(spread(hunt.graph, ascent.denominator) // SWEEP_SHARE, STEPS[1:])
-    return dispatcher.add(hunt.graph, hunt.ceiling, SWEEPS[-1], step, ascent.reach(hunt.ceiling), ascent.denominator)
+    dues = ascent.reach(hunt.ceiling)
+    return dispatcher.add(hunt.graph, hunt.ceiling, SWEEPS[-1], step, dues, ascent.denominator, lifts(hunt.graph))
 
 
 class Class:

@@ -12,7 +12,7 @@ from typing import Any, NamedTuple, NoReturn
 from . import formats
 from .calls import pair
 from .classroom import TURN
-from .faults import Faults, shown, span, whole_number
+from .faults import Faults, shown, span, whole_number, yes_or_no
 from .library import DENOMINATORS, HIGHEST_TOUR, INT32, INT64, UINT32, UINT64, WINDOWS
 from .output import OutputLost, complain, say, silence
 from .search import LONG
@@ -71,6 +71,14 @@ def pairs(text: str) -> list[tuple[int, int]]:
     """Pairs of the command line: 0/0,15/10."""
     try:
         return [pair(word) for word in text.replace(",", " ").split()]
+    except Faults as fault:
+        raise argparse.ArgumentTypeError(str(fault)) from None
+
+
+def lifting(word: str) -> bool:
+    """A yes or no of the command line."""
+    try:
+        return yes_or_no(word, "lifting")
     except Faults as fault:
         raise argparse.ArgumentTypeError(str(fault)) from None
 
@@ -163,7 +171,12 @@ COMMANDS = (
             **FILE, "--pairs": {"metavar": "S/P,..", "type": pairs, "default": PAIRS, "help": f"sweeps and step, 1 to 16 pairs ({PAIRS_SAID})"},
             "--ceiling": {**CEILING, "default": HIGHEST_TOUR, "help": "only rounds that cost at most this"},
             "--allowance": {"metavar": "N", "type": number_of("allowance", UINT64), "default": 10_000, "help": "nodes for each pair (10,000)"},
-            **DUES, **JSON,
+            **DUES,
+            "--lifting": {
+                "metavar": "yes|no", "type": lifting, "default": False,
+                "help": "yes: try each leg that a pass keeps again under dues lifted for it alone; as a rule fewer nodes, each takes longer (no)",
+            },
+            **JSON,
         },
         "compare examples/four.txt --ceiling 12",
     ),

@@ -1,4 +1,4 @@
-"""What is wrong with a file or a command, said to a person; and numbers in words, read with what is allowed."""
+"""What is wrong with a file or a command, said to a person; and numbers, yes and no in words, read with what is allowed."""
 from __future__ import annotations
 
 import re
@@ -41,3 +41,10 @@ def whole_number(word: str, what: str, allowed: range) -> int:
     if value not in allowed:
         raise Faults(f"{what} {shown(word)} is out of range; allowed is {span(allowed)}")
     return value
+
+
+def yes_or_no(word: str, what: str) -> bool:
+    """Whether a word says yes."""
+    if word not in ("yes", "no"):
+        raise Faults(f"{what} '{shown(word)}' is unknown; allowed are yes and no")
+    return word == "yes"

@@ -103,7 +103,7 @@ class CGraph(ctypes.Structure):
 
 
 class CSettings(ctypes.Structure):
-    _fields_ = [("ceiling", c_int64), ("sweeps", c_uint32), ("step", c_uint32), ("denominator", c_uint64)]
+    _fields_ = [("ceiling", c_int64), ("sweeps", c_uint32), ("step", c_uint32), ("denominator", c_uint64), ("lifting", c_uint64)]
 
 
 class CSailed(ctypes.Structure):
@@ -111,7 +111,7 @@ class CSailed(ctypes.Structure):
 
 
 class CTerms(ctypes.Structure):
-    _fields_ = [("ceiling", c_int64), ("budget", c_uint64), ("denominator", c_uint64)]
+    _fields_ = [("ceiling", c_int64), ("budget", c_uint64), ("denominator", c_uint64), ("lifting", c_uint64)]
 
 
 class CSearch(ctypes.Structure):
@@ -140,7 +140,7 @@ class CDispatcher(ctypes.Structure):
 
 Reply = TypeVar("Reply", CReply, CSailed)
 
-for struct, size in ((CReply, 32), (CGraph, 1_332), (CSettings, 24), (CSailed, 32), (CTerms, 24), (CSearch, 4_464)):
+for struct, size in ((CReply, 32), (CGraph, 1_332), (CSettings, 32), (CSailed, 32), (CTerms, 32), (CSearch, 4_472)):
     assert ctypes.sizeof(struct) == size, f"{struct.__name__} is not as the library has it"
 
 _BYTES, _RECORD, _SHELF, _DISPATCHER = POINTER(c_uint8), POINTER(CSearch), POINTER(CShelf), POINTER(CDispatcher)
@@ -403,15 +403,18 @@ def simulate(graph: Graph, edges: Sequence[int], student: int, spread: int) -> S
 
 
 def compare(
-    graph: Graph, ceiling: int, budget: int, pairs: Sequence[tuple[int, int]], multipliers: Sequence[int] | None = None, denominator: int = 1
-) -> tuple[int, ...]:
+    graph: Graph, ceiling: int, budget: int, pairs: Sequence[tuple[int, int]], multipliers: Sequence[int] | None = None, denominator: int = 1,
+    lifting: bool = False,
+) -> tuple[int, ...]:  # fmt: skip
     """For each pair of sweeps and step the count with which a search finishes, or 0 if it is still going on after the whole budget."""
     lent, count = _multipliers(graph, multipliers)
     size, room = len(pairs), max(1, len(pairs))
     sweeps = (c_uint32 * room)(*(_fits(pair[0], UINT32, "sweeps") for pair in pairs))
     steps = (c_uint32 * room)(*(_fits(pair[1], UINT32, "step") for pair in pairs))
     report = (c_uint64 * room)()
-    terms = CTerms(_fits(ceiling, INT64, "ceiling"), _fits(budget, UINT64, "budget"), _fits(denominator, UINT64, "denominator"))
+    terms = CTerms(
+        _fits(ceiling, INT64, "ceiling"), _fits(budget, UINT64, "budget"), _fits(denominator, UINT64, "denominator"), _fits(lifting, UINT64, "lifting")
+    )
     _accepted(library().planner_compare(graph.c, lent, count, terms, sweeps, size, steps, size, report, size))
     return tuple(report[:size])
 
@@ -442,11 +445,12 @@ def _told(said: CReply) -> Told:
     return Told("none" if said.number == NO_TOUR else "going on", said.nodes)
 
 
-def _settings(ceiling: int, sweeps: int, step: int, denominator: int) -> CSettings:
+def _settings(ceiling: int, sweeps: int, step: int, denominator: int, lifting: int) -> CSettings:
     """What an opening takes beside the graph and the multipliers."""
     return CSettings(
-        _fits(ceiling, INT64, "ceiling"), _fits(sweeps, UINT32, "sweeps"), _fits(step, UINT32, "step"), _fits(denominator, UINT64, "denominator")
-    )
+        _fits(ceiling, INT64, "ceiling"), _fits(sweeps, UINT32, "sweeps"), _fits(step, UINT32, "step"), _fits(denominator, UINT64, "denominator"),
+        _fits(lifting, UINT64, "lifting"),
+    )  # fmt: skip
 
 
 class Search:
@@ -460,11 +464,16 @@ class Search:
         self.more = more
 
     def open(
-        self, graph: Graph, ceiling: int, sweeps: int = 0, step: int = 0, multipliers: Sequence[int] | None = None, denominator: int = 1
-    ) -> None:
-        """Opens a search. Multipliers and step count in parts of a minute, as the denominator says; the ceiling in minutes."""
+        self, graph: Graph, ceiling: int, sweeps: int = 0, step: int = 0, multipliers: Sequence[int] | None = None, denominator: int = 1,
+        lifting: bool = False,
+    ) -> None:  # fmt: skip
+        """Opens a search. Multipliers and step count in parts of a minute, as the denominator says; the ceiling in minutes.
+
+        With lifting each edge that a pass keeps is tried again under multipliers lifted for it alone: as a rule the search opens fewer nodes,
+        and each takes longer; the verdict and the cost are the same.
+        """
         lent, count = _multipliers(graph, multipliers)
-        _accepted(library().planner_open(self.record, graph.c, lent, count, _settings(ceiling, sweeps, step, denominator)))
+        _accepted(library().planner_open(self.record, graph.c, lent, count, _settings(ceiling, sweeps, step, denominator, lifting)))
 
     def run(self, budget: int, progress: Callable[[Search], None] | None = None) -> Ran:
         """Opens at most so many nodes, in pieces, so that a program can be interrupted and see how far it is.
@@ -533,11 +542,12 @@ class Dispatcher:
         self.record: CDispatcher = library().planner_fresh_dispatcher()
 
     def add(
-        self, graph: Graph, ceiling: int, sweeps: int = 0, step: int = 0, multipliers: Sequence[int] | None = None, denominator: int = 1
-    ) -> int:
-        """Opens a search at the free place with the smallest number, which is answered."""
+        self, graph: Graph, ceiling: int, sweeps: int = 0, step: int = 0, multipliers: Sequence[int] | None = None, denominator: int = 1,
+        lifting: bool = False,
+    ) -> int:  # fmt: skip
+        """Opens a search, as that of Search does, at the free place with the smallest number, which is answered."""
         lent, count = _multipliers(graph, multipliers)
-        return _accepted(library().planner_add(self.record, graph.c, lent, count, _settings(ceiling, sweeps, step, denominator))).place
+        return _accepted(library().planner_add(self.record, graph.c, lent, count, _settings(ceiling, sweeps, step, denominator, lifting))).place
 
     def turn(self, nodes: int) -> int | None:
         """At most so many nodes for the next unfinished search after the one last served; its place, or None where there is none."""

@@ -1,6 +1,6 @@
 """The cheapest tour without a ceiling at hand: guesswork for a first ceiling, an ascent of multipliers, a climb of ceilings.
 
-What is chosen here, ceilings, multipliers, sweeps and step, decides how long a search takes. Every answer is the library's: that a cost is the
+What is chosen here, ceilings, multipliers, sweeps, step and lifting, decides how long a search takes. Every answer is the library's: that a cost is the
 least, that a tour is the first of those that cost it, or that there is no tour, is proved for every choice. Where many tours cost the same a search
 that has met a cheapest one goes on to the first, often for long; a ceiling one below its cost settles the cost sooner. Where costs lie further apart than
 multipliers reach, it is asked about the same graph with levelled costs (`levelled`), and about the graph itself what the tour found costs.
@@ -13,7 +13,7 @@ from functools import cached_property
 
 from .guess import cheap_tour_weight
 from .library import (
-    CEILINGS, COSTS, EXCLUDED, HIGHEST_TOUR, MULTIPLIERS, REQUIRED, STEPS, SWEEPS, Graph, Search, rule, tree,
+    CEILINGS, COSTS, EXCLUDED, HIGHEST_TOUR, MOST_VERTICES, MULTIPLIERS, REQUIRED, STEPS, SWEEPS, Graph, Search, rule, tree,
 )  # fmt: skip
 
 LONG = 1_000_000  # nodes that a search opens at most
@@ -36,6 +36,12 @@ FINE, NEAR = 100, 100
 # Multipliers end at 1,000,000. With them alone six complete graphs of 20 vertices, costs from 1 to 100,000,000, were undecided after 200,000 nodes;
 # levelled they took 1 node each. Random costs over the whole range, six graphs each of 16 and of 20 vertices, then took at most 10,000.
 FAR_APART = MULTIPLIERS[-1] // 4
+
+# With lifting a search opens as a rule half as many nodes or fewer, and each takes 2 to 3 times as long. After such an ascent that pays where edges are few:
+# 1,200 graphs of 16 to 20 vertices with 2 to 3.5 edges a vertex, a tour among them, at random or between near places, costs up to 3, 30 and 1,000, took 150,554
+# nodes without and 27,900 with it, in 14.2 and 11.5 seconds with the ascents, at most 1.16 and 0.48 for one. With more edges searches took up to 2.5 times as
+# long with it; below 16 vertices, where edges are few, it is a matter of tenths of a millisecond.
+LIFTED, FEW = range(16, MOST_VERTICES + 1), 7  # vertices, and edges that meet at one, on average
 
 Progress = Callable[[Search], None]
 
@@ -68,6 +74,12 @@ def spread(graph: Graph, denominator: int = 1) -> int:
         return 0
     mean = sum(costs) // len(costs)
     return sum(abs(cost - mean) for cost in costs) // len(costs)
+
+
+def lifts(graph: Graph) -> bool:
+    """Whether searches of such graphs are sooner finished with lifting: many vertices and few edges."""
+    present = sum(edge.mark != EXCLUDED for edge in graph.edges)
+    return graph.n in LIFTED and 2 * present <= FEW * graph.n
 
 
 class Ascent:
@@ -143,7 +155,7 @@ def levelled(graph: Graph) -> tuple[Graph, int]:
 
 
 class Solver:
-    """Searches one graph at any ceiling, with sweeps and with multipliers that fit it."""
+    """Searches one graph at any ceiling, with sweeps and multipliers that fit it, lifted where that pays."""
 
     def __init__(self, graph: Graph, progress: Progress | None = None):
         self.graph, self.progress = graph, progress
@@ -160,7 +172,7 @@ class Solver:
         search = Search(more)
         there = within(ceiling + more, CEILINGS)  # beyond them no tour has its cost
         step = within(spread(self.graph, ascent.denominator) // SWEEP_SHARE, STEPS[1:])
-        search.open(ascent.graph, there, SWEEPS[-1], step, ascent.reach(there), ascent.denominator)
+        search.open(ascent.graph, there, SWEEPS[-1], step, ascent.reach(there), ascent.denominator, lifts(ascent.graph))
         search.run(limit, self.progress)
         told = search.tell()
         if told.verdict != "cost":

@@ -216,10 +216,12 @@ def run_simulate(arguments: argparse.Namespace, name: str, graph: Graph) -> int:
 
 def run_compare(arguments: argparse.Namespace, name: str, graph: Graph) -> int:
     """planner compare"""
-    counts = compare(graph, arguments.ceiling, arguments.allowance, arguments.pairs, arguments.dues, arguments.denominator)
+    lifting = {"lifting": True} if arguments.lifting else {}
+    counts = compare(graph, arguments.ceiling, arguments.allowance, arguments.pairs, arguments.dues, arguments.denominator, **lifting)
     rows = [(sweeps, step, count) for (sweeps, step), count in zip(arguments.pairs, counts)]
     if arguments.json:
-        say_json(file=name, **fraction(arguments), pairs=[{"sweeps": sweeps, "step": step, "nodes": count} for sweeps, step, count in rows])
+        told = [{"sweeps": sweeps, "step": step, "nodes": count} for sweeps, step, count in rows]
+        say_json(file=name, **fraction(arguments), **lifting, pairs=told)
     else:
         say("\n".join(["sweeps  step  nodes", *(f"{sweeps:6} {step:5}  {count or 'going on'}" for sweeps, step, count in rows)]))
     return ANSWERED if all(counts) else UNDECIDED

@@ -156,6 +156,24 @@ rule -1990 > bound -1990000 rulings 1 1 2 1 2 1
 rule -1991 > dead
 {FOUR}
 
+# Document 02, C-13: with lifting a hunt opens fewer nodes, and tells and shows the same; trees and rulings stay. 'sea' makes it 'no' again.
+lifting yes
+tree > bound 10 legs 1 2 4 6
+rule 12 > bound 10 rulings 0 0 0 1 2 1
+preview 1 2 > bound 11 legs 2 3 4 6
+compare 12 5 0/0 0/10000 > nodes 3 3
+open 12 0 0 > accepted
+run 1 > going on nodes 1
+lifting no
+run 99 > finished nodes 3
+tell > cost 12 nodes 3
+show > legs 1 3 4 6
+close > accepted
+compare 12 5 0/0 0/10000 > nodes 5 5
+lifting yes
+{FOUR}
+compare 12 5 0/0 > nodes 5
+
 # A dispatcher: turns go round, a closed place is free again, and the search record is another.
 turn 3 > idle
 add 12 0 0 > place 1
@@ -179,6 +197,14 @@ showat 3 > legs 1 3 4 6
 add 11 0 0 > place 4
 turn 18446744073709551615 > place 4
 tellat 4 > none nodes 3
+lifting yes
+add 12 0 0 > place 5
+lifting no
+add 12 0 0 > place 6
+turn 9 > place 5
+turn 9 > place 6
+tellat 5 > cost 12 nodes 3
+tellat 6 > cost 12 nodes 5
 
 # Marks as letters and as bytes.
 sea 4 1-2:4m0 1-3:3s 1-4:5m1 2-3:-2r 2-4:6 3-4:1m2
@@ -492,8 +518,8 @@ class Scripts(unittest.TestCase):
 
     def test_lines_that_cannot_be_read(self):
         """Each says its line on standard error; the script goes on, settings as they were; the status is 2."""
-        names = "allowed are sea, chart, dues, list, denominator, tree, preview, rule, recent, simulate, compare, open, run, tell, show, close, save, back"
-        names += ", add, turn, tellat, showat, closeat"
+        names = "allowed are sea, chart, dues, list, denominator, lifting, tree, preview, rule, recent, simulate, compare, open, run, tell, show, close"
+        names += ", save, back, add, turn, tellat, showat, closeat"
         wide = "allowed is -9223372036854775808 to 9223372036854775807"
         no_leg = "is no leg; allowed is A-B:COST, with r, s or mK behind it"
         wrong = (
@@ -513,7 +539,10 @@ class Scripts(unittest.TestCase):
             ("save", "too few words; allowed is save NAME"),
             ("back 1 2", "too many words; allowed is back NAME"),
             ("back -1", "name -1 is out of range; allowed is 0 to 18446744073709551615"),
-            ("lifting yes", f"'lifting' is unknown; {names}"),
+            ("lifting", "too few words; allowed is lifting yes|no"),
+            ("lifting yes no", "too many words; allowed is lifting yes|no"),
+            ("lifting YES", "lifting 'YES' is unknown; allowed are yes and no"),
+            ("lifting 1", "lifting '1' is unknown; allowed are yes and no"),
             ("denominator", "too few words; allowed is denominator Q"),
             ("denominator 2 3", "too many words; allowed is denominator Q"),
             ("denominator 1/2", "denominator '1/2' is not a whole number; allowed is 0 to 18446744073709551615"),
@@ -648,7 +677,7 @@ class Scripts(unittest.TestCase):
         for _ in range(12):
             script, answers, search = [], [], planner.Search()
             self.shelf = planner.Shelf()
-            graph, self.q = planner.Graph(0), 1
+            graph, self.q, self.lifting = planner.Graph(0), 1, False
             for _ in range(60):
                 graph, line, call = self.step(source, graph, search)
                 script.append(line)
@@ -663,7 +692,7 @@ class Scripts(unittest.TestCase):
     def step(self, source, graph, search):
         """A random line, the chart after it, and what the line should print."""
         kinds = (
-            "sea", "denominator", "tree", "preview", "rule", "recent", "open", "run", "run", "tell", "show", "show", "close", "save", "back",
+            "sea", "denominator", "lifting", "tree", "preview", "rule", "recent", "open", "run", "run", "tell", "show", "show", "close", "save", "back",
         )  # fmt: skip
         kind = source.choice(kinds)
         if kind in ("save", "back"):
@@ -672,12 +701,15 @@ class Scripts(unittest.TestCase):
             return graph, f"{kind} {name}", lambda: call(search if kind == "save" else self.shelf, name) or "accepted"
         ceiling = source.choice((-20, 40, 90, 5_000_000_001))
         if kind == "sea":
-            graph, self.q = random_graph(source, most=6), 1
+            graph, self.q, self.lifting = random_graph(source, most=6), 1, False
             legs = (f"{edge.a}-{edge.b}:{edge.cost}{source.choice(('', 'm0')) if edge.mark == 0 else ' rs'[edge.mark]}" for edge in graph.edges)
             return graph, f"sea {graph.n} {' '.join(legs)}", None
         if kind == "denominator":
             self.q = source.choice((0, 1, 2, 7, 1_000, 1_001))
             return graph, f"denominator {self.q}", None
+        if kind == "lifting":
+            self.lifting = source.choice((False, True, True))
+            return graph, f"lifting {'yes' if self.lifting else 'no'}", None
         if kind == "tree":
             return graph, kind, lambda: bound_and(library.tree(graph, denominator=self.q), "legs", "no tree")
         if kind == "preview":
@@ -696,7 +728,8 @@ class Scripts(unittest.TestCase):
             return graph, f"rule {ceiling}", lambda: bound_and(library.rule(graph, ceiling, denominator=self.q), "rulings", "dead")
         if kind == "open":
             sweeps, step = source.choice((0, 3, 16)), source.choice((0, 7, 10_001))
-            return graph, f"open {ceiling} {sweeps} {step}", lambda: search.open(graph, ceiling, sweeps, step, denominator=self.q) or "accepted"
+            chosen = {"denominator": self.q, "lifting": self.lifting}
+            return graph, f"open {ceiling} {sweeps} {step}", lambda: search.open(graph, ceiling, sweeps, step, **chosen) or "accepted"
         if kind == "run":
             budget = source.choice((0, 1, 3, 2**40))
             return graph, f"run {budget}", lambda: ran_line(search.run(budget))

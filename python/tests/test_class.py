@@ -55,14 +55,14 @@ class Dispatchers(unittest.TestCase):
             for _ in range(60):
                 kind, place = source.random(), source.randint(1, 8)
                 if kind < 0.2:
-                    graph = random_graph(source, most=7)
+                    graph, lifting = random_graph(source, most=7), source.choice((False, True))
                     try:
-                        place = class_.add(graph, 300)
+                        place = class_.add(graph, 300, lifting=lifting)
                     except planner.Refused as refusal:
                         self.assertEqual((refusal.number, len(alone)), (41, 8))
                         continue
                     alone[place] = planner.Search()
-                    alone[place].open(graph, 300)
+                    alone[place].open(graph, 300, lifting=lifting)
                     waited = dict.fromkeys(alone, 0)
                 elif kind < 0.3 and place in alone:
                     class_.close(place)

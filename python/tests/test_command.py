@@ -194,6 +194,16 @@ class Usage(unittest.TestCase):
                 self.assertEqual(command(verb, "examples/four.txt", *more, "--denominator", word), ("", said, 2))
         self.assertEqual(command("solve", "examples/four.txt", "--denominator", 2)[2], 2)
 
+    def test_bad_lifting(self):
+        """It is a yes or a no, where nodes are counted; 'solve' chooses by itself."""
+        for word in ("x", "1", "YES", "", "yes no"):
+            said = f"planner compare: argument --lifting: lifting '{word}' is unknown; allowed are yes and no; see planner compare --help\n"
+            self.assertEqual(command("compare", "examples/four.txt", "--lifting", word), ("", said, 2))
+        for verb, *more in (("solve",), ("tree",), ("rule", "--ceiling", 9), ("class",), ("compare", "--lifting")):
+            words = ("--lifting", "yes") if verb != "compare" else ()
+            out, complaints, status = command(verb, "examples/four.txt", *more, *words)
+            self.assertEqual((out, complaints.count("\n"), status), ("", 1, 2), verb)
+
     def test_files(self):
         """What cannot be read: one line, status 2, for every command that takes a file."""
         with tempfile.TemporaryDirectory() as folder:

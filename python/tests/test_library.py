@@ -81,6 +81,38 @@ class Calls(unittest.TestCase):
             search.close()
         self.assertEqual(bytes(search.record), bytes(planner.Search().record))
 
+    def test_lifting(self):
+        """Document 02, C-13: fewer nodes; what a finished search tells and shows is the same, and any number but 0 is yes."""
+        source, nodes, seen = random.Random(13), Counter(), Counter()
+        for _ in range(200):
+            graph, ceiling = random_graph(source, most=9, costs=source.choice((3, 60))), source.choice((0, 60, 500))
+            sweeps, step, q = source.choice(((0, 0), (3, 1), (15, 40))) + (source.choice((1, 1, 7)),)
+            searches = {lifting: planner.Search() for lifting in (False, True)}
+            for lifting, search in searches.items():
+                search.open(graph, ceiling, sweeps, step, denominator=q, lifting=lifting)
+                self.assertEqual(search.record.settings.lifting, lifting)
+                self.assertTrue(search.run(1_000_000).finished)
+                nodes[lifting] += search.tell().nodes
+            plain, lifted = searches.values()
+            self.assertEqual((plain.tell().verdict, plain.tell().cost), (lifted.tell().verdict, lifted.tell().cost))
+            if plain.tell().verdict == "cost":
+                self.assertEqual(plain.show(), lifted.show())
+            seen[plain.tell().verdict, plain.tell().nodes == lifted.tell().nodes] += 1
+        self.assertLess(nodes[True], nodes[False])
+        self.assertGreater(min(seen.values()), 10, seen)
+        opened = planner.Search()
+        opened.open(FOUR, 12, lifting=True)
+        for number in (2, 255, 2**8, 2**32, 2**63, 2**64 - 1):
+            search, shelf, class_ = planner.Search(), planner.Shelf(), planner.Dispatcher()
+            search.open(FOUR, 12, lifting=number)
+            self.assertEqual(bytes(search.record), bytes(opened.record))
+            shelf.save(search, 2)
+            self.assertEqual(bytes(shelf.record.places[1]), bytes(opened.record))
+            class_.add(FOUR, 12, lifting=number)
+            self.assertEqual(bytes(class_.record.places[0]), bytes(opened.record))
+            self.assertEqual(planner.compare(FOUR, 12, 9, [(0, 0)], lifting=number), (3,))
+        self.assertEqual(planner.compare(FOUR, 12, 9, [(0, 0)], lifting=0), (5,))
+
     def test_shelf(self):
         """What is saved comes back to the byte, through closing and another opening; the refusals in their order; 24 at any place."""
         search, shelf = planner.Search(), planner.Shelf()
@@ -128,6 +160,14 @@ class Calls(unittest.TestCase):
             search.open(FOUR, 12, denominator=7)
             search.record.settings.denominator = denominator
             self.assertEqual(refusal(search.tell), number and (number, 0), denominator)
+        for lifting, number in ((0, None), (1, None), (2, 24), (2**8, 24), (2**32 + 1, 24), (2**64 - 1, 24)):
+            search = planner.Search()
+            search.open(FOUR, 12)
+            search.record.settings.lifting = lifting
+            self.assertEqual(refusal(search.tell), number and (number, 0), lifting)
+        search = planner.Search()
+        search.record.settings.lifting = 1
+        self.assertEqual(refusal(search.tell), (24, 0))
 
     def test_rows_of_a_node(self):
         """A node's required legs in one row of bits and its struck legs in another; 24 where a leg is in both, past m, or in a node that does not wait."""
@@ -169,8 +209,11 @@ class Calls(unittest.TestCase):
             lambda: planner.tree(planner.Graph(256)), lambda: planner.tree(planner.Graph(4, [(1, 2, 2**31)])), lambda: planner.rule(FOUR, 2**63),
             lambda: planner.tree(planner.Graph(20, pairs * 2)), lambda: planner.tree(FOUR, [2**31]), lambda: planner.Search().run(-1),
             lambda: planner.tree(FOUR, denominator=-1), lambda: planner.Search().open(FOUR, 12, denominator=2**64),
+            lambda: planner.compare(FOUR, 12, 5, [(0, 0)], lifting=-1), lambda: planner.Dispatcher().add(FOUR, 12, lifting=2**64),
         ):  # fmt: skip
             self.assertRaises(ValueError, call)
+        for word in ("no", None, 0.0):
+            self.assertRaises(TypeError, planner.Search().open, FOUR, 12, lifting=word)
 
     def test_search_in_pieces(self):
         """A run in pieces is the run, to the byte of the record."""

@@ -53,15 +53,15 @@ class Sailings(unittest.TestCase):
         self.assertEqual(planner.compare(FOUR, 16, 5, pairs), (0, 0, 3, 1, 1, 5))
         source = random.Random(22)
         for _ in range(20):
-            graph, q = random_graph(source, most=8, costs=30), source.choice((1, 2, 10, 1_000))
+            graph, q, lifting = random_graph(source, most=8, costs=30), source.choice((1, 2, 10, 1_000)), source.choice((False, True))
             chosen = [(source.choice((0, 1, 3, 15)), source.choice((0, 1, 20))) for _ in range(source.randint(1, 16))]
             counts = []
             for sweeps, step in chosen:
                 search = planner.Search()
-                search.open(graph, 300, sweeps, step, denominator=q)
+                search.open(graph, 300, sweeps, step, denominator=q, lifting=lifting)
                 ran = search.run(20)
                 counts.append(ran.nodes if ran.finished else 0)
-            self.assertEqual(planner.compare(graph, 300, 20, chosen, denominator=q), tuple(counts))
+            self.assertEqual(planner.compare(graph, 300, 20, chosen, denominator=q, lifting=lifting), tuple(counts))
         for wrong, number in (([], 11), ([(0, 0)] * 17, 11), ([(0, 0), (16, 0)], 14), ([(0, 0), (0, 10_001)], 14)):
             with self.subTest(wrong), self.assertRaises(planner.Refused) as caught:
                 planner.compare(FOUR, 12, 5, wrong)
@@ -75,6 +75,12 @@ class Sailings(unittest.TestCase):
         out, _, status = command("compare", "examples/four.txt", "--ceiling", 12, "--pairs", "0/0,2/1", "--json")
         rows = [{"sweeps": 0, "step": 0, "nodes": 5}, {"sweeps": 2, "step": 1, "nodes": 1}]
         self.assertEqual((json.loads(out), status), ({"file": "examples/four.txt", "pairs": rows}, 0))
+        out, _, status = command("compare", "examples/four.txt", "--ceiling", 12, "--pairs", "0/0", "--lifting", "yes", "--json")
+        rows = [{"sweeps": 0, "step": 0, "nodes": 3}]
+        self.assertEqual((json.loads(out), status), ({"file": "examples/four.txt", "lifting": True, "pairs": rows}, 0))
+        for word, nodes in (("yes", 3), ("no", 5)):
+            said = command("compare", "examples/four.txt", "--ceiling", 12, "--pairs", "0/0", "--lifting", word)
+            self.assertEqual(said, (f"sweeps  step  nodes\n     0     0  {nodes}\n", "", 0))
         self.assertEqual(command("compare", "examples/four.txt", "--pairs", "0/0", "--allowance", 1),
                          ("sweeps  step  nodes\n     0     0  going on\n", "", 3))
         for words in (("--round", "1,4", "--student", 0, "--spread", 2), ("--round", "4,6,3,1", "--student", 0, "--spread", 2)):

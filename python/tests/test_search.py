@@ -2,6 +2,7 @@
 import random
 import unittest
 from collections import Counter
+from unittest import mock
 
 import planner
 from planner import search
@@ -82,6 +83,24 @@ class Solve(unittest.TestCase):
         graph = full_graph(12, lambda *_: 1)
         answer = planner.solve(graph, nodes=300)
         self.assertEqual((answer.verdict, answer.cost, answer.first, is_tour(graph, answer.tour)), ("cost", 12, False, True))
+
+    def test_lifting(self):
+        """Where legs are few; an answer is the same either way."""
+        source, opened = random.Random(13), []
+        full = full_graph(20, lambda *_: source.randint(1, 1000))
+        few = [planner.Graph(n, sorted(source.sample(full_graph(n, lambda *_: source.randint(1, 30)).edges, 3 * n))) for n in (15, 16, 18, 20)]
+        struck = planner.Graph(20, [edge if source.random() < 0.3 else edge._replace(mark=2) for edge in full.edges])
+        plain = planner.Search.open
+        for graph, lifting in ((full, False), (few[0], False), *((graph, True) for graph in few[1:]), (struck, True), (FOUR, False)):
+            self.assertEqual(search.lifts(graph), lifting)
+            with mock.patch.object(planner.Search, "open", lambda *words: opened.append(words[-1]) or plain(*words)):
+                answer = self.solved(graph)
+            with mock.patch.object(search, "lifts", lambda graph, lifting=lifting: not lifting):
+                self.assertEqual(self.solved(graph).cost, answer.cost)
+            self.assertEqual(set(opened), {lifting})
+            opened.clear()
+        many = planner.Graph(16, sorted(source.sample(full_graph(16, lambda *_: 1).edges, 57)))
+        self.assertEqual([search.lifts(planner.Graph(16, many.edges[:count])) for count in (56, 57)], [True, False])
 
     def test_limit(self):
         graph = full_graph(12, lambda a, b: (a * b) % 7)

@@ -25,33 +25,35 @@ AT(planner_graph, mark, 1140);
 AT(planner_graph, n, 1330);
 AT(planner_graph, m, 1331);
 
-CLAIM(sizeof(planner_settings) == 24);
+CLAIM(sizeof(planner_settings) == 32);
 AT(planner_settings, ceiling, 0);
 AT(planner_settings, sweeps, 8);
 AT(planner_settings, step, 12);
 AT(planner_settings, denominator, 16);
+AT(planner_settings, lifting, 24);
 CLAIM(sizeof(planner_sailed) == 32);
 AT(planner_sailed, number, 0);
 AT(planner_sailed, place, 8);
 AT(planner_sailed, total, 16);
 AT(planner_sailed, state, 24);
-CLAIM(sizeof(planner_terms) == 24);
+CLAIM(sizeof(planner_terms) == 32);
 AT(planner_terms, ceiling, 0);
 AT(planner_terms, budget, 8);
 AT(planner_terms, denominator, 16);
+AT(planner_terms, lifting, 24);
 
-CLAIM(sizeof(planner_search) == 4464);
+CLAIM(sizeof(planner_search) == 4472);
 AT(planner_search, settings, 0);
-AT(planner_search, upper, 24);
-AT(planner_search, count, 32);
-AT(planner_search, stack, 40);
-AT(planner_search, depth, 1096);
-AT(planner_search, graph, 1100);
-AT(planner_search, multipliers, 2432);
-AT(planner_search, carried, 2512);
-AT(planner_search, best, 4272);
-AT(planner_search, open, 4462);
-AT(planner_search, has_best, 4463);
+AT(planner_search, upper, 32);
+AT(planner_search, count, 40);
+AT(planner_search, stack, 48);
+AT(planner_search, depth, 1104);
+AT(planner_search, graph, 1108);
+AT(planner_search, multipliers, 2440);
+AT(planner_search, carried, 2520);
+AT(planner_search, best, 4280);
+AT(planner_search, open, 4470);
+AT(planner_search, has_best, 4471);
 
 CLAIM(sizeof(planner_dispatcher) == sizeof(size_t) + 8 * sizeof(planner_search));
 AT(planner_dispatcher, last, 0);
@@ -138,22 +140,22 @@ static void record(const planner_search *s, const planner_graph *g, const int32_
     memcpy(padded, multipliers, N * sizeof *multipliers);
     expect("settings", stands(s, 0, &settings, sizeof settings) && s->settings.ceiling == settings.ceiling
                            && s->settings.sweeps == settings.sweeps && s->settings.step == settings.step
-                           && s->settings.denominator == settings.denominator);
-    expect("upper", stands(s, 24, &upper, 8) && s->upper == upper);
-    expect("count", stands(s, 32, &count, 8) && s->count == count);
-    expect("depth", stands(s, 1096, &depth, 4) && 0 < depth && depth <= N + 2);
-    expect("graph", stands(s, 1100, g, sizeof *g));
-    expect("multipliers", stands(s, 2432, padded, sizeof padded));
-    expect("best past m", stands(s, 4272 + M, zeros, PLANNER_EDGES - M));
-    expect("open", stands(s, 4462, "\1", 1) && s->open == 1);
+                           && s->settings.denominator == settings.denominator && s->settings.lifting == settings.lifting);
+    expect("upper", stands(s, 32, &upper, 8) && s->upper == upper);
+    expect("count", stands(s, 40, &count, 8) && s->count == count);
+    expect("depth", stands(s, 1104, &depth, 4) && 0 < depth && depth <= N + 2);
+    expect("graph", stands(s, 1108, g, sizeof *g));
+    expect("multipliers", stands(s, 2440, padded, sizeof padded));
+    expect("best past m", stands(s, 4280 + M, zeros, PLANNER_EDGES - M));
+    expect("open", stands(s, 4470, "\1", 1) && s->open == 1);
     for (size_t p = 0; p < PLANNER_NODES; p++) {
         const uint64_t *node = s->stack + 2 * PLANNER_ROW * p;
         size_t required = 0;
-        expect("a node", stands(s, 40 + 16 * PLANNER_ROW * p, node, 16 * PLANNER_ROW));
+        expect("a node", stands(s, 48 + 16 * PLANNER_ROW * p, node, 16 * PLANNER_ROW));
         expect("a node's rows", rows_fit(node, p < depth ? M : 0, &required) && (p >= depth || required >= p));
         const int32_t *carried = s->carried + PLANNER_VERTICES * p;
         size_t vertices = p < depth ? N : 0;
-        expect("what a node carries", stands(s, 2512 + 4 * PLANNER_VERTICES * p, carried, 4 * PLANNER_VERTICES) && carried[0] == 0);
+        expect("what a node carries", stands(s, 2520 + 4 * PLANNER_VERTICES * p, carried, 4 * PLANNER_VERTICES) && carried[0] == 0);
         expect("carried past n", memcmp(carried + vertices, zeros, 4 * (PLANNER_VERTICES - vertices)) == 0);
     }
 }
@@ -162,7 +164,7 @@ int main(void) {
     static planner_search s, fresh;
     static uint8_t bytes[FILE_LENGTH], out[FILE_LENGTH];
     int32_t multipliers[N] = {0, 10, -20, 30, -40, 50, 60};
-    planner_settings settings = {INT64_C(4900000000), 4, 370, 7}; /* a ceiling wider than 4 bytes */
+    planner_settings settings = {INT64_C(4900000000), 4, 370, 7, 0}; /* a ceiling wider than 4 bytes */
     planner_graph g = sample(bytes), read;
     planner_reply said;
     uint64_t nodes = 0;
@@ -196,7 +198,7 @@ int main(void) {
 
     {
         /* Each argument where the call looks for it: the same tree with each denominator, its bound so many times as high. */
-        planner_terms terms = {settings.ceiling, 1, 1001};
+        planner_terms terms = {settings.ceiling, 1, 1001, 0};
         const uint32_t pair[1] = {0};
         uint64_t report[1] = {9};
         uint8_t one[M], ten[M];
@@ -214,6 +216,31 @@ int main(void) {
         terms.denominator = PLANNER_DENOMINATOR;
         said_so("a comparison", planner_compare(g, zeros, N, terms, pair, 1, pair, 1, report, 1), 0, 0, 0, 0);
         expect("a report of 'going on'", report[0] == 0);
+    }
+
+    {
+        /* Lifting, where each call looks for it and in all of its bytes: document 01's sea takes 5 nodes without and 3 with it. Any number but 0
+         * is yes, and the record then has 1. */
+        const planner_graph four = {{4, 3, 5, 2, 6, 1}, {1, 1, 1, 2, 2, 3}, {2, 3, 4, 3, 4, 4}, {0}, 4, 6};
+        const uint64_t yes[3] = {1, 2, UINT64_C(1) << 32};
+        const int32_t zeros[4] = {0};
+        const uint32_t pair[1] = {0};
+        uint64_t report[1] = {9};
+        planner_terms terms = {12, 9, 1, 0};
+        planner_settings lifted = {settings.ceiling, 4, 370, 7, 1};
+        said_so("compare without lifting", planner_compare(four, zeros, 4, terms, pair, 1, pair, 1, report, 1), 0, 0, 0, 0);
+        expect("nodes without lifting", report[0] == 5);
+        for (int k = 0; k < 3; k++) {
+            planner_settings opened = lifted;
+            opened.lifting = terms.lifting = yes[k];
+            said_so("compare with lifting", planner_compare(four, zeros, 4, terms, pair, 1, pair, 1, report, 1), 0, 0, 0, 0);
+            expect("nodes with lifting", report[0] == 3);
+            s = planner_fresh();
+            said_so("open with lifting", planner_open(&s, g, multipliers, N, opened), 0, 0, 0, 0);
+            record(&s, &g, multipliers, lifted, lifted.ceiling, 0);
+            s.settings.lifting = UINT64_C(1) << 32;
+            said_so("a record's lifting", planner_tell(&s), 24, 0, 0, 0);
+        }
     }
 
     memset(&s, 0xa5, sizeof s);
@@ -234,13 +261,13 @@ int main(void) {
 
     for (int k = 0; k < M; k++) cost += s.best[k] * g.cost[k];
     record(&s, &g, multipliers, settings, cost, nodes);
-    expect("an incumbent while nodes wait", s.depth > 0 && s.has_best == 1 && stands(&s, 4463, "\1", 1) && nodes > 1);
+    expect("an incumbent while nodes wait", s.depth > 0 && s.has_best == 1 && stands(&s, 4471, "\1", 1) && nodes > 1);
     said_so("tell", planner_tell(&s), PLANNER_GOING_ON, 0, 0, nodes);
     said = planner_run(&s, 1000000);
     said_so("finished", said, PLANNER_FINISHED, 0, 0, s.count);
     said_so("the best cost", planner_tell(&s), PLANNER_BEST, 0, s.upper, s.count);
     said_so("show", planner_show(&s, out, M), 0, 0, 0, 0);
-    expect("the tour", stands(&s, 4272, out, M) && s.depth == 0);
+    expect("the tour", stands(&s, 4280, out, M) && s.depth == 0);
     said_so("close", planner_close(&s), 0, 0, 0, 0);
     expect("closed, a record is fresh", memcmp(&s, &fresh, sizeof s) == 0);
 

@@ -522,6 +522,166 @@ pub const DENOMINATOR_NOT_CHECKED: Bend = Bend {
     bend: |law| law.denominator_checked = false,
 };
 
+pub const FLAG_WITHOUT_EFFECT: Bend = Bend {
+    what: "a hunt that is asked to lift does not",
+    bend: |law| law.lifts_where_asked = false,
+};
+
+pub const LIFTED_UNASKED: Bend = Bend {
+    what: "every hunt lifts",
+    bend: |law| law.lifts_unasked = true,
+};
+
+pub const LAST_PASS_LIFTS: Bend = Bend {
+    what: "only a node's last pass lifts",
+    bend: |law| law.every_pass_lifts = false,
+};
+
+pub const RELAXED_POLICY: Bend = Bend {
+    what: "the second limit is the relaxed policy's",
+    bend: |law| law.complete_policy = false,
+};
+
+pub const FIRST_LIMIT_DROPPED: Bend = Bend {
+    what: "reduced and replacement costs are no limit",
+    bend: |law| law.first_limit = false,
+};
+
+pub const SECOND_LIMIT_DROPPED: Bend = Bend {
+    what: "support or replacement may become another",
+    bend: |law| law.second_limit = false,
+};
+
+pub const SECOND_LIMIT_AT_FIRST: Bend = Bend {
+    what: "the second limit holds for the edges at vertex 1 too",
+    bend: |law| law.second_limit_left_out = false,
+};
+
+pub const RISES_FROM_ONE: Bend = Bend {
+    what: "a due rises from degree 1 on",
+    bend: |law| law.rises_from_degree = 1,
+};
+
+pub const RISES_FROM_THREE: Bend = Bend {
+    what: "a due rises from degree 3 on",
+    bend: |law| law.rises_from_degree = 3,
+};
+
+pub const FALLS_TO_ONE: Bend = Bend {
+    what: "a due falls at degree 1 alone",
+    bend: |law| law.falls_to_degree = 1,
+};
+
+pub const FALLS_TO_THREE: Bend = Bend {
+    what: "a due falls at degree 3 too",
+    bend: |law| law.falls_to_degree = 3,
+};
+
+pub const SUPPORT_MOVES: Bend = Bend {
+    what: "an end on the support or the replacement moves too",
+    bend: |law| law.support_stays = false,
+};
+
+pub const ONE_END_MOVES: Bend = Bend {
+    what: "end b stays where it is",
+    bend: |law| law.second_end_moves = false,
+};
+
+pub const SECOND_END_AFTER_FIRST: Bend = Bend {
+    what: "end b is treated under end a's new due",
+    bend: |law| law.own_dues = false,
+};
+
+pub const HIGHEST_SUPPORT: Bend = Bend {
+    what: "of equal supports the highest-numbered is taken",
+    bend: |law| law.lowest_support = false,
+};
+
+pub const HIGHEST_REPLACEMENT: Bend = Bend {
+    what: "of equal replacements the highest-numbered is taken",
+    bend: |law| law.lowest_replacement = false,
+};
+
+pub const REQUIRED_SUPPORT: Bend = Bend {
+    what: "a required edge may be a support",
+    bend: |law| law.required_no_support = false,
+};
+
+pub const UNLIMITED_STAYS: Bend = Bend {
+    what: "a due that no edge limits stays",
+    bend: |law| law.unlimited_goes_on = false,
+};
+
+pub const LIFTS_NOT_HELD: Bend = Bend {
+    what: "a change passes the end of the range",
+    bend: |law| law.lifts_held = false,
+};
+
+pub const LIFTED_AT_UPPER_RULED: Bend = Bend {
+    what: "a lifted bound equal to U bars or forces",
+    bend: |law| law.lifted_at_upper_stays = false,
+};
+
+pub const LIFTED_DEAD_KEEPS: Bend = Bend {
+    what: "a 'dead' under lifted dues rules nothing",
+    bend: |law| law.lifted_dead_rules = false,
+};
+
+pub const LIFTED_DEAD_CLOSES: Bend = Bend {
+    what: "a 'dead' under lifted dues closes the node",
+    bend: |law| law.lifted_dead_closes = true,
+};
+
+pub const DEAD_FORCES: Bend = Bend {
+    what: "a 'dead' under lifted dues forces an edge outside the tree",
+    bend: |law| law.dead_by_side = false,
+};
+
+pub const OTHERS_RULED_TOO: Bend = Bend {
+    what: "lifted dues rule of every edge",
+    bend: |law| law.own_leg_alone = false,
+};
+
+pub const LIFTED_IN_TURN: Bend = Bend {
+    what: "an edge is tried under the marks that the rulings before it make",
+    bend: |law| law.lifted_together = false,
+};
+
+pub const LIFTED_DUES_STAY: Bend = Bend {
+    what: "lifted dues stay",
+    bend: |law| law.dues_go_back = false,
+};
+
+pub const LIFTING_ONE_BIT: Bend = Bend {
+    what: "of the number for lifting only the lowest bit counts",
+    bend: |law| law.lifting_bits = 1,
+};
+
+pub const LIFTING_ONE_BYTE: Bend = Bend {
+    what: "of the number for lifting only the lowest byte counts",
+    bend: |law| law.lifting_bits = 0xff,
+};
+
+pub const LIFTING_HALF: Bend = Bend {
+    what: "of the number for lifting only the low half counts",
+    bend: |law| law.lifting_bits = u64::from(u32::MAX),
+};
+
+pub const LIFTING_AS_SENT: Bend = Bend {
+    what: "the number for lifting is kept as it was sent",
+    bend: |law| law.lifting_kept_as_bit = false,
+};
+
+pub const LIFTING_OF_TWO: Bend = Bend {
+    what: "a record's lifting may be 2",
+    bend: |law| law.max_lifting = 2,
+};
+
+pub const LIFTING_NOT_CHECKED: Bend = Bend {
+    what: "a record's lifting may be any number",
+    bend: |law| law.max_lifting = u64::MAX,
+};
+
 pub const FEWER_NAMES: Bend = Bend {
     what: "8 is no name",
     bend: |law| law.max_name = 7,

@@ -175,6 +175,15 @@ pub fn denominator(random: &mut Random) -> u64 {
     }
 }
 
+/// Whether an opening lifts: no or yes, and every fourth yes as a number whose low bytes say no.
+pub fn lifting(random: &mut Random) -> u64 {
+    match random.below(8) {
+        0 => random.pick(&[2, 3, 256, 1 << 32, 1 << 63, u64::MAX]),
+        1..=3 => 1,
+        _ => 0,
+    }
+}
+
 /// A denominator out of range: one past each end, or one whose low bytes alone would do.
 pub fn wrong_denominator(random: &mut Random) -> u64 {
     let past = MAX_DENOMINATOR + 1;
@@ -348,6 +357,7 @@ pub fn opening(random: &mut Random, max_vertices: usize, most: usize, wrong: boo
         sweeps,
         step,
         denominator,
+        lifting: lifting(random),
     }
 }
 

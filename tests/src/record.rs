@@ -30,7 +30,7 @@ pub const CARRIED: usize = NODES * VERTICES;
 pub const GRAPH: usize = 7 * PLACES + 2;
 
 /// Bytes of a record before its stack: settings, upper bound and count.
-pub const BEFORE_STACK: usize = 24 + 2 * 8;
+pub const BEFORE_STACK: usize = 32 + 2 * 8;
 
 /// Bytes of a record: behind the stack are the depth, the graph, the multipliers, what the nodes carry, the incumbent and two flags.
 pub const SIZE: usize =
@@ -44,6 +44,7 @@ pub struct Record {
     pub sweeps: u32,
     pub step: u32,
     pub denominator: u64,
+    pub lifting: u64,
     pub upper: i64,
     pub count: u64,
     pub stack: Vec<u64>,
@@ -75,6 +76,7 @@ impl Record {
         record.sweeps = search.sweeps;
         record.step = search.step;
         record.denominator = search.denominator;
+        record.lifting = search.lifting;
         record.upper = search.upper;
         record.depth = search.stack.len() as u32;
         for (p, Node { marks, multipliers }) in search.stack.iter().enumerate() {
@@ -96,6 +98,7 @@ impl Record {
         bytes.extend(self.ceiling.to_ne_bytes());
         bytes.extend([self.sweeps, self.step].map(u32::to_ne_bytes).concat());
         bytes.extend(self.denominator.to_ne_bytes());
+        bytes.extend(self.lifting.to_ne_bytes());
         bytes.extend(self.upper.to_ne_bytes());
         bytes.extend(self.count.to_ne_bytes());
         bytes.extend(self.stack.iter().flat_map(|x| x.to_ne_bytes()));
@@ -116,6 +119,7 @@ impl Record {
             sweeps: u32::from_ne_bytes(next(&mut rest)),
             step: u32::from_ne_bytes(next(&mut rest)),
             denominator: u64::from_ne_bytes(next(&mut rest)),
+            lifting: u64::from_ne_bytes(next(&mut rest)),
             upper: i64::from_ne_bytes(next(&mut rest)),
             count: u64::from_ne_bytes(next(&mut rest)),
             stack: (0..STACK)
@@ -152,6 +156,7 @@ impl Record {
             sweeps: self.sweeps,
             step: self.step,
             denominator: self.denominator,
+            lifting: self.lifting,
         });
         let search = machine.search.as_mut()?;
         search.upper = self.upper;
@@ -227,7 +232,8 @@ impl Record {
         bit(self.rows(p).1, k)
     }
 
-    fn mark(&self, p: usize, k: usize) -> u8 {
+    /// The mark of edge k, counted from 0, in node p.
+    pub fn mark(&self, p: usize, k: usize) -> u8 {
         match (self.required(p, k), self.struck(p, k)) {
             (true, _) => REQUIRED,
             (_, true) => EXCLUDED,
@@ -262,13 +268,14 @@ impl Record {
             && self.sweeps == 0
             && self.step == 0
             && self.denominator == 0
+            && self.lifting == 0
             && self.upper == 0
             && self.depth == 0
             && self.has_best == 0
             && self.count == 0
     }
 
-    /// A search is open: an opening accepts the arguments, U is a ceiling, at most n + 2 nodes wait, node p has "no leg in both" rows and at least
+    /// A search is open: an opening accepts the arguments and keeps whether it lifts as 0 or 1, U is a ceiling, at most n + 2 nodes wait, node p has "no leg in both" rows and at least
     /// p required ones, an opening accepts the multipliers that it carries, the incumbent is of 0 and 1, and the count is at most 2^63 - 1.
     fn fits(&self, law: &Law) -> bool {
         let m = self.graph.m;
@@ -285,6 +292,7 @@ impl Record {
             && self.sweeps <= law.max_sweeps
             && self.step <= law.max_step
             && (tree::denominator_fits(law, self.denominator) || !law.denominator_checked)
+            && self.lifting <= law.max_lifting
             && ceiling_fits(law, self.upper)
             && self.waiting() <= NODES.min(self.graph.n + law.nodes_above_vertices)
             && (0..self.waiting()).all(|p| {
@@ -414,8 +422,8 @@ impl fmt::Debug for Record {
         )?;
         write!(
             f,
-            " ceiling {} sweeps {} step {} denominator {}",
-            self.ceiling, self.sweeps, self.step, self.denominator
+            " ceiling {} sweeps {} step {} denominator {} lifting {}",
+            self.ceiling, self.sweeps, self.step, self.denominator, self.lifting
         )?;
         write!(
             f,

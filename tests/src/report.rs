@@ -51,6 +51,7 @@ impl Tally {
 }
 
 /// A way to make the reference wrong; the suite must notice.
+#[derive(Clone, Copy)]
 pub struct Bend {
     pub what: &'static str,
     pub bend: fn(&mut Law),

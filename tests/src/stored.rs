@@ -93,7 +93,7 @@ impl Desk {
         self.class.call(&call)
     }
 
-    /// `open CEILING SWEEPS STEP DENOMINATOR`, of the present sea and dues.
+    /// `open CEILING SWEEPS STEP DENOMINATOR`, of the present sea and dues: former openings, without lifting.
     fn opening(&self, words: &[&str]) -> Call {
         Call::Open {
             graph: Box::new(self.graph.clone()),
@@ -102,6 +102,7 @@ impl Desk {
             sweeps: read(words[1]) as u32,
             step: read(words[2]) as u32,
             denominator: read(words[3]) as u64,
+            lifting: 0,
         }
     }
 
@@ -119,6 +120,7 @@ impl Desk {
             ceiling: read(words[0]) as i64,
             budget: read(words[1]) as u64,
             denominator: read(words[2]) as u64,
+            lifting: 0,
             length: sweeps.len(),
             sweeps,
             steps,

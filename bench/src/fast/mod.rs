@@ -3,6 +3,7 @@
 
 mod calls;
 mod dense;
+mod lift;
 mod pass;
 mod search;
 

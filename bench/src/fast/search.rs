@@ -1,8 +1,10 @@
-//! The search: same nodes, same order, same count as document 01's machine, read with document 02's C-16.
+//! The search: same nodes, same order, same count as document 01's machine, read with document 02's C-13 and C-16.
 
+use super::lift::Lift;
 use super::pass::{Changes, Keys, Pass, Required};
 use super::{edges_of, key, number, Key, NUMBERS};
 use crate::inputs::{Graph, EXCLUDED, FREE, PLACES, REQUIRED};
+use crate::planner::Stored;
 
 /// A set of edges by rank: place in the order of the opening's keys, those at vertex 0 last.
 #[derive(Clone, Copy, PartialEq, Eq)]
@@ -57,10 +59,19 @@ pub struct Search {
     count: u64,
     pass: Pass,
     changes: Changes,
+    /// where the opening turned lifting on
+    lift: Option<Box<Lift>>,
 }
 
 impl Search {
-    pub fn open(graph: &Graph, d: &[i32], ceiling: i64, sweeps: u32, step: u32) -> Search {
+    pub fn open(
+        graph: &Graph,
+        d: &[i32],
+        ceiling: i64,
+        sweeps: u32,
+        step: u32,
+        lifting: u64,
+    ) -> Search {
         let mut search = Search {
             m: graph.m(),
             opening_multipliers: [0; super::LANES],
@@ -79,6 +90,7 @@ impl Search {
                 forced: Keys::new(),
                 barred: Keys::new(),
             },
+            lift: (lifting != 0).then(|| Box::new(Lift::new())),
         };
         search.opening_multipliers[..d.len()].copy_from_slice(d);
         search.rank_edges();
@@ -152,7 +164,11 @@ impl Search {
             if self.pass.is_tour() {
                 return self.improve(&node);
             }
-            self.pass.rule(self.upper - bound, &mut self.changes);
+            let slack = self.upper - bound;
+            match &mut self.lift {
+                None => self.pass.rule(slack, &mut self.changes),
+                Some(lift) => self.pass.rule_lifted(slack, lift, &mut self.changes),
+            }
             self.apply(&mut node);
         }
         self.split(node);
@@ -229,6 +245,24 @@ impl Search {
         node.required.set(self.rank[k], true);
         node.parts.add(self.pass.edges[k]);
         self.stack.push(node);
+    }
+
+    pub fn stored(&self) -> Stored {
+        let mark = |node: &Node, k: usize| match () {
+            _ if node.free.has(self.rank[k]) => FREE,
+            _ if node.required.has(self.rank[k]) => REQUIRED,
+            _ => EXCLUDED,
+        };
+        let view = |node: &Node| {
+            let marks = (0..self.m).map(|k| mark(node, k)).collect();
+            (marks, node.multipliers[..self.pass.n].to_vec())
+        };
+        Stored {
+            upper: self.upper,
+            count: self.count,
+            nodes: self.stack.iter().map(view).collect(),
+            best: self.best.map(|best| best[..self.m].to_vec()),
+        }
     }
 
     /// The upper bound and how many nodes wait.

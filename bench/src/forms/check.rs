@@ -72,6 +72,7 @@ pub fn record_fits(record: &Record) -> bool {
             && ceiling_fits(record.ceiling)
             && sweeps_fit(record.sweeps, record.step)
             && record.denominator == 1
+            && record.lifting <= 1
             && ceiling_fits(record.upper)
             && record.waiting() <= graph.n() + 2
             && nodes_fit(&record.stack[..record.waiting()], graph.m())
@@ -104,6 +105,7 @@ fn closed(record: &Record) -> bool {
         && record.sweeps == 0
         && record.step == 0
         && record.denominator == 0
+        && record.lifting == 0
         && record.upper == 0
         && record.depth == 0
         && record.count == 0

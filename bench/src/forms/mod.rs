@@ -12,13 +12,15 @@
 //! From pass to pass of one node goes only the order of its edges, as a start for the sort, and from node
 //! to node nothing. Kruskal goes through one sorted list of keys, the required edges first, with
 //! a label for each vertex. Vertices that required edges join are then one part: only the free edges of
-//! the tree are hung up, between parts, and each free edge outside walks the circle that it closes there.
+//! the tree are hung up, between parts, and each free edge outside walks the circle that it closes there. Where the opening turned lifting on
+//! (document 02, C-13) what a pass keeps is tried under lifted multipliers in that same pass (`lift`), on what these walks found.
 
 mod check;
 mod climb;
 mod grow;
 mod hang;
 mod keys;
+mod lift;
 mod live;
 mod order;
 mod planner;
@@ -30,7 +32,7 @@ mod tests;
 mod tree;
 
 pub use planner::Forms;
-pub use record::{Answer, Record};
+pub use record::{Answer, Record, Wanted};
 pub use tree::{rule, tree};
 
 use crate::inputs::{PLACES, VERTICES};

@@ -1,9 +1,10 @@
 //! The face that the timing calls.
 
-use super::{rule, tree, Answer, Record};
+use super::rows::unpack;
+use super::{rule, tree, Answer, Record, Wanted};
 use crate::fast::Verdict;
-use crate::inputs::Graph;
-use crate::planner::{Job, Planner};
+use crate::inputs::{Graph, PLACES};
+use crate::planner::{Job, Planner, Stored};
 
 pub struct Forms(Box<Record>);
 
@@ -15,10 +16,13 @@ impl Forms {
 
 impl Planner for Forms {
     fn open(&mut self, job: &Job) {
-        let d = &job.multipliers;
-        let answer = self
-            .0
-            .open(&job.graph, d, job.ceiling, job.sweeps, job.step);
+        let wanted = Wanted {
+            ceiling: job.ceiling,
+            sweeps: job.sweeps,
+            step: job.step,
+            lifting: job.lifting,
+        };
+        let answer = self.0.open(&job.graph, &job.multipliers, wanted);
         assert_eq!(answer, Answer::Accepted, "open");
     }
 
@@ -28,6 +32,22 @@ impl Planner for Forms {
 
     fn state(&self) -> (i64, usize) {
         (self.0.upper, self.0.waiting())
+    }
+
+    fn stored(&self) -> Stored {
+        let record = &self.0;
+        let (n, m) = (record.graph.n(), record.graph.m());
+        let view = |p: usize| {
+            let mut marks = [0; PLACES];
+            unpack(&record.stack[p], m, &mut marks);
+            (marks[..m].to_vec(), record.carried[p][..n].to_vec())
+        };
+        Stored {
+            upper: record.upper,
+            count: record.count,
+            nodes: (0..record.waiting()).map(view).collect(),
+            best: (record.has_best == 1).then(|| record.best[..m].to_vec()),
+        }
     }
 
     fn finish(&mut self, tour: &mut [u8]) -> (Verdict, u64) {

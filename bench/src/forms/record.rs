@@ -18,6 +18,8 @@ pub struct Record {
     pub step: u32,
     /// 1 in a search: the references know no fractions (document 02, C-17)
     pub denominator: u64,
+    /// document 02's C-13: 1 where the opening turned lifting on, otherwise 0
+    pub lifting: u64,
     pub upper: i64,
     pub depth: u32,
     pub stack: [Rows; NODES],
@@ -42,6 +44,16 @@ pub enum Answer {
     Best(i64, u64),
 }
 
+/// What an opening takes beside the graph and the multipliers.
+#[derive(Clone, Copy)]
+pub struct Wanted {
+    pub ceiling: i64,
+    pub sweeps: u32,
+    pub step: u32,
+    /// any number but 0 turns it on
+    pub lifting: u64,
+}
+
 /// What the core takes and gives.
 pub struct Step {
     pub record: Record,
@@ -58,6 +70,7 @@ impl Record {
             sweeps: 0,
             step: 0,
             denominator: 0,
+            lifting: 0,
             upper: 0,
             depth: 0,
             stack: [[0; 2 * ROW]; NODES],
@@ -73,8 +86,8 @@ impl Record {
         self.depth as usize
     }
 
-    pub fn open(&mut self, g: &Graph, d: &[i32], ceiling: i64, sweeps: u32, step: u32) -> Answer {
-        let next = search::open(self.step(), g, d, ceiling, sweeps, step);
+    pub fn open(&mut self, g: &Graph, d: &[i32], wanted: Wanted) -> Answer {
+        let next = search::open(self.step(), g, d, wanted);
         *self = next.record;
         next.answer
     }

@@ -1,7 +1,8 @@
 //! The search: the core by value. It relies on the tree part's promise alone.
 
 use super::check::{ceiling_fits, graph_fits, multipliers_fit, record_fits, sweeps_fit};
-use super::record::{Answer, Record, Step};
+use super::lift::{Lifting, Off, On};
+use super::record::{Answer, Record, Step, Wanted};
 use super::rows::{excluding, lowest_free, packed, requiring, unpack, Rows, ROW};
 use super::tree::{self, Tree, Work};
 use super::{Marks, Multipliers};
@@ -11,31 +12,24 @@ use crate::inputs::{Graph, MAX_MULTIPLIER, PLACES, REQUIRED, VERTICES};
 const MOST: u64 = (1 << 63) - 1;
 
 /// The refusal of opening's arguments, 0 where there is none.
-fn fault(graph: &Graph, d: &[i32], ceiling: i64, sweeps: u32, step: u32) -> u32 {
+fn fault(graph: &Graph, d: &[i32], wanted: &Wanted) -> u32 {
     match () {
         _ if !graph_fits(graph) => 15,
         _ if d.len() != graph.n() => 11,
         _ if !multipliers_fit(d) => 12,
-        _ if !ceiling_fits(ceiling) => 13,
-        _ if !sweeps_fit(sweeps, step) => 14,
+        _ if !ceiling_fits(wanted.ceiling) => 13,
+        _ if !sweeps_fit(wanted.sweeps, wanted.step) => 14,
         _ => 0,
     }
 }
 
 #[inline(always)]
-pub fn open(
-    mut step: Step,
-    graph: &Graph,
-    d: &[i32],
-    ceiling: i64,
-    sweeps: u32,
-    gain: u32,
-) -> Step {
+pub fn open(mut step: Step, graph: &Graph, d: &[i32], wanted: Wanted) -> Step {
     let record = &mut step.record;
     let refusal = match () {
         _ if !record_fits(record) => 24,
         _ if record.open == 1 => 21,
-        _ => fault(graph, d, ceiling, sweeps, gain),
+        _ => fault(graph, d, &wanted),
     };
     if refusal != 0 {
         step.answer = Answer::Refused(refusal);
@@ -49,9 +43,10 @@ pub fn open(
     record.graph.cost[..m].copy_from_slice(&graph.cost[..m]);
     record.graph.mark[..m].copy_from_slice(&graph.mark[..m]);
     record.multipliers[..d.len()].copy_from_slice(d);
-    (record.ceiling, record.upper) = (ceiling, ceiling);
-    (record.sweeps, record.step) = (sweeps, gain);
+    (record.ceiling, record.upper) = (wanted.ceiling, wanted.ceiling);
+    (record.sweeps, record.step) = (wanted.sweeps, wanted.step);
     record.denominator = 1;
+    record.lifting = (wanted.lifting != 0) as u64;
     record.stack[0] = packed(&record.graph.mark, m);
     record.carried[0] = record.multipliers;
     record.depth = 1;
@@ -115,7 +110,10 @@ pub fn run(mut step: Step, budget: u64) -> Step {
         0 => {
             let left = budget.min(MOST - record.count);
             if left > 0 && record.depth > 0 {
-                open_nodes(record, left);
+                match record.lifting {
+                    0 => open_nodes(record, left, Off),
+                    _ => open_nodes(record, left, On::blank()),
+                }
             }
             match record.depth {
                 0 => Answer::Finished(record.count),
@@ -128,11 +126,11 @@ pub fn run(mut step: Step, budget: u64) -> Step {
 }
 
 /// Opens nodes. The one that a split puts on top stays in hand, its marks are not copied.
-fn open_nodes(record: &mut Record, mut left: u64) {
+fn open_nodes(record: &mut Record, mut left: u64, lifting: impl Lifting) {
     let mut node = Node {
         graph: record.graph.clone(),
         rows: [0; 2 * ROW],
-        work: Work::blank(),
+        work: Work::blank(lifting),
         rulings: [0; PLACES],
         multipliers: record.multipliers,
     };
@@ -163,16 +161,16 @@ fn open_nodes(record: &mut Record, mut left: u64) {
 }
 
 /// The node that is open: its marks are those of the graph. The rows are of its marks as it was opened, and again after a split.
-struct Node {
+struct Node<L> {
     graph: Graph,
     rows: Rows,
-    work: Work,
+    work: Work<L>,
     rulings: Marks,
     /// those of the last pass
     multipliers: Multipliers,
 }
 
-impl Node {
+impl<L: Lifting> Node<L> {
     /// All passes; whether the node is still open.
     fn passes(&mut self, record: &mut Record) -> bool {
         let mut d = self.multipliers;
@@ -245,7 +243,7 @@ fn adjust(d: &mut Multipliers, tree: &Tree, n: usize, step: i32) {
 
 /// Piles the node with its lowest-numbered free edge excluded and makes that edge required, both with the multipliers of the last pass; false
 /// where none is free.
-fn split(record: &mut Record, node: &mut Node) -> bool {
+fn split<L>(record: &mut Record, node: &mut Node<L>) -> bool {
     let graph = &mut node.graph;
     let (rows, waiting) = (packed(&graph.mark, graph.m()), record.waiting());
     let Some(k) = lowest_free(&rows, graph.m()) else {

@@ -3,7 +3,7 @@
 
 use super::check::record_fits;
 use super::rows::{packed, unpack, ROW};
-use super::{Answer, Forms, Record};
+use super::{Answer, Forms, Record, Wanted};
 use crate::agree::{any_ceiling, any_multipliers, sparse};
 use crate::inputs::{Random, MAX_CEILING, MAX_COST, MAX_MULTIPLIER, PLACES, VERTICES};
 use crate::planner::{Job, Planner, Reference};
@@ -17,9 +17,19 @@ fn random_job(random: &mut Random) -> Job {
         ceiling: any_ceiling(random, bound),
         sweeps: random.below(16) as u32,
         step: [0, 1, 20, 300, 10_000][random.below(5)],
+        lifting: random.below(2) as u64,
         budget: 0,
         multipliers: d,
         graph,
+    }
+}
+
+fn wanted(job: &Job) -> Wanted {
+    Wanted {
+        ceiling: job.ceiling,
+        sweeps: job.sweeps,
+        step: job.step,
+        lifting: job.lifting,
     }
 }
 
@@ -43,7 +53,7 @@ fn same(random: &mut Random, forms: &mut Forms) {
     for _ in 0..random.below(4) {
         let budget = random.below(50) as u64;
         assert_eq!(forms.run(budget), free.run(budget));
-        assert_eq!(forms.state(), free.state());
+        assert_eq!(forms.stored(), free.stored());
     }
     assert_eq!(
         forms.finish(&mut lists[0][..m]),
@@ -111,7 +121,7 @@ fn plain_check(r: &Record) -> bool {
     if r.open == 0 {
         let numbers = [r.ceiling, r.upper, r.sweeps as i64, r.step as i64];
         let zero = numbers == [0; 4] && r.count == 0 && n == 0 && m == 0 && depth == 0;
-        return unused && zero && r.denominator == 0 && r.has_best == 0;
+        return unused && zero && r.denominator == 0 && r.lifting == 0 && r.has_best == 0;
     }
     let within = |value: i32, most: i32| (-most..=most).contains(&value);
     let mut pairs: Vec<_> = (0..m).map(|k| (g.a[k], g.b[k])).collect();
@@ -131,6 +141,7 @@ fn plain_check(r: &Record) -> bool {
         && r.sweeps <= 15
         && r.step <= 10_000
         && r.denominator == 1
+        && r.lifting <= 1
         && (0..depth).all(|p| {
             let least = (0..m).filter(|k| required(r, p, *k)).count();
             (0..m).all(|k| !(required(r, p, k) && excluded(r, p, k))) && p <= least
@@ -148,7 +159,7 @@ fn bend(r: &mut Record, random: &mut Random) {
     let byte = [0, 1, 2, 3, 21, 255][random.below(6)];
     let past = MAX_CEILING + 1;
     let wide = [-1, 0, 1, MAX_CEILING, past, -past, i64::MIN][random.below(7)];
-    match random.below(21) {
+    match random.below(22) {
         0 => r.open = byte,
         1 => r.graph.n = byte,
         2 => r.graph.m = r.graph.m.wrapping_add(1),
@@ -168,6 +179,7 @@ fn bend(r: &mut Record, random: &mut Random) {
         17 => r.carried[p][k % VERTICES] = [0, 1, MAX_MULTIPLIER + 1, i32::MIN][random.below(4)],
         18 => r.carried[random.below(r.waiting() + 1) % 22][k % VERTICES] = [0, 1][random.below(2)],
         16 => r.best[k] = byte,
+        20 => r.lifting = [0, 1, 2, u64::MAX][random.below(4)],
         19 => r.denominator = [0, 1, 2, 1_001][random.below(4)],
         _ => r.count = [0, (1 << 63) - 1, 1 << 63][random.below(3)],
     }
@@ -181,13 +193,7 @@ fn checks_the_record_as_it_says() {
         let job = random_job(&mut random);
         let mut record = Record::fresh();
         if random.below(8) > 0 {
-            record.open(
-                &job.graph,
-                &job.multipliers,
-                job.ceiling,
-                job.sweeps,
-                job.step,
-            );
+            record.open(&job.graph, &job.multipliers, wanted(&job));
             record.run(random.below(40) as u64);
         }
         assert!(record_fits(&record) && plain_check(&record));
@@ -216,26 +222,24 @@ fn refuses_in_document_01s_order() {
     assert_eq!(record.close(), Answer::Refused(20));
     let mut bad = g.clone();
     bad.mark[0] = 3;
-    assert_eq!(
-        record.open(&bad, &d[1..], MAX_CEILING + 1, 16, 0),
-        Answer::Refused(15)
-    );
-    assert_eq!(
-        record.open(g, &d[1..], MAX_CEILING + 1, 16, 0),
-        Answer::Refused(11)
-    );
     let high = vec![1_000_001; g.n()];
-    assert_eq!(
-        record.open(g, &high, MAX_CEILING + 1, 16, 0),
-        Answer::Refused(12)
-    );
-    assert_eq!(
-        record.open(g, d, MAX_CEILING + 1, 16, 0),
-        Answer::Refused(13)
-    );
-    assert_eq!(record.open(g, d, 0, 0, 10_001), Answer::Refused(14));
-    assert_eq!(record.open(g, d, job.ceiling, 0, 0), Answer::Accepted);
-    assert_eq!(record.open(&bad, d, 0, 0, 0), Answer::Refused(21));
+    let past = Wanted {
+        ceiling: MAX_CEILING + 1,
+        sweeps: 16,
+        step: 0,
+        lifting: 2,
+    };
+    let far = Wanted {
+        step: 10_001,
+        ..wanted(&job)
+    };
+    assert_eq!(record.open(&bad, &d[1..], past), Answer::Refused(15));
+    assert_eq!(record.open(g, &d[1..], past), Answer::Refused(11));
+    assert_eq!(record.open(g, &high, past), Answer::Refused(12));
+    assert_eq!(record.open(g, d, past), Answer::Refused(13));
+    assert_eq!(record.open(g, d, far), Answer::Refused(14));
+    assert_eq!(record.open(g, d, wanted(&job)), Answer::Accepted);
+    assert_eq!(record.open(&bad, d, far), Answer::Refused(21));
     assert_eq!(record.show(&mut list), Answer::Refused(22));
     assert_eq!(record.close(), Answer::Accepted);
     assert!(record_fits(&record) && record.open == 0);

@@ -1,10 +1,11 @@
 //! The calls of the tree part: one graph and multipliers in, tree and rulings out.
 
 use super::check::{ceiling_fits, graph_fits, multipliers_fit};
-use super::climb;
+use super::climb::{self, Growth};
 use super::grow::Grown;
 use super::hang::Hung;
 use super::keys::{lanes, Lanes, LANES};
+use super::lift::{Lifting, Off};
 use super::order::Order;
 use super::rows::packed;
 use super::{Marks, Multipliers};
@@ -28,29 +29,31 @@ pub enum Answer {
 
 /// What the caller lends for passes on one graph: the order of the edges in the pass before, on which
 /// no answer depends, and room. Where an edge may no longer be excluded, the caller lists them anew.
-pub struct Work {
+pub struct Work<L> {
     pub order: Order,
     grown: Grown,
     hung: Hung,
+    lifting: L,
 }
 
-impl Work {
+impl<L: Lifting> Work<L> {
     #[inline(always)]
-    pub fn blank() -> Work {
+    pub fn blank(lifting: L) -> Work<L> {
         Work {
             order: Order::blank(),
             grown: Grown::blank(),
             hung: Hung::blank(),
+            lifting,
         }
     }
 }
 
 /// One pass: the least 1-tree and, where it is within the ceiling, all rulings.
-pub fn pass(
+pub fn pass<L: Lifting>(
     graph: &Graph,
     d: &Multipliers,
     ceiling: i64,
-    work: &mut Work,
+    work: &mut Work<L>,
     rulings: &mut Marks,
 ) -> Answer {
     let d = &lanes(d);
@@ -60,8 +63,14 @@ pub fn pass(
         Some(bound) if bound <= ceiling => bound,
         _ => return Answer::Infeasible,
     };
-    let slack = ceiling - bound;
-    climb::rule(graph, grown, order, &mut work.hung, slack, rulings);
+    let growth = Growth {
+        grown,
+        order,
+        d,
+        slack: ceiling - bound,
+    };
+    let (hung, lifting) = (&mut work.hung, &mut work.lifting);
+    climb::rule(graph, &growth, hung, lifting, rulings);
     Answer::Within(Tree {
         bound,
         edges: grown.edges,
@@ -106,9 +115,14 @@ pub fn rule(graph: &Graph, d: &[i32], ceiling: i64, out: &mut [u8]) -> Option<i6
     let (mut grown, mut hung) = (Grown::blank(), Hung::blank());
     let mut order = Order::blank();
     let bound = alone(graph, &d, &mut grown, &mut order).filter(|bound| *bound <= ceiling)?;
-    let slack = ceiling - bound;
+    let growth = Growth {
+        grown: &grown,
+        order: &order,
+        d: &d,
+        slack: ceiling - bound,
+    };
     let mut rulings = [0; PLACES];
-    climb::rule(graph, &grown, &order, &mut hung, slack, &mut rulings);
+    climb::rule(graph, &growth, &mut hung, &mut Off, &mut rulings);
     out.copy_from_slice(&rulings[..graph.m()]);
     Some(bound)
 }

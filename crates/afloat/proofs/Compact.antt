@@ -1,22 +1,21 @@
 -- The least 1-tree and the rulings of the reduced network without edges that are excluded in it are those over the active vertices.
 use Rattle.std.specs.Prelude.{◌≡◌, false, ℕ, ℤ}
-use Rattle.std.proofs.Common.{sym, ap, ◌∙◌, subst}
+use Rattle.std.proofs.Common.{sym, ◌∙◌, subst}
 use Rattle.lists.specs.Members.{◌∈◌}
 use Rattle.lists.specs.Numbers.{up_to}
 use Rattle.graph.specs.Network.{Network}
 use Rattle.tree_theory.specs.OneTree.{Edges, Least}
-use Rattle.tree_theory.specs.Enumeration.{Tree, no_tree, a_tree, least_tree, was_excluded, ruling}
-use Rattle.tree_theory.specs.LeastTree.{Right, tree_right, tree_found, tree_missing}
+use Rattle.tree_theory.specs.Enumeration.{least_tree, was_excluded, ruling}
 use Rattle.tree_theory.specs.Rulings.{rules_excluded}
-use Rattle.compaction.specs.Ranks.{rank, nth, down}
-use Rattle.compaction.specs.Thinned.{spread, RestExcluded, tree_only, tree-down, spread_least, spread-bound}
+use Rattle.compaction.specs.Ranks.{rank, nth}
+use Rattle.compaction.specs.Thinned.{spread, RestExcluded, Spread, spread_least, least-thin}
 use Rattle.compaction.specs.Rulings.{ruling-thin}
 use Rattle.afloat.specs.Over.{Ashore, LeastOver}
 use Rattle.afloat.specs.Reduced.{reduced, reduced_multiplier, Fit}
 use Rattle.afloat.proofs.Trees.{least_iff}
 use Rattle.afloat.specs.Values.{tree_over, ruling_over}
 use Rattle.afloat.proofs.Decided.{tree-reduced, ruling-reduced}
-use Rattle.afloat.specs.Compact.{Keeping, compact, Spread, old}
+use Rattle.afloat.specs.Compact.{Keeping, compact, old}
 
 module _ (s : Ashore) (g : Network) (f : Fit s g) (c : Edges) (keeping : Keeping s g c) where
   rest_excluded : RestExcluded c (reduced s g)
@@ -48,15 +47,4 @@ module _ (s : Ashore) (g : Network) (f : Fit s g) (c : Edges) (keeping : Keeping
     pub compact-tree : Spread c g.m (least_tree (compact s c g) δ) (tree_over s g d)
     compact-tree =
         subst (Spread c g.m (least_tree (compact s c g) δ)) (sym (tree-reduced s g f d))
-        (go (least_tree (compact s c g) δ) (tree_right (compact s c g) δ))
-      where
-        go : (x : Tree) → Right (compact s c g) δ x → Spread c g.m x (least_tree (reduced s g) δ)
-        go no_tree h =
-            tree_missing (reduced s g) δ
-            (λ t o. h (down c g.m t) (tree-down c (reduced s g) t (tree_only c (reduced s g) rest_excluded t o) o))
-        go (a_tree b r) h =
-            let q = tree_found (reduced s g) δ (spread c r) (spread_least c (reduced s g) rest_excluded r δ h.1) in (
-              q.0,
-              q.1 ∙ ap (λ (z : ℤ). a_tree z q.0) (spread-bound c (reduced s g) rest_excluded r δ ∙ sym h.0),
-              q.2,
-            )
+        (least-thin c (reduced s g) rest_excluded δ)

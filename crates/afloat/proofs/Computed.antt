@@ -15,7 +15,8 @@ use Rattle.compaction.specs.Ranks.{rank, nth}
 use Rattle.afloat.specs.Over.{Ashore, ashore, ashore_fits}
 use Rattle.afloat.specs.Values.{tree_over, ruling_over}
 use Rattle.afloat.specs.Reduced.{reduced_multiplier, Fit}
-use Rattle.afloat.specs.Compact.{Keeping, Spread}
+use Rattle.compaction.specs.Thinned.{Spread}
+use Rattle.afloat.specs.Compact.{Keeping}
 use Rattle.afloat.proofs.Compact.{compact-tree, compact-ruling, compact_rest}
 use Rattle.afloat.specs.Graphs.{Renumbered}
 use Rattle.afloat.specs.Scaling.{fit_scaled, keeping_scaled}

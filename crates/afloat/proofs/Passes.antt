@@ -67,19 +67,19 @@ fit-marks s g x f = record {
 -- ---- a pass
 
 module _ (s : Ashore) (g : Network) (f : Fit s g) (d : ℕ → ℤ) (upper : ℤ) where
-  applied-reduced : applied_over s g d upper ≡ applied (reduced s g) (reduced_multiplier s g.n d) upper
+  applied-reduced : applied_over s g d upper ≡ applied false (reduced s g) (reduced_multiplier s g.n d) upper
   unfolding applied_over applied
   applied-reduced = row_same g.m _ _ (λ j h. ap mark_by (ruling-reduced s g f d upper (suc j)))
 
   -- it is the pass of the reduced network
-  pass-reduced : pass_over s g d upper ≡ pass (reduced s g) (reduced_multiplier s g.n d) upper
+  pass-reduced : pass_over s g d upper ≡ pass false (reduced s g) (reduced_multiplier s g.n d) upper
   unfolding pass_over pass
   pass-reduced =
       ap (pass_by_over s g d upper) (tree-reduced s g f d)
       ∙ go (least_tree (reduced s g) (reduced_multiplier s g.n d)) (tree_right (reduced s g) (reduced_multiplier s g.n d))
     where
       go : (x : Tree) → Right (reduced s g) (reduced_multiplier s g.n d) x
-          → pass_by_over s g d upper x ≡ pass_by (reduced s g) (reduced_multiplier s g.n d) upper x
+          → pass_by_over s g d upper x ≡ pass_by false (reduced s g) (reduced_multiplier s g.n d) upper x
       go no_tree r = unfold pass_by_over pass_by in refl
       go (a_tree b t) r =
           unfold pass_by_over pass_by in
@@ -88,20 +88,20 @@ module _ (s : Ashore) (g : Network) (f : Fit s g) (d : ℕ → ℤ) (upper : ℤ
 
 -- how an unclosed node goes on is asked at its least 1-tree and at its rulings alone
 concluded-widened : (s : Ashore) (n : ℕ) (h : Network) (d : ℕ → ℤ) (upper : ℤ) (on too : Edges → Marks → Opened)
-    → ((t : Edges) → Least h d t → on t (applied h d upper) ≡ widened_opened s n (too t (applied h d upper)))
-    → concluded h.m (pass h d upper) on ≡ widened_opened s n (concluded h.m (pass h d upper) too)
+    → ((t : Edges) → Least h d t → on t (applied false h d upper) ≡ widened_opened s n (too t (applied false h d upper)))
+    → concluded h.m (pass false h d upper) on ≡ widened_opened s n (concluded h.m (pass false h d upper) too)
 unfolding pass pass_by
 concluded-widened s n h d upper on too same = go (least_tree h d) (tree_right h d)
   where
     by_tests : (t : Edges) → Least h d t → (above tour : Bool)
-        → concluded h.m (cond above shut (cond tour (found t) (unclosed t (applied h d upper)))) on
-        ≡ widened_opened s n (concluded h.m (cond above shut (cond tour (found t) (unclosed t (applied h d upper)))) too)
+        → concluded h.m (cond above shut (cond tour (found t) (unclosed t (applied false h d upper)))) on
+        ≡ widened_opened s n (concluded h.m (cond above shut (cond tour (found t) (unclosed t (applied false h d upper)))) too)
     by_tests t l true tour = refl
     by_tests t l false true = refl
     by_tests t l false false = same t l
 
     go : (x : Tree) → Right h d x
-        → concluded h.m (pass_by h d upper x) on ≡ widened_opened s n (concluded h.m (pass_by h d upper x) too)
+        → concluded h.m (pass_by false h d upper x) on ≡ widened_opened s n (concluded h.m (pass_by false h d upper x) too)
     go no_tree r = refl
     go (a_tree b t) r = by_tests t r.1 (lt_z upper b) (is_tour h t)
 
@@ -122,11 +122,11 @@ branch_widened s n d x z = go (ltb (first_free x) (length x))
 
 module _ (s : Ashore) (g : Network) (f : Fit s g) (inner : Inner s g) where
   one-pass : (d : List ℤ) (upper : ℤ) (x : Marks) → Strikes s g x
-      → pass_over s (with_marks g x) (multiplier d) upper ≡ pass (with_marks (reduced s g) x) (multiplier (reduced_list s g.n d)) upper
+      → pass_over s (with_marks g x) (multiplier d) upper ≡ pass false (with_marks (reduced s g) x) (multiplier (reduced_list s g.n d)) upper
   one-pass d upper x h =
       pass-reduced s (with_marks g x) (fit-marks s g x f) (multiplier d) upper
-      ∙ ap (λ (e : ℕ → ℤ). pass (reduced s (with_marks g x)) e upper) same
-      ∙ ap (λ (q : Network). pass q (multiplier (reduced_list s g.n d)) upper) (marks-reduced s g x h)
+      ∙ ap (λ (e : ℕ → ℤ). pass false (reduced s (with_marks g x)) e upper) same
+      ∙ ap (λ (q : Network). pass false q (multiplier (reduced_list s g.n d)) upper) (marks-reduced s g x h)
     where
       same : reduced_multiplier s (with_marks g x).n (multiplier d) ≡ multiplier (reduced_list s g.n d)
       same = unfold with_marks in sym (list_multipliers s g.n d)
@@ -136,7 +136,7 @@ module _ (s : Ashore) (g : Network) (f : Fit s g) (inner : Inner s g) where
     least_free : (t : Edges) → Least (with_marks (reduced s g) x) d t → Untouched s g t
     least_free t l k i e = l.tree.avoids k (unfold with_marks in i) (unfold with_marks in h k e)
 
-    applied_strikes : Strikes s g (applied (with_marks (reduced s g) x) d upper)
+    applied_strikes : Strikes s g (applied false (with_marks (reduced s g) x) d upper)
     unfolding applied with_marks
     applied_strikes k e =
         row_mark g.m (λ j. mark_by (ruling (with_marks (reduced s g) x) d upper j)) k (inner k e)
@@ -144,26 +144,26 @@ module _ (s : Ashore) (g : Network) (f : Fit s g) (inner : Inner s g) where
 
   -- THE PASSES OF A NODE
   pub passes-reduced : (step : ℕ) (upper : ℤ) (left : ℕ) (d : List ℤ) (x : Marks) → Grounded s g.n d → Strikes s g x
-      → passes_over s g step upper left d x ≡ widened_opened s g.n (passes (reduced s g) step upper left (reduced_list s g.n d) x)
+      → passes_over s g step upper left d x ≡ widened_opened s g.n (passes false (reduced s g) step upper left (reduced_list s g.n d) x)
   unfolding passes_over passes
   passes-reduced step upper zero d x z h =
       ap (λ (p : Pass). concluded g.m p (λ t y. branch d y)) (one-pass d upper x h)
       ∙ unfold with_marks in
       concluded-widened s g.n (with_marks (reduced s g) x) (multiplier (reduced_list s g.n d)) upper
       (λ t y. branch d y) (λ t y. branch (reduced_list s g.n d) y)
-      (λ t l. branch_widened s g.n d (applied (with_marks (reduced s g) x) (multiplier (reduced_list s g.n d)) upper) z)
+      (λ t l. branch_widened s g.n d (applied false (with_marks (reduced s g) x) (multiplier (reduced_list s g.n d)) upper) z)
   passes-reduced step upper (suc left) d x z h =
       ap (λ (p : Pass). concluded g.m p (λ t y. passes_over s g step upper left (gained_over s g step t d) y)) (one-pass d upper x h)
       ∙ unfold with_marks in
       concluded-widened s g.n (with_marks (reduced s g) x) (multiplier (reduced_list s g.n d)) upper
       (λ t y. passes_over s g step upper left (gained_over s g step t d) y)
-      (λ t y. passes (reduced s g) step upper left (gained (reduced s g) step t (reduced_list s g.n d)) y)
+      (λ t y. passes false (reduced s g) step upper left (gained (reduced s g) step t (reduced_list s g.n d)) y)
       (λ t l.
-      passes-reduced step upper left (gained_over s g step t d) (applied (with_marks (reduced s g) x) (multiplier (reduced_list s g.n d)) upper)
+      passes-reduced step upper left (gained_over s g step t d) (applied false (with_marks (reduced s g) x) (multiplier (reduced_list s g.n d)) upper)
       (grounded_gained s g step t d z) (applied_strikes (multiplier (reduced_list s g.n d)) upper x h)
       ∙ ap (λ (e : List ℤ).
       widened_opened s g.n
-      (passes (reduced s g) step upper left e (applied (with_marks (reduced s g) x) (multiplier (reduced_list s g.n d)) upper)))
+      (passes false (reduced s g) step upper left e (applied false (with_marks (reduced s g) x) (multiplier (reduced_list s g.n d)) upper)))
       (sym (gained-reduced s g f t (least_free (multiplier (reduced_list s g.n d)) upper x h t l) step d)))
 
   -- AND AMONG THE KEPT EDGES, none of which is touched
@@ -182,7 +182,7 @@ module _ (s : Ashore) (g : Network) (f : Fit s g) (inner : Inner s g) where
 
     pub passes-compact : (step : ℕ) (upper : ℤ) (left : ℕ) (d : List ℤ) (y : Marks) → length y ≡ rank c g.m → Grounded s g.n d
         → passes_over s g step upper left d (spread_marks c g.m y)
-        ≡ widened_opened s g.n (spread_opened c g.m (passes (thin c (reduced s g)) step upper left (reduced_list s g.n d) y))
+        ≡ widened_opened s g.n (spread_opened c g.m (passes false (thin c (reduced s g)) step upper left (reduced_list s g.n d) y))
     passes-compact step upper left d y long z =
         passes-reduced step upper left d (spread_marks c g.m y) z (spread_strikes y)
-        ∙ ap (widened_opened s g.n) (passes-thin c (reduced s g) step upper left (reduced_list s g.n d) y long)
+        ∙ ap (widened_opened s g.n) (passes-thin c (reduced s g) false step upper left (reduced_list s g.n d) y long)

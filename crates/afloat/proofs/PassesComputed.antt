@@ -1,7 +1,7 @@
 -- THE PASSES OF A NODE ON THE SMALL GRAPH come to what they come to over the active vertices, for every denominator q: r is the graph of the kept
 -- edges over the active vertices, made from the graph g; y are the marks of the kept edges, d the multipliers of all vertices. (Of the tree and the
 -- rulings: Computed.)
-use Rattle.std.specs.Prelude.{◌≡◌, true, List, ℕ, length, ℤ}
+use Rattle.std.specs.Prelude.{◌≡◌, true, false, List, ℕ, length, ℤ}
 use Rattle.std.proofs.Common.{sym, ◌∙◌}
 use Rattle.graph.specs.declared.Graph.{Graph}
 use Rattle.graph.specs.Network.{network}
@@ -27,11 +27,11 @@ pub small-passes : (l : List ℕ) (c : Edges) (g r : Graph) → value.Valid g �
     → length y ≡ rank c (network g).m → Grounded (ashore l) (network g).n d
     → passes_over (ashore l) (scaled_by q (network g)) step upper left d (spread_marks c (network g).m y)
     ≡ widened_opened (ashore l) (network g).n
-    (spread_opened c (network g).m (passes (scaled_by q (network r)) step upper left (reduced_list (ashore l) (network g).n d) y))
+    (spread_opened c (network g).m (passes false (scaled_by q (network r)) step upper left (reduced_list (ashore l) (network g).n d) y))
 small-passes l c g r v fits keeping h q step upper left d y long z =
     passes-compact (ashore l) (scaled_by q (network g)) (fit_scaled q (ashore l) (network g) (fit_of g v l fits)) (inner_of g l) c keeping.free
     step upper left d y long z
     ∙ sym (λ i.
     widened_opened (ashore l) (network g).n
     (spread_opened c (network g).m
-    (passes (small-network l c g r v fits keeping h q i) step upper left (reduced_list (ashore l) (network g).n d) y)))
+    (passes false (small-network l c g r v fits keeping h q i) step upper left (reduced_list (ashore l) (network g).n d) y)))

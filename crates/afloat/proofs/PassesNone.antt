@@ -1,4 +1,5 @@
--- "with none ashore they read as before": where no vertex is inactive, a pass and the passes of a node are the machine's. Assumes nothing else.
+-- "with none ashore they read as before": where no vertex is inactive, a pass and the passes of a node are the machine's without lifting.
+-- Assumes nothing else.
 use Rattle.std.specs.Prelude.{◌≡◌, Bool, false, List, ℕ, zero, suc, ℤ}
 use Rattle.std.proofs.Math.Path.{refl, ap, ap₂}
 use Rattle.std.proofs.Common.{◌∙◌}
@@ -17,15 +18,15 @@ use Rattle.afloat.specs.PassesNone.{gained_none}
 
 module _ (s : Ashore) (none : (v : ℕ) → s v ≡ false) (g : Network) where
   -- A PASS
-  applied_none : (d : ℕ → ℤ) (upper : ℤ) → applied_over s g d upper ≡ applied g d upper
+  applied_none : (d : ℕ → ℤ) (upper : ℤ) → applied_over s g d upper ≡ applied false g d upper
   unfolding applied_over applied
   applied_none d upper = λ i. row g.m (λ k. mark_by (ruling_none s none g d upper k i))
 
-  pub pass_none : (d : ℕ → ℤ) (upper : ℤ) → pass_over s g d upper ≡ pass g d upper
+  pub pass_none : (d : ℕ → ℤ) (upper : ℤ) → pass_over s g d upper ≡ pass false g d upper
   unfolding pass_over pass
   pass_none d upper = ap (pass_by_over s g d upper) (least_tree_none s none g d) ∙ go (least_tree g d)
     where
-      go : (x : Tree) → pass_by_over s g d upper x ≡ pass_by g d upper x
+      go : (x : Tree) → pass_by_over s g d upper x ≡ pass_by false g d upper x
       go no_tree = unfold pass_by_over pass_by in refl
       go (a_tree b t) =
           unfold pass_by_over pass_by in
@@ -33,7 +34,7 @@ module _ (s : Ashore) (none : (v : ℕ) → s v ≡ false) (g : Network) where
 
 -- THE PASSES OF A NODE
 pub passes_none : (s : Ashore) → ((v : ℕ) → s v ≡ false) → (g : Network) (step : ℕ) (upper : ℤ) (left : ℕ) (d : List ℤ) (x : Marks)
-    → passes_over s g step upper left d x ≡ passes g step upper left d x
+    → passes_over s g step upper left d x ≡ passes false g step upper left d x
 unfolding passes_over passes
 passes_none s none g step upper zero d x =
     ap (λ (p : Pass). concluded g.m p (λ t y. branch d y)) (pass_none s none (with_marks g x) (multiplier d) upper)

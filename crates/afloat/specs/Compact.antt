@@ -9,12 +9,10 @@ use Rattle.lists.specs.Members.{◌∈◌}
 use Rattle.lists.specs.Numbers.{up_to}
 use Rattle.graph.specs.Network.{Network, excluded}
 use Rattle.tree_theory.specs.OneTree.{Edges}
-use Rattle.tree_theory.specs.Agree.{Agree}
-use Rattle.tree_theory.specs.Enumeration.{Tree, no_tree, a_tree}
 use Rattle.tree_theory.specs.Valid.{Valid, is_excluded, excluded_is}
 use Rattle.tours.specs.Renumbering.{Simple}
 use Rattle.compaction.specs.Ranks.{rank, nth, nth_in, nth-kept, rank_back}
-use Rattle.compaction.specs.Thinned.{thin, spread}
+use Rattle.compaction.specs.Thinned.{thin}
 use Rattle.afloat.specs.Over.{Ashore, active, touched, mark_over}
 use Rattle.afloat.specs.Reduced.{reduced, Fit, reduced-valid, a_live, b_live, a_is, b_is, live_same}
 
@@ -47,11 +45,6 @@ keeping_kept s g = record {
 
 abbrev pub compact : Ashore → Edges → Network → Network
 compact s c g = thin c (reduced s g)
-
--- what the tree in new numbers says of the tree in old ones, of m edges
-abbrev pub Spread : Edges → ℕ → Tree → Tree → Type 0
-Spread c m no_tree x = (x ≡ no_tree)
-Spread c m (a_tree b r) x = (t : Edges) × (x ≡ a_tree b t) × Agree m t (spread c r)
 
 module _ (s : Ashore) (g : Network) (f : Fit s g) (c : Edges) (keeping : Keeping s g c) where
   pub compact-valid : Valid (compact s c g)

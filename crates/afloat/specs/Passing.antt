@@ -1,6 +1,6 @@
--- A pass and the passes of a node over the active vertices, as the machine has them over all: with the tree, the rulings and the test for a tour
--- over the active vertices. Marks, lists of multipliers and nodes are in the numbers of the network, and have all vertices and edges. Definitions
--- only.
+-- A pass and the passes of a node over the active vertices, as the machine has them over all without lifting (document 02, C-13): with the tree, the
+-- rulings and the test for a tour over the active vertices. Marks, lists of multipliers and nodes are in the numbers of the network, and have all
+-- vertices and edges. Definitions only.
 use Rattle.std.specs.Prelude.{cond, List, ℕ, zero, suc, ℤ}
 use Rattle.std.specs.Int.Signed.{lt_z}
 use Rattle.lists.specs.Rows.{row}

@@ -1,6 +1,6 @@
 -- A SET OF EDGES IS A TOUR OVER THE ACTIVE VERTICES EXACTLY WHERE IT IS ONE OF THE REDUCED NETWORK, of the same cost. A tour over three active
 -- vertices or more has no edge that touches another, even where none says so.
-use Rattle.std.specs.Prelude.{◌≡◌, ◌↔◌, ◌⊎◌, ◌&&◌, ℕ, suc, ◌≤◌, eqb, ℤ}
+use Rattle.std.specs.Prelude.{◌≡◌, ◌↔◌, ◌⊎◌, ◌&&◌, ℕ, suc, eqb, ℤ}
 use Rattle.std.proofs.Math.Path.{refl, sym}
 use Rattle.std.proofs.Common.{ap, ◌∙◌, subst, inl, inr, arith, ne_eqb}
 use Rattle.std.proofs.Math.Bool.{true, false, not, true≢false}

@@ -26,14 +26,14 @@ module _ (c : Edges) (g : Network) (rest : RestExcluded c g) (d : ℕ → ℤ) (
       let only = tree_only c g rest t o in
       rw (bound-thin c g t only d) (h (down c g.m t) (tree-down c g t only o) e)
 
-  barred_thin : barred_b g d ceiling (nth c g.m j) ≡ barred_b (thin c g) d ceiling j
+  pub barred_thin : barred_b g d ceiling (nth c g.m j) ≡ barred_b (thin c g) d ceiling j
   unfolding Barred
   barred_thin =
       let old = barred_test g d ceiling (nth c g.m j) (nth_in c g.m j i) in
       let new = barred_test (thin c g) d ceiling j i in
       same_test _ _ (λ e. new.1 (through true (old.0 e))) (λ e. old.1 (back true (new.0 e)))
 
-  forced_thin : forced_b g d ceiling (nth c g.m j) ≡ forced_b (thin c g) d ceiling j
+  pub forced_thin : forced_b g d ceiling (nth c g.m j) ≡ forced_b (thin c g) d ceiling j
   unfolding Forced
   forced_thin =
       let old = forced_test g d ceiling (nth c g.m j) (nth_in c g.m j i) in

@@ -17,6 +17,8 @@ use Rattle.graph.specs.Network.{Network, required, excluded}
 use Rattle.spanning.specs.Walks.{Walk, stay, along, back}
 use Rattle.tree_theory.specs.OneTree.{Edges, OneTree, Least, others, at_one, away, charge, bound}
 use Rattle.tree_theory.specs.Agree.{Agree, tree_agree, bound_agree, lacks_second}
+use Rattle.tree_theory.specs.Enumeration.{Tree, no_tree, a_tree, least_tree}
+use Rattle.tree_theory.specs.LeastTree.{Right, tree_right, tree_found, tree_missing}
 use Rattle.compaction.specs.Ranks.{rank, nth, rank_in, nth_of, nth_in, nth-kept, rank_back, Only, down, select-thin, lacks_thin}
 
 -- the kept edges and no other, in their order
@@ -107,7 +109,7 @@ module _ (c : Edges) (g : Network) where
       avoids = λ j i e. o.avoids (nth c g.m j) (nth_in c g.m j i) e;
     }
 
-    tree-up : RestExcluded → OneTree (thin c g) (down c g.m t) → OneTree g t
+    pub tree-up : RestExcluded → OneTree (thin c g) (down c g.m t) → OneTree g t
     unfolding others
     tree-up rest o = record {
       two = size-at_one ∙ o.two;
@@ -157,3 +159,18 @@ module _ (c : Edges) (g : Network) (rest : RestExcluded c g) (r : Edges) where
         ∙ lacks_second (rank c g.m) (down c g.m s) (down c g.m (spread c r)) r (spread-down c g r)
         ∙ l.first (down c g.m s) (tree-down c g s only o) (sym (bound-thin c g s only d) ∙ e ∙ spread-bound d);
   }
+
+-- what the tree in new numbers says of the tree in old ones, of m edges
+abbrev pub Spread : Edges → ℕ → Tree → Tree → Type 0
+Spread c m no_tree x = (x ≡ no_tree)
+Spread c m (a_tree b r) x = (t : Edges) × (x ≡ a_tree b t) × Agree m t (spread c r)
+
+-- THE TREE OF THE KEPT EDGES IS THE TREE
+pub least-thin : (c : Edges) (g : Network) → RestExcluded c g → (d : ℕ → ℤ) → Spread c g.m (least_tree (thin c g) d) (least_tree g d)
+least-thin c g rest d = go (least_tree (thin c g) d) (tree_right (thin c g) d)
+  where
+    go : (x : Tree) → Right (thin c g) d x → Spread c g.m x (least_tree g d)
+    go no_tree h = tree_missing g d (λ s o. h (down c g.m s) (tree-down c g s (tree_only c g rest s o) o))
+    go (a_tree b r) h =
+        let q = tree_found g d (spread c r) (spread_least c g rest r d h.1) in
+        (q.0, q.1 ∙ ap (λ (z : ℤ). a_tree z q.0) (spread-bound c g rest r d ∙ sym h.0), q.2)

@@ -44,20 +44,20 @@ finishes_with o budget = finished_in (step (step no_search (opens o)).state (run
 
 -- ---- all pairs
 
--- a pair's settings
+-- a pair's settings; with lifting or without as all pairs have it (document 02, C-13)
 abbrev pub settings_of : Terms → ℕ → ℕ → Settings
-settings_of terms sweeps step = record { ceiling = terms.ceiling; sweeps = sweeps; step = step; denominator = terms.denominator }
+settings_of terms sweeps step =
+    record { ceiling = terms.ceiling; sweeps = sweeps; step = step; denominator = terms.denominator; lifting = terms.lifting }
 
 -- "the arguments of opening .., with up to 16 pairs of sweeps and step instead of one": the opening of the pair at place i, counted from 0
-abbrev pub pair_opening : Graph → List ℤ → ℤ → ℕ → List ℕ → List ℕ → ℕ → Opening
-pair_opening g d ceiling q sweeps steps i =
-    opening_of g d (record { ceiling = ceiling; sweeps = get_or sweeps i 0; step = get_or steps i 0; denominator = q })
+abbrev pub pair_opening : Graph → List ℤ → Terms → List ℕ → List ℕ → ℕ → Opening
+pair_opening g d terms sweeps steps i = opening_of g d (settings_of terms (get_or sweeps i 0) (get_or steps i 0))
 
 -- "an allowance that each pair has in full"; one entry a pair
 unfoldable pub counts : Graph → List ℤ → Terms → List ℕ → List ℕ → List ℕ
 unfolding finishes
 counts g d terms sweeps steps =
-    fill (length sweeps) (λ i. finishes (pair_opening g d terms.ceiling terms.denominator sweeps steps i) terms.budget)
+    fill (length sweeps) (λ i. finishes (pair_opening g d terms sweeps steps i) terms.budget)
 
 -- ---- refusals
 

@@ -110,11 +110,11 @@ no_fault g d ceiling q sweeps steps report none =
 
 -- ---- each pair's opening is accepted
 
-pub pair_accepted : (g : Graph) (d : List ℤ) (ceiling : ℤ) (q : ℕ) (sweeps steps : List ℕ) (report : ℕ)
-    → compare_fault g d ceiling q sweeps steps report ≡ 0 → (i : ℕ) → fault (pair_opening g d ceiling q sweeps steps i) ≡ 0
+pub pair_accepted : (g : Graph) (d : List ℤ) (terms : Terms) (sweeps steps : List ℕ) (report : ℕ)
+    → compare_fault g d terms.ceiling terms.denominator sweeps steps report ≡ 0 → (i : ℕ) → fault (pair_opening g d terms sweeps steps i) ≡ 0
 unfolding fault settings_fit
-pair_accepted g d ceiling q sweeps steps report none i =
-    let f = no_fault g d ceiling q sweeps steps report none in
+pair_accepted g d terms sweeps steps report none i =
+    let f = no_fault g d terms.ceiling terms.denominator sweeps steps report none in
     let both = and_both (list_all (λ x. leb x max_sweeps) sweeps) (list_all (λ x. leb x max_step) steps) f.settings in
     rw (f.is_valid, f.long, f.multipliers, f.within_ceiling, every_at max_sweeps sweeps both.0 i, every_at max_step steps both.1 i)
     f.denominator

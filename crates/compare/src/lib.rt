@@ -20,13 +20,14 @@ use search::{Progress, Search};
 // As specs/Comparison.antt has it.
 const MAX_PAIRS: usize = 16;
 
-// What all pairs have alike. The ceiling and the denominator stand in `Settings` too, since C has both structs.
+// What all pairs have alike. The ceiling, the denominator and lifting stand in `Settings` too, since C has both structs.
 #[repr(C)]
 #[derive(Clone, Copy, Debug, PartialEq, Eq)]
 pub struct Terms {
     pub ceiling: i64,
     pub budget: u64,
     pub denominator: u64,
+    pub lifting: u64,
 }
 
 // Is every number of the list at most the limit?
@@ -108,6 +109,7 @@ impl<'a> Comparison<'a> {
             sweeps,
             step,
             denominator: self.terms.denominator,
+            lifting: self.terms.lifting,
         };
         let mut s = Search::fresh();
         // where the opening is refused no search is open, and the run says so

@@ -1,5 +1,5 @@
 -- The starred facts of document 01, 'A four-buoy sea', in its order: each a theorem, by computation. Trees and rulings are those that the
--- promises of the tree call and the rule call name; searches are the machine's answers to a list of calls.
+-- promises of the tree call and the rule call name; searches are the machine's answers to a list of calls. At the end, one of the searches with lifting.
 use Rattle.std.specs.Prelude.{◌≡◌, refl, List, [], ◌∷◌, ◌++◌, map, ℕ, ◌-◌, true, length, replicate, ℤ, pos, negsuc}
 use Rattle.lists.specs.Select.{select}
 use Rattle.lists.specs.Rows.{row}
@@ -13,6 +13,7 @@ use Rattle.tree_theory.specs.Enumeration.{edge_sets, least_tree, ruling}
 use Rattle.onetree.specs.Answers.{Reply, bounded, tree_reply, tree_leaves, rule_reply, rule_leaves}
 use Rattle.onetree.specs.Answers as tree
 use Rattle.tours.specs.Tours.{cost, is_tour}
+use Rattle.machine.specs.declared.Settings.{Settings}
 use Rattle.machine.specs.Machine.{no_search, gained}
 use Rattle.machine.specs.Calls.{Answer, opens, run, tell, accepted, runs, tells, none, best, answers}
 
@@ -56,11 +57,15 @@ unfolding rule_reply rule_leaves nines valid edges_ok edge_ok ends_ok pair_met w
 rule_call g d ceiling = (rule_reply g d ceiling 1 g.m, rule_leaves g d ceiling 1 (nines g))
 
 -- opening with no sweeps, a run, tell
-unfoldable pub search_calls : Graph → List ℤ → ℤ → List Answer
+unfoldable pub calls_with : ℕ → Graph → List ℤ → ℤ → List Answer
 unfolding answers valid edges_ok edge_ok ends_ok pair_met within multipliers_fit ceiling_fits denominator_fault denominator_fits network mark_of
-search_calls g d ceiling =
-    answers no_search
-    (opens (record { graph = g; multipliers = d; settings = record { ceiling = ceiling; sweeps = 0; step = 0; denominator = 1 } }) ∷ run 100 ∷ tell ∷ [])
+calls_with lifting g d ceiling =
+    let settings : Settings = record { ceiling = ceiling; sweeps = 0; step = 0; denominator = 1; lifting = lifting } in
+    answers no_search (opens (record { graph = g; multipliers = d; settings = settings }) ∷ run 100 ∷ tell ∷ [])
+
+unfoldable pub search_calls : Graph → List ℤ → ℤ → List Answer
+unfolding calls_with
+search_calls = calls_with 0
 
 -- ---- the four-buoy sea
 
@@ -155,3 +160,14 @@ pub held_to_range : gained (network spread) 10 (λ k. true) (pos 0 ∷ pos 99999
     ≡ pos 0 ∷ pos 1000000 ∷ pos 0 ∷ negsuc 9 ∷ []
 unfolding gained network spread
 held_to_range = refl
+
+-- ---- document 02, C-13: "A yes or no at opening turns lifting on"
+
+unfoldable pub lifted_calls : Graph → List ℤ → ℤ → List Answer
+unfolding calls_with
+lifted_calls = calls_with 1
+
+-- the four-buoy sea at ceiling 12: the same verdict and cost after 3 nodes in place of 5
+pub lifted_12 : lifted_calls four zeros₄ (pos 12) ≡ accepted ∷ runs true 3 ∷ tells (best (pos 12)) 3 ∷ []
+unfolding lifted_calls four zeros₄
+lifted_12 = refl

@@ -1,7 +1,7 @@
 -- WHY THE STACK STAYS SHALLOW: a node that splits has at most n required edges, the half that requires an edge more has one more, and the
 -- other no fewer. For a pass only adds marks, and its tree, which has n edges, has every edge that the marks after it require. Nothing else
 -- is asked of the rulings.
-use Rattle.std.specs.Prelude.{◌≡◌, Bool, cond, List, ltb, length, ℤ, ◌≤ℤ◌}
+use Rattle.std.specs.Prelude.{◌≡◌, Bool, cond, List, ltb, length, ℤ}
 use Rattle.std.proofs.Math.Path.{refl}
 use Rattle.std.proofs.Common.{subst, arith, ltb-true}
 use Rattle.std.proofs.Math.Bool.{true, false}
@@ -22,7 +22,8 @@ use Rattle.machine.specs.Outcomes.{closes, finds, splits}
 use Rattle.machine.specs.Machine.{Marks, with_marks, applied, Pass, shut, found, unclosed, pass_by, pass, gained, Opened, first_free}
 use Rattle.machine.specs.Machine.{branch, concluded, passes}
 use Rattle.machine.specs.Branching.{first_free_lem}
-use Rattle.machine.specs.NodeTours.{applied-length, tree_agrees, ruled-requireds}
+use Rattle.machine.specs.NodeTours.{applied-length}
+use Rattle.machine.proofs.Applied.{tree_agrees, ruled-requireds}
 use Rattle.machine.specs.Requireds.{requireds, requireds-set, requireds_most}
 use Rattle.tree_theory.specs.Ranges.{tree-size}
 use Rattle.machine.specs.Depth.{Shallow}
@@ -60,24 +61,23 @@ module _ (g : Network) (vg : Valid g) (upper : ℤ) where
   Passed x (found t) = Unit {0}
   Passed x (unclosed t y) = Unclosed x t y
 
-  pass_shallow : (d : ℕ → ℤ) (x : Marks) → length x ≡ g.m → Passed x (pass (with_marks g x) d upper)
+  pass_shallow : (lifting : Bool) (d : ℕ → ℤ) (x : Marks) → length x ≡ g.m → Passed x (pass lifting (with_marks g x) d upper)
   unfolding pass pass_by
-  pass_shallow d x full = go (least_tree (with_marks g x) d) (tree_right (with_marks g x) d)
+  pass_shallow lifting d x full = go (least_tree (with_marks g x) d) refl
     where
-      go : (r : Tree) → Right (with_marks g x) d r → Passed x (pass_by (with_marks g x) d upper r)
-      go no_tree h = tt
-      go (a_tree b t) h = cases (lt_z upper b) refl (is_tour (with_marks g x) t)
+      go : (r : Tree) → least_tree (with_marks g x) d ≡ r → Passed x (pass_by lifting (with_marks g x) d upper r)
+      go no_tree p = tt
+      go (a_tree b t) p = cases (lt_z upper b) refl (is_tour (with_marks g x) t)
         where
           cases : (u : Bool) → lt_z upper b ≡ u → (v : Bool)
-              → Passed x (cond u shut (cond v (found t) (unclosed t (applied (with_marks g x) d upper))))
+              → Passed x (cond u shut (cond v (found t) (unclosed t (applied lifting (with_marks g x) d upper))))
           cases true e v = tt
           cases false e true = tt
           cases false e false = record {
-            long = unfold with_marks in applied-length (with_marks g x) d upper;
-            more = ruled-requireds g vg x d upper full;
-            size = unfold with_marks in tree-size (with_marks g x) t h.1.tree;
-            allowed =
-                tree_agrees g vg x d upper t h.1.tree (subst (λ (z : ℤ). z ≤ℤ upper) h.0 (test_not_lt upper b e));
+            long = unfold with_marks in applied-length lifting (with_marks g x) d upper;
+            more = ruled-requireds g vg x lifting d upper full;
+            size = unfold with_marks in tree-size (with_marks g x) t (subst (Right (with_marks g x) d) p (tree_right (with_marks g x) d)).1.tree;
+            allowed = tree_agrees g vg x lifting d upper b t p (test_not_lt upper b e);
           }
 
   concluded_shallow : (x : Marks) (p : Pass) → Passed x p → (otherwise : Edges → Marks → Opened)
@@ -86,12 +86,13 @@ module _ (g : Network) (vg : Valid g) (upper : ℤ) where
   concluded_shallow x (found t) h otherwise later = tt
   concluded_shallow x (unclosed t y) h otherwise later = fewer g.n x y h.more (otherwise t y) (later t y h)
 
-  pub passes_shallow : (step left : ℕ) (d : List ℤ) (x : Marks) → length x ≡ g.m → Shallow g.n x (passes g step upper left d x)
+  pub passes_shallow : (lifting : Bool) (step left : ℕ) (d : List ℤ) (x : Marks) → length x ≡ g.m
+      → Shallow g.n x (passes lifting g step upper left d x)
   unfolding passes
-  passes_shallow step zero d x full =
-      concluded_shallow x (pass (with_marks g x) (multiplier d) upper) (pass_shallow (multiplier d) x full) (λ t y. branch d y)
+  passes_shallow lifting step zero d x full =
+      concluded_shallow x (pass lifting (with_marks g x) (multiplier d) upper) (pass_shallow lifting (multiplier d) x full) (λ t y. branch d y)
       (λ t y h. branch_shallow g.n d y (omega (arith, requireds_most g y h.long t h.allowed, h.size)))
-  passes_shallow step (suc left) d x full =
-      concluded_shallow x (pass (with_marks g x) (multiplier d) upper) (pass_shallow (multiplier d) x full)
-      (λ t y. passes g step upper left (gained g step t d) y)
-      (λ t y h. passes_shallow step left (gained g step t d) y h.long)
+  passes_shallow lifting step (suc left) d x full =
+      concluded_shallow x (pass lifting (with_marks g x) (multiplier d) upper) (pass_shallow lifting (multiplier d) x full)
+      (λ t y. passes lifting g step upper left (gained g step t d) y)
+      (λ t y h. passes_shallow lifting step left (gained g step t d) y h.long)

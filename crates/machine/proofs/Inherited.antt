@@ -1,5 +1,5 @@
 -- Where no pass follows the first of a node, every node has the opening's multipliers (`no_sweeps`). Assumes nothing.
-use Rattle.std.specs.Prelude.{◌≡◌, ◌⊎◌, ℤ}
+use Rattle.std.specs.Prelude.{◌≡◌, ◌⊎◌, Bool, ℤ}
 use Rattle.std.proofs.Math.Path.{refl, ap}
 use Rattle.std.proofs.Common.{sym, ◌∙◌, subst, inl, inr}
 use mathlib.Core.List.{List, ◌∷◌}
@@ -12,27 +12,28 @@ use Rattle.tree_theory.specs.Scaled.{scaled_by}
 use Rattle.integers.specs.Multiples.{◌times◌}
 use Rattle.machine.specs.Outcomes.{closes, finds, splits}
 use Rattle.machine.specs.Machine.{Marks, Node, with_marks, pass, Opened, branch}
-use Rattle.machine.specs.Machine.{passes, Progress, open_node, settled, open_top, ran}
+use Rattle.machine.specs.Machine.{passes, lifts, Progress, open_node, settled, open_top, ran}
 use Rattle.machine.specs.Runs.{ran_keeps}
 use Rattle.machine.specs.Inherited.{Halves, branch_halves, concluded_halves, Unmoved}
 
-module _ (g : Network) (step : ℕ) (upper : ℤ) where
+module _ (lifting : Bool) (g : Network) (step : ℕ) (upper : ℤ) where
   -- one pass gains nothing
-  pass_halves : (d : List ℤ) (x : Marks) → Halves (λ e. e ≡ d) (passes g step upper 0 d x)
+  pass_halves : (d : List ℤ) (x : Marks) → Halves (λ e. e ≡ d) (passes lifting g step upper 0 d x)
   unfolding passes
   pass_halves d x =
-      concluded_halves (λ e. e ≡ d) g.m (pass (with_marks g x) (multiplier d) upper) (λ t y. branch d y)
+      concluded_halves (λ e. e ≡ d) g.m (pass lifting (with_marks g x) (multiplier d) upper) (λ t y. branch d y)
       (λ t y. branch_halves (λ e. e ≡ d) d refl y)
 
 top_unmoved : (s : Progress) (x : Node) (rest : List Node) → s.stack ≡ x ∷ rest → s.count < max_count → Unmoved s
     → Unmoved (open_top s (x ∷ rest))
 unfolding open_top settled open_node
 top_unmoved s x rest e l h =
+    let lifting = lifts s.opening.settings in
     let scaled = scaled_by s.opening.settings.denominator (network s.opening.graph) in
     let upper = s.opening.settings.denominator times s.upper in
     go (open_node s.opening s.upper x)
-    (subst (λ (k : ℕ). Halves (λ d. d ≡ x.multipliers) (passes scaled s.opening.settings.step upper k x.multipliers x.marks))
-    (sym h.sweeps) (pass_halves scaled s.opening.settings.step upper x.multipliers x.marks))
+    (subst (λ (k : ℕ). Halves (λ d. d ≡ x.multipliers) (passes lifting scaled s.opening.settings.step upper k x.multipliers x.marks))
+    (sym h.sweeps) (pass_halves lifting scaled s.opening.settings.step upper x.multipliers x.marks))
   where
     waits : (y : Node) → y ∈ (x ∷ rest) → y.multipliers ≡ s.opening.multipliers
     waits y m = h.each y (subst (λ (st : List Node). y ∈ st) (sym e) m)

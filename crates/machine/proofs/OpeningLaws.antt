@@ -1,4 +1,4 @@
--- DOCUMENT 01'S OPENING OF A NODE OBEYS THE THREE LAWS of branch and bound, whatever the multipliers, sweeps and step.
+-- DOCUMENT 01'S OPENING OF A NODE OBEYS THE THREE LAWS of branch and bound, with lifting and without, whatever the multipliers, sweeps and step.
 use Rattle.std.specs.Prelude.{◌≡◌, Bool, cond, List, get_or, set, ℤ, ◌≤ℤ◌, ◌<ℤ◌}
 use Rattle.std.proofs.Math.Path.{refl, sym, subst}
 use Rattle.std.proofs.Common.{◌∙◌, inl, inr, true≢false, arith, get_or-set_same, get_or-set_other}
@@ -30,8 +30,8 @@ use Rattle.tours.specs.TourTest.{test_tour, tour_test}
 use Rattle.machine.specs.Branching.{first_free_lem, first-before, frees-set}
 use Rattle.machine.specs.NodeTours.{Agrees, Inside, Before, tour_agree, cost_agree, tour_marks, marks_tour}
 use Rattle.machine.proofs.NodeTours.{tours}
-use Rattle.machine.specs.NodeTours.{allowed_at, at-allowed, applied-length, inside-tree, cost-bound, tree_agrees, ruled_keeps}
-use Rattle.machine.specs.NodeTours.{ruled_of, ruled-frees}
+use Rattle.machine.specs.NodeTours.{allowed_at, at-allowed, applied-length, inside-tree, cost-bound}
+use Rattle.machine.proofs.Applied.{tree_agrees, ruled_keeps, ruled_of, ruled-frees}
 use Rattle.machine.specs.OpeningLaws.{row_edges}
 
 module _ (g : Network) (vg : Valid g) (upper : ℤ) where
@@ -131,9 +131,9 @@ module _ (g : Network) (vg : Valid g) (upper : ℤ) where
 
   -- ---- one pass, of the node x under the multipliers d
 
-  module _ (d : ℕ → ℤ) (x : Marks) where
+  module _ (lifting : Bool) (d : ℕ → ℤ) (x : Marks) where
     after : Marks
-    after = applied (with_marks g x) d upper
+    after = applied lifting (with_marks g x) d upper
 
     -- what holds of what a pass comes to
     abbrev Passed : Pass → Type 0
@@ -146,10 +146,10 @@ module _ (g : Network) (vg : Valid g) (upper : ℤ) where
     least_cost t l s i =
         subst (λ (z : ℤ). bound (with_marks g x) d t ≤ℤ z) (cost-bound g vg x s i.tour d) (l.least s (inside-tree g vg x s i))
 
-    pass_right : (r : Tree) → Right (with_marks g x) d r → Passed (pass_by (with_marks g x) d upper r)
+    pass_right : (r : Tree) → least_tree (with_marks g x) d ≡ r → Right (with_marks g x) d r → Passed (pass_by lifting (with_marks g x) d upper r)
     unfolding pass_by after
-    pass_right no_tree h = λ c t i l. h t (inside-tree g vg x t i)
-    pass_right (a_tree b t) h = first (lt_z upper b) refl
+    pass_right no_tree p h = λ c t i l. h t (inside-tree g vg x t i)
+    pass_right (a_tree b t) p h = first (lt_z upper b) refl
       where
         second : (v : Bool) → is_tour (with_marks g x) t ≡ v → b ≤ℤ upper
             → Passed (cond v (found t) (unclosed t after))
@@ -165,7 +165,7 @@ module _ (g : Network) (vg : Valid g) (upper : ℤ) where
             same = cost-bound g vg x t (marks_tour g x t (test_tour (with_marks g x) t e)) d
         second false e l = (
           refl,
-          tree_agrees g vg x d upper t h.1.tree (subst (λ (z : ℤ). z ≤ℤ upper) h.0 l),
+          tree_agrees g vg x lifting d upper b t p l,
           λ o. true≢false (sym (tour_test (with_marks g x) t (tour_marks g x t o)) ∙ e),
         )
 
@@ -178,25 +178,26 @@ module _ (g : Network) (vg : Valid g) (upper : ℤ) where
     -- a pass and what follows it, lawful of the marks after the rulings, are lawful of the node
     concluded_law : length x ≡ g.m → (otherwise : Edges → Marks → Opened)
         → ((t : Edges) (y : Marks) → length y ≡ g.m → Allowed (with_marks g y) t → ¬ Tour g t → Law y (otherwise t y))
-        → Law x (concluded g.m (pass (with_marks g x) d upper) otherwise)
+        → Law x (concluded g.m (pass lifting (with_marks g x) d upper) otherwise)
     unfolding pass after
     concluded_law full otherwise later =
-        go (pass (with_marks g x) d upper) (pass_right (least_tree (with_marks g x) d) (tree_right (with_marks g x) d))
+        go (pass lifting (with_marks g x) d upper) (pass_right (least_tree (with_marks g x) d) refl (tree_right (with_marks g x) d))
       where
         go : (p : Pass) → Passed p → Law x (concluded g.m p otherwise)
         go shut h = h
         go (found t) h = h
         go (unclosed t y) h =
             subst (λ (z : Marks). Law x (otherwise t z)) (sym h.0)
-            (λ c. narrowed (tours g) upper (node_of c x) (node_of c after) (ruled_keeps g vg x d upper) (ruled_of g vg x d upper) (ruled-frees g vg x d upper full)
-            (otherwise t after) (later t after (unfold with_marks in applied-length (with_marks g x) d upper) h.1 h.2 c))
+            (λ c. narrowed (tours g) upper (node_of c x) (node_of c after) (ruled_keeps g vg x lifting d upper)
+            (ruled_of g vg x lifting d upper) (ruled-frees g vg x lifting d upper full)
+            (otherwise t after) (later t after (unfold with_marks in applied-length lifting (with_marks g x) d upper) h.1 h.2 c))
 
   -- ---- all passes
 
-  pub passes_law : (step left : ℕ) (d : List ℤ) (x : Marks) → length x ≡ g.m → Law x (passes g step upper left d x)
+  pub passes_law : (lifting : Bool) (step left : ℕ) (d : List ℤ) (x : Marks) → length x ≡ g.m → Law x (passes lifting g step upper left d x)
   unfolding passes
-  passes_law step zero d x full =
-      concluded_law (multiplier d) x full (λ t y. branch d y) (λ t y l al n. branch_law d y l t al n)
-  passes_law step (suc left) d x full =
-      concluded_law (multiplier d) x full (λ t y. passes g step upper left (gained g step t d) y)
-      (λ t y l al n. passes_law step left (gained g step t d) y l)
+  passes_law lifting step zero d x full =
+      concluded_law lifting (multiplier d) x full (λ t y. branch d y) (λ t y l al n. branch_law d y l t al n)
+  passes_law lifting step (suc left) d x full =
+      concluded_law lifting (multiplier d) x full (λ t y. passes lifting g step upper left (gained g step t d) y)
+      (λ t y l al n. passes_law lifting step left (gained g step t d) y l)

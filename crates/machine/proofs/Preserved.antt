@@ -29,7 +29,7 @@ use Rattle.tours.specs.Tours.{Tour, cost, is_tour}
 use Rattle.machine.specs.Outcomes.{closes, finds, splits, Incumbent, no_tour, a_tour, best_of}
 use Rattle.machine.specs.Machine.{Marks, Node, with_marks, applied, Pass, shut, found, unclosed, pass_by, pass, gained, Opened}
 use Rattle.machine.specs.Machine.{first_free}
-use Rattle.machine.specs.Machine.{branch, concluded, passes, Opening, held, Progress, State, no_search, searching}
+use Rattle.machine.specs.Machine.{branch, concluded, passes, lifts, Opening, held, Progress, State, no_search, searching}
 use Rattle.machine.specs.Machine.{edges_of, cost_of, lowered, better, open_node, settled, open_top, finished, ran}
 use Rattle.machine.specs.Calls.{Call, opens, run, tell, show, close, fault, opened_by, run_by, step}
 use Rattle.machine.specs.Calls.{state_after, leaves}
@@ -84,16 +84,16 @@ LongPass m shut = Unit {0}
 LongPass m (found t) = Unit {0}
 LongPass m (unclosed t y) = (length y ≡ m)
 
-pass_long : (g : Network) (d : ℕ → ℤ) (upper : ℤ) → LongPass g.m (pass g d upper)
+pass_long : (lifting : Bool) (g : Network) (d : ℕ → ℤ) (upper : ℤ) → LongPass g.m (pass lifting g d upper)
 unfolding pass pass_by
-pass_long g d upper = go (least_tree g d)
+pass_long lifting g d upper = go (least_tree g d)
   where
-    cases : (t : Edges) (b c : Bool) → LongPass g.m (cond b shut (cond c (found t) (unclosed t (applied g d upper))))
+    cases : (t : Edges) (b c : Bool) → LongPass g.m (cond b shut (cond c (found t) (unclosed t (applied lifting g d upper))))
     cases t true c = tt
     cases t false true = tt
-    cases t false false = applied-length g d upper
+    cases t false false = applied-length lifting g d upper
 
-    go : (r : Tree) → LongPass g.m (pass_by g d upper r)
+    go : (r : Tree) → LongPass g.m (pass_by lifting g d upper r)
     go no_tree = tt
     go (a_tree b t) = cases t (lt_z upper b) (is_tour g t)
 
@@ -123,16 +123,18 @@ concluded_long g shut h otherwise later = tt
 concluded_long g (found t) h otherwise later = row-size g.m t
 concluded_long g (unclosed t y) h otherwise later = later t y h
 
-passes_long : (g : Network) → 1 ≤ g.n → (stride : ℕ) (upper : ℤ) (left : ℕ) (d : List ℤ) → FitFor g.n d → (x : Marks)
-    → Long g (passes g stride upper left d x)
+passes_long : (lifting : Bool) (g : Network) → 1 ≤ g.n → (stride : ℕ) (upper : ℤ) (left : ℕ) (d : List ℤ) → FitFor g.n d → (x : Marks)
+    → Long g (passes lifting g stride upper left d x)
 unfolding passes
-passes_long g low stride upper zero d f x =
-    concluded_long g (pass (with_marks g x) (multiplier d) upper) (unfold with_marks in pass_long (with_marks g x) (multiplier d) upper)
+passes_long lifting g low stride upper zero d f x =
+    concluded_long g (pass lifting (with_marks g x) (multiplier d) upper)
+    (unfold with_marks in pass_long lifting (with_marks g x) (multiplier d) upper)
     (λ t y. branch d y) (λ t y e. branch_long g d f y e)
-passes_long g low stride upper (suc left) d f x =
-    concluded_long g (pass (with_marks g x) (multiplier d) upper) (unfold with_marks in pass_long (with_marks g x) (multiplier d) upper)
-    (λ t y. passes g stride upper left (gained g stride t d) y)
-    (λ t y e. passes_long g low stride upper left (gained g stride t d) (gained_fits g low stride t d f) y)
+passes_long lifting g low stride upper (suc left) d f x =
+    concluded_long g (pass lifting (with_marks g x) (multiplier d) upper)
+    (unfold with_marks in pass_long lifting (with_marks g x) (multiplier d) upper)
+    (λ t y. passes lifting g stride upper left (gained g stride t d) y)
+    (λ t y e. passes_long lifting g low stride upper left (gained g stride t d) (gained_fits g low stride t d f) y)
 
 -- lengths do not go by costs
 long_scaled : (q : ℕ) (g : Network) (out : Opened) → Long (scaled_by q g) out → Long g out
@@ -169,15 +171,15 @@ module _ (s : Progress) (h : Kept s) (x : Node) (rest : List Node) (e : s.stack 
       law_scaled q (network s.opening.graph) h.opening.denominator.0 v s.upper x.marks
       (open_node s.opening s.upper x)
       (passes_law (scaled_by q (network s.opening.graph)) (valid_scaled q (network s.opening.graph) v) (q times s.upper)
-      s.opening.settings.step s.opening.settings.sweeps x.multipliers x.marks (unfold network in waiting.0.long))
+      (lifts s.opening.settings) s.opening.settings.step s.opening.settings.sweeps x.multipliers x.marks (unfold network in waiting.0.long))
 
   top_long : Long (network s.opening.graph) (open_node s.opening s.upper x)
   unfolding open_node network
   top_long =
       let q = s.opening.settings.denominator in
       long_scaled q (network s.opening.graph) (open_node s.opening s.upper x)
-      (passes_long (scaled_by q (network s.opening.graph)) (omega (arith, h.opening.valid.low)) s.opening.settings.step (q times s.upper)
-      s.opening.settings.sweeps x.multipliers waiting.0.multipliers x.marks)
+      (passes_long (lifts s.opening.settings) (scaled_by q (network s.opening.graph)) (omega (arith, h.opening.valid.low))
+      s.opening.settings.step (q times s.upper) s.opening.settings.sweeps x.multipliers waiting.0.multipliers x.marks)
 
   -- a tour that it finds has a place for each edge
   pub found_long : (r : List Bool) → open_node s.opening s.upper x ≡ finds r → length r ≡ s.opening.graph.m
@@ -190,8 +192,8 @@ module _ (s : Progress) (h : Kept s) (x : Node) (rest : List Node) (e : s.stack 
   top_shallow =
       let q = s.opening.settings.denominator in
       passes_shallow (scaled_by q (network s.opening.graph))
-      (valid_scaled q (network s.opening.graph) (network-valid s.opening.graph h.opening.valid)) (q times s.upper) s.opening.settings.step
-      s.opening.settings.sweeps x.multipliers x.marks waiting.0.long
+      (valid_scaled q (network s.opening.graph) (network-valid s.opening.graph h.opening.valid)) (q times s.upper) (lifts s.opening.settings)
+      s.opening.settings.step s.opening.settings.sweeps x.multipliers x.marks waiting.0.long
 
   below : suc (length rest) ≤ s.opening.graph.n + 2
   below = subst (λ (st : List Node). length st ≤ s.opening.graph.n + 2) e h.depth

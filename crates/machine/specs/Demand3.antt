@@ -116,8 +116,8 @@ pub record Demand3 (i : Interface) : Type 0 where
   -- "For every list of opening, run, tell, show and close calls on one record, refused ones included, from a fresh record"
   pub equal : (cs : List Call) → AsTheMachine i cs
   -- "Take two such lists that each leave a finished hunt, both of one sea (its legs in any order) and opened with one ceiling, whatever
-  -- dues, sweeps and steps the two have. Tell gives both the same verdict: .."; so whatever denominators (document 02, C-17). Document 02, C-23:
-  -- "With legs numbered alike, finished hunts now agree on the round as well as its cost."
+  -- dues, sweeps and steps the two have. Tell gives both the same verdict: .."; so whatever denominators (document 02, C-17), and with lifting or
+  -- without (C-13). C-23: "With legs numbered alike, finished hunts now agree on the round as well as its cost."
   pub agree : (cs ds : List Call) (o p : Opening) → LeavesFinished cs o → LeavesFinished ds p
       → OneNetwork (network o.graph) (network p.graph) → o.settings.ceiling ≡ p.settings.ceiling
       → (v : Verdict) × SaysAfter i cs o v × SaysAfter i ds p v

@@ -3,7 +3,7 @@
 --   stays           nodes below the top stay as they are, marks and multipliers, until they are the top
 --   second-branch   so the lower half of a node comes to the top as it was stored, whatever the upper half led to
 -- (Where no pass follows the first of a node, every node has the opening's multipliers: `no_sweeps`, proofs/Inherited.) Assumes nothing.
-use Rattle.std.specs.Prelude.{◌≡◌, ltb, length, ℤ}
+use Rattle.std.specs.Prelude.{◌≡◌, Bool, ltb, length, ℤ}
 use Rattle.std.proofs.Math.Path.{refl, ap}
 use Rattle.std.proofs.Common.{◌∙◌, subst, inl, inr, arith}
 use mathlib.Core.List.{List, [], ◌∷◌, ◌++◌}
@@ -19,7 +19,7 @@ use Rattle.tree_theory.specs.Scaled.{scaled_by}
 use Rattle.integers.specs.Multiples.{◌times◌}
 use Rattle.machine.specs.Outcomes.{closes, finds, splits}
 use Rattle.machine.specs.Machine.{Marks, Node, with_marks, Pass, shut, found, unclosed, pass, gained, Opened, first_free, branch, concluded}
-use Rattle.machine.specs.Machine.{passes, Opening, Progress, open_node, settled, open_top, begin, ran}
+use Rattle.machine.specs.Machine.{passes, lifts, Opening, Progress, open_node, settled, open_top, begin, ran}
 use Rattle.machine.specs.Runs.{ran-opens, ran_full}
 
 -- ---- both halves
@@ -40,21 +40,21 @@ concluded_halves P m shut otherwise later = tt
 concluded_halves P m (found t) otherwise later = tt
 concluded_halves P m (unclosed t y) otherwise later = later t y
 
-module _ (g : Network) (step : ℕ) (upper : ℤ) where
-  passes_halves : (left : ℕ) (d : List ℤ) (x : Marks) → Halves (λ e. Unit {0}) (passes g step upper left d x)
+module _ (lifting : Bool) (g : Network) (step : ℕ) (upper : ℤ) where
+  passes_halves : (left : ℕ) (d : List ℤ) (x : Marks) → Halves (λ e. Unit {0}) (passes lifting g step upper left d x)
   unfolding passes
   passes_halves zero d x =
-      concluded_halves (λ e. Unit {0}) g.m (pass (with_marks g x) (multiplier d) upper) (λ t y. branch d y)
+      concluded_halves (λ e. Unit {0}) g.m (pass lifting (with_marks g x) (multiplier d) upper) (λ t y. branch d y)
       (λ t y. branch_halves (λ e. Unit {0}) d tt y)
   passes_halves (suc left) d x =
-      concluded_halves (λ e. Unit {0}) g.m (pass (with_marks g x) (multiplier d) upper) (λ t y. passes g step upper left (gained g step t d) y)
+      concluded_halves (λ e. Unit {0}) g.m (pass lifting (with_marks g x) (multiplier d) upper) (λ t y. passes lifting g step upper left (gained g step t d) y)
       (λ t y. passes_halves left (gained g step t d) y)
 
 pub siblings : (o : Opening) (upper : ℤ) (x out into : Node) → open_node o upper x ≡ splits out into → out.multipliers ≡ into.multipliers
 unfolding open_node
 siblings o upper x out into e =
     (subst (Halves (λ d. Unit {0})) e
-    (passes_halves (scaled_by o.settings.denominator (network o.graph)) o.settings.step (o.settings.denominator times upper)
+    (passes_halves (lifts o.settings) (scaled_by o.settings.denominator (network o.graph)) o.settings.step (o.settings.denominator times upper)
     o.settings.sweeps x.multipliers x.marks)).1
 
 -- ---- what waits below

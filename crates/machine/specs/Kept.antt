@@ -22,6 +22,7 @@ pub record Accepted (o : Opening) : Type 0 where
   pub sweeps : o.settings.sweeps ≤ max_sweeps
   pub step : o.settings.step ≤ max_step
   pub denominator : (1 ≤ o.settings.denominator) × (o.settings.denominator ≤ max_denominator)
+  pub lifting : o.settings.lifting ≤ 1
 
 -- multipliers such as an opening accepts, of n vertices
 pub record FitFor (n : ℕ) (d : List ℤ) : Type 0 where

@@ -1,8 +1,10 @@
--- Document 01's 'The hunt', read with C-23, 'The same round for everyone': the state, the opening of a node with its passes, and the run
--- loop, in their words and order. Trees and rulings are those of onetree's definitions, which go through all 1-trees. Definitions only.
+-- Document 01's 'The hunt', read with C-23, 'The same round for everyone', and C-13, 'Lifted dues for a stubborn leg': the state, the opening of a
+-- node with its passes, and the run loop, in their words and order. Trees are those of tree_theory's definitions, which go through all 1-trees, and
+-- rulings those of lifting's, which rest on them. Definitions only.
 -- (Our words: search for hunt, stack for pile, incumbent for best round, multipliers for dues, upper bound for the present ceiling U,
 -- budget for allowance.)
-use Rattle.std.specs.Prelude.{Bool, true, false, not, cond, ◌&&◌, List, [], ◌∷◌, ℕ, zero, suc, ◌+◌, leb, ltb, length, get_or, set, ℤ, pos, ◌+ℤ◌, ◌-ℤ◌, ◌*ℤ◌}
+use Rattle.std.specs.Prelude.{Bool, true, false, not, cond, ◌&&◌, List, [], ◌∷◌, ℕ, zero, suc, ◌+◌, eqb, leb, ltb}
+use Rattle.std.specs.Prelude.{length, get_or, set, ℤ, pos, ◌+ℤ◌, ◌-ℤ◌, ◌*ℤ◌}
 use Rattle.std.specs.Int.Signed.{lt_z}
 use Rattle.lists.specs.Bools.{bit}
 use Rattle.lists.specs.Rows.{row}
@@ -15,9 +17,10 @@ use Rattle.tree_theory.specs.OneTree.{Edges, lacks_first}
 use Rattle.tree_theory.specs.Valid.{is_free}
 use Rattle.tree_theory.specs.Inputs.{multiplier}
 use Rattle.tree_theory.specs.Scaled.{scaled_by}
-use Rattle.tree_theory.specs.Enumeration.{Tree, no_tree, a_tree, least_tree, Ruling, keeps, forces, bars, was_required, was_excluded, ruling}
-use Rattle.machine.specs.declared.Settings.{Settings}
+use Rattle.tree_theory.specs.Enumeration.{Tree, no_tree, a_tree, least_tree, Ruling, keeps, forces, bars, was_required, was_excluded}
 use Rattle.tours.specs.Tours.{degree, cost, is_tour}
+use Rattle.lifting.specs.Lifted.{ruling_with}
+use Rattle.machine.specs.declared.Settings.{Settings}
 use Rattle.machine.specs.Outcomes.{Outcome, closes, finds, splits, Incumbent, no_tour, next_stack, next_incumbent, next_upper}
 
 -- ---- a node
@@ -58,10 +61,11 @@ mark_by bars = excluded
 mark_by was_required = required
 mark_by was_excluded = excluded
 
--- "the rulings under U are applied together"
-unfoldable pub applied : Network → (ℕ → ℤ) → ℤ → Marks
-unfolding row ruling
-applied g d upper = row g.m (λ k. mark_by (ruling g d upper k))
+-- "the rulings under U are applied together"; document 02, C-13: "Lifted rulings are applied with the pass's own and dues go back afterwards": d are
+-- those of the pass, and no other multipliers leave the rulings
+unfoldable pub applied : Bool → Network → (ℕ → ℤ) → ℤ → Marks
+unfolding row ruling_with
+applied lifting g d upper = row g.m (λ k. mark_by (ruling_with lifting g d upper k))
 
 pub data Pass : Type 0 where
   -- the node closes
@@ -71,18 +75,19 @@ pub data Pass : Type 0 where
   -- the tree is none: the tree, and the marks after the rulings
   unclosed : Edges → Marks → Pass
 
--- "no tree, or bound above U: the node closes; the tree is a round: ..; otherwise the rulings under U are applied together"
-unfoldable pub pass_by : Network → (ℕ → ℤ) → ℤ → Tree → Pass
+-- "no tree, or bound above U: the node closes; the tree is a round: ..; otherwise the rulings under U are applied together"; with lifting or without,
+-- as "a yes or no at opening" says (document 02, C-13)
+unfoldable pub pass_by : Bool → Network → (ℕ → ℤ) → ℤ → Tree → Pass
 unfolding is_tour applied
-pass_by g d upper no_tree = shut
-pass_by g d upper (a_tree bound t) =
+pass_by lifting g d upper no_tree = shut
+pass_by lifting g d upper (a_tree bound t) =
     cond (lt_z upper bound) shut
     (cond (is_tour g t) (found t)
-    (unclosed t (applied g d upper)))
+    (unclosed t (applied lifting g d upper)))
 
-unfoldable pub pass : Network → (ℕ → ℤ) → ℤ → Pass
+unfoldable pub pass : Bool → Network → (ℕ → ℤ) → ℤ → Pass
 unfolding pass_by least_tree
-pass g d upper = pass_by g d upper (least_tree g d)
+pass lifting g d upper = pass_by lifting g d upper (least_tree g d)
 
 -- "each d(i), i ≥ 2, gains step × (g − 2), g being the number of the tree's legs that touch buoy i, and is held to its range"
 unfoldable pub gained : Network → ℕ → Edges → List ℤ → List ℤ
@@ -121,19 +126,19 @@ concluded m (found t) otherwise = finds (row m t)
 concluded m (unclosed t x) otherwise = otherwise t x
 
 -- the passes of a node with the marks x, from the multipliers d on; `left` passes follow the first of them. After the last no multiplier
--- gains: its halves get those that it used
-unfoldable pub passes : Network → ℕ → ℤ → ℕ → List ℤ → Marks → Opened
+-- gains: its halves get those that it used. All lift or none does (document 02, C-13)
+unfoldable pub passes : Bool → Network → ℕ → ℤ → ℕ → List ℤ → Marks → Opened
 unfolding with_marks pass multiplier row branch gained
-passes g step upper zero d x =
-    concluded g.m (pass (with_marks g x) (multiplier d) upper) (λ t y. branch d y)
-passes g step upper (suc left) d x =
-    concluded g.m (pass (with_marks g x) (multiplier d) upper)
-    (λ t y. passes g step upper left (gained g step t d) y)
+passes lifting g step upper zero d x =
+    concluded g.m (pass lifting (with_marks g x) (multiplier d) upper) (λ t y. branch d y)
+passes lifting g step upper (suc left) d x =
+    concluded g.m (pass lifting (with_marks g x) (multiplier d) upper)
+    (λ t y. passes lifting g step upper left (gained g step t d) y)
 
 -- ---- the state
 
--- "Opening takes a chart, dues, a ceiling, sweeps (0 to 15) and a step (0 to 10,000)."; document 02, C-17: "Opening .. take[s] a denominator q": the
--- last four are the settings
+-- "Opening takes a chart, dues, a ceiling, sweeps (0 to 15) and a step (0 to 10,000)."; document 02, C-17: "Opening .. take[s] a denominator q"; C-13:
+-- "A yes or no at opening turns lifting on": the last five are the settings
 pub record Opening : Type 0 where
   pub graph : Graph
   pub multipliers : List ℤ
@@ -141,6 +146,14 @@ pub record Opening : Type 0 where
 
 abbrev pub opening_of : Graph → List ℤ → Settings → Opening
 opening_of g d t = record { graph = g; multipliers = d; settings = t }
+
+-- document 02, C-13: "A yes or no at opening": 0 says no, and every other number yes
+abbrev pub lifts : Settings → Bool
+lifts s = not (eqb s.lifting 0)
+
+-- settings without what counts for nothing: of lifting 0 for no, 1 for yes
+unfoldable pub tidy : Settings → Settings
+tidy s = record { ceiling = s.ceiling; sweeps = s.sweeps; step = s.step; denominator = s.denominator; lifting = bit (lifts s) }
 
 -- a graph without what counts for nothing: "places past m count for nothing"
 unfoldable pub trimmed : Graph → Graph
@@ -157,8 +170,8 @@ trimmed g =
 
 -- "the arguments of the accepted opening", as the state holds them
 unfoldable pub held : Opening → Opening
-unfolding trimmed
-held o = record { graph = trimmed o.graph; multipliers = o.multipliers; settings = o.settings }
+unfolding trimmed tidy
+held o = record { graph = trimmed o.graph; multipliers = o.multipliers; settings = tidy o.settings }
 
 -- "the arguments of the accepted opening with the present ceiling U, a pile of waiting nodes, the best round or none, and a count of
 -- nodes opened"; the stack's top stands first
@@ -218,12 +231,13 @@ unfolding replaces
 better g b f = cond (replaces g f b) f b
 
 -- "then passes 0 to 'sweeps'", from the node's own multipliers on (document 02, C-16; they were the opening ones). C-17: "The charged cost becomes
--- q × cost plus the two dues, the bound is scaled likewise, and it is compared with q × ceiling", here with q × U
+-- q × cost plus the two dues, the bound is scaled likewise, and it is compared with q × ceiling", here with q × U. C-13: lifting, where the opening
+-- says yes, is for every pass: "The machine in document 01 is read with this change."
 unfoldable pub open_node : Opening → ℤ → Node → Opened
 unfolding network passes
 open_node o upper x =
     let q = o.settings.denominator in
-    passes (scaled_by q (network o.graph)) o.settings.step (q times upper) o.settings.sweeps x.multipliers x.marks
+    passes (lifts o.settings) (scaled_by q (network o.graph)) o.settings.step (q times upper) o.settings.sweeps x.multipliers x.marks
 
 -- what the opening of the top node makes of a search; rest are the nodes below it
 unfoldable pub settled : Progress → List Node → Opened → Progress

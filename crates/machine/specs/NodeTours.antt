@@ -1,33 +1,28 @@
--- The tours of a node; and that the rulings lose none of them that is within the upper bound, since a tour is a 1-tree whose bound is its
--- cost. (As a problem of branch and bound: proofs/NodeTours.)
+-- The tours of a node: what its marks allow, place by place; a tour is a 1-tree whose bound is its cost, whatever the multipliers. (That the rulings of
+-- a pass lose no tour within the upper bound: proofs/Applied. The tours as a problem of branch and bound: proofs/NodeTours.)
 use Rattle.std.specs.Prelude.{◌≡◌, ◌⊎◌, Bool, length, ℤ, ◌≤ℤ◌, ◌<ℤ◌}
 use Rattle.std.proofs.Math.Path.{refl, ap, subst}
 use Rattle.std.proofs.Common.{sym, ◌∙◌}
 use Rattle.std.proofs.Math.Logic.{inl, inr}
 use Rattle.std.proofs.Math.Bool.{true, false}
 use mathlib.Core.List.{List, [], ◌∷◌}
-use Prim.Native.Nat.{ℕ, suc, ◌≤◌, ◌<◌}
+use Prim.Native.Nat.{ℕ, suc, ◌<◌}
 use Rattle.std.proofs.Math.ListN.{get_or}
 use Rattle.std.specs.Int.Signed.{≤ℤ_refl}
-use Rattle.lists.specs.Bools.{by_cases}
 use Rattle.lists.specs.Members.{◌∈◌}
 use Rattle.lists.specs.Select.{select_cong}
 use Rattle.lists.specs.Numbers.{up_to}
-use Rattle.lists.specs.Rows.{row-size, row_at}
-use Rattle.integers.specs.Order.{le_trans, lt-le, le_lt_clash}
+use Rattle.lists.specs.Rows.{row-size}
+use Rattle.integers.specs.Order.{le_trans, lt-le}
 use Rattle.integers.specs.Sums.{sum_z}
 use Rattle.graph.specs.Network.{Network, Mark, free, required, excluded}
-use Rattle.tree_theory.specs.OneTree.{Edges, others, OneTree, Barred, Forced, bound, lacks_first}
-use Rattle.tree_theory.specs.Enumeration.{barred_b, forced_b, ruled, ruling}
+use Rattle.tree_theory.specs.OneTree.{Edges, others, OneTree, bound, lacks_first}
 use Rattle.tree_theory.specs.Agree.{Agree}
-use Rattle.tree_theory.specs.Decide.{barred_test, forced_test}
 use Rattle.tree_theory.specs.Valid.{Valid}
 use Rattle.tree_theory.specs.Arrays.{edge_of, of_edge}
 use Rattle.tours.specs.Tours.{Joined, Trip, Tour, Allowed, cost}
-use Rattle.machine.specs.Machine.{Marks, with_marks, frees, mark_by, applied, edges_of, cost_of, lowered}
+use Rattle.machine.specs.Machine.{Marks, with_marks, applied, edges_of, cost_of, lowered}
 use Rattle.tours.specs.TourTree.{tour_tree, bound_is_cost}
-use Rattle.machine.specs.Branching.{row-marks, frees-fewer}
-use Rattle.machine.specs.Requireds.{requireds, requireds-more}
 
 -- ---- a mark lets an edge be in (true) or out (false)
 
@@ -145,31 +140,12 @@ module _ (g : Network) (t : Edges) (x : Marks) where
       go : (k : ℕ) → (j : ℕ) × (j < g.m) × (k ≡ suc j) → Agrees (get_or (free ∷ x) k free) (t k)
       go k r = subst (λ (i : ℕ). Agrees (get_or (free ∷ x) i free) (t i)) (sym r.2) (h r.0 r.1)
 
--- ---- the rulings
+-- ---- a pass
 
-agrees_ruled : (x : Mark) (b f v : Bool) → Agrees x v → (b ≡ true → v ≡ false) → (f ≡ true → v ≡ true) → Agrees (mark_by (ruled x b f)) v
-agrees_ruled required b f v h p q = h
-agrees_ruled excluded b f v h p q = h
-agrees_ruled free true f v h p q = p refl
-agrees_ruled free false true v h p q = q refl
-agrees_ruled free false false v h p q = tt
-
-ruled_agrees : (x : Mark) (b f v : Bool) → Agrees (mark_by (ruled x b f)) v → Agrees x v
-ruled_agrees required b f v h = h
-ruled_agrees excluded b f v h = h
-ruled_agrees free b f v h = tt
-
-ruled_free : (x : Mark) (b f : Bool) → mark_by (ruled x b f) ≡ free → x ≡ free
-ruled_free required b f h = h
-ruled_free excluded b f h = h
-ruled_free free b f h = refl
-
-required_ruled : (x : Mark) (b f : Bool) → x ≡ required → mark_by (ruled x b f) ≡ required
-required_ruled x b f h = rw h
-
-pub applied-length : (g : Network) (d : ℕ → ℤ) (upper : ℤ) → length (applied g d upper) ≡ g.m
+-- the marks after the rulings are as many as the edges
+pub applied-length : (lifting : Bool) (g : Network) (d : ℕ → ℤ) (upper : ℤ) → length (applied lifting g d upper) ≡ g.m
 unfolding applied
-applied-length g d upper = row-size g.m (λ k. mark_by (ruling g d upper k))
+applied-length lifting g d upper = row-size g.m _
 
 module _ (g : Network) (vg : Valid g) (x : Marks) where
   pub inside-tree : (t : Edges) → Inside g t x → OneTree (with_marks g x) t
@@ -180,73 +156,3 @@ module _ (g : Network) (vg : Valid g) (x : Marks) where
     where
       same : cost (with_marks g x) t ≡ cost g t
       same = unfold cost with_marks in refl
-
-  module _ (d : ℕ → ℤ) (upper : ℤ) where
-    -- the node's mark and the two tests for edge j + 1
-    m : ℕ → Mark
-    m j = get_or x j free
-
-    b : ℕ → Bool
-    b j = barred_b (with_marks g x) d upper (suc j)
-
-    f : ℕ → Bool
-    f j = forced_b (with_marks g x) d upper (suc j)
-
-    applied-at : (j : ℕ) → j < g.m → get_or (applied (with_marks g x) d upper) j free ≡ mark_by (ruled (m j) (b j) (f j))
-    unfolding applied with_marks ruling m b f
-    applied-at j h = row_at g.m (λ k. mark_by (ruling (with_marks g x) d upper k)) j free h
-
-    -- a 1-tree within the upper bound agrees with the rulings
-    pub tree_agrees : (t : Edges) → OneTree (with_marks g x) t → bound (with_marks g x) d t ≤ℤ upper
-        → Allowed (with_marks g (applied (with_marks g x) d upper)) t
-    unfolding m b f
-    tree_agrees t o l = at-allowed g t (applied (with_marks g x) d upper) (λ j h. rw (applied-at j h) (at j h))
-      where
-        listed : (j : ℕ) → j < g.m → suc j ∈ up_to (with_marks g x).m
-        listed j h = unfold with_marks in of_edge g.m j h
-
-        own : (j : ℕ) → j < g.m → Agrees (m j) (t (suc j))
-        own j h = allowed_at g t x (record { keeps = o.keeps; avoids = o.avoids }) j h
-
-        out : (j : ℕ) → Barred (with_marks g x) d upper (suc j) → t (suc j) ≡ false
-        out j h = by_cases (t (suc j)) (λ e. absurd (le_lt_clash _ _ l (unfold Barred in h t o e))) (λ e. e)
-
-        into : (j : ℕ) → Forced (with_marks g x) d upper (suc j) → t (suc j) ≡ true
-        into j h = by_cases (t (suc j)) (λ e. e) (λ e. absurd (le_lt_clash _ _ l (unfold Forced in h t o e)))
-
-        at : (j : ℕ) → j < g.m → Agrees (mark_by (ruled (m j) (b j) (f j))) (t (suc j))
-        at j h =
-            agrees_ruled (m j) (b j) (f j) (t (suc j)) (own j h)
-            (λ e. out j ((barred_test (with_marks g x) d upper (suc j) (listed j h)).0 e))
-            (λ e. into j ((forced_test (with_marks g x) d upper (suc j) (listed j h)).0 e))
-
-    -- THE RULINGS LOSE NO TOUR within the upper bound
-    pub ruled_keeps : (t : Edges) → Inside g t x → cost g t ≤ℤ upper → Inside g t (applied (with_marks g x) d upper)
-    ruled_keeps t i l = record { tour = i.tour; allowed = tree_agrees t (inside-tree t i) (rw (cost-bound t i.tour d) l) }
-
-    -- bring in none,
-    pub ruled_of : (t : Edges) → Inside g t (applied (with_marks g x) d upper) → Inside g t x
-    unfolding m
-    ruled_of t i = record { tour = i.tour; allowed = at-allowed g t x (λ j h. at j h) }
-      where
-        at : (j : ℕ) → j < g.m → Agrees (m j) (t (suc j))
-        at j h =
-            ruled_agrees (m j) (b j) (f j) (t (suc j))
-            (subst (λ (z : Mark). Agrees z (t (suc j))) (applied-at j h)
-            (allowed_at g t (applied (with_marks g x) d upper) i.allowed j h))
-
-    -- and free none
-    pub ruled-frees : length x ≡ g.m → frees (applied (with_marks g x) d upper) ≤ frees x
-    unfolding applied with_marks ruling m b f
-    ruled-frees e =
-        subst (λ (z : Marks). frees (applied (with_marks g x) d upper) ≤ frees z) (row-marks g.m x e)
-        (frees-fewer g.m (λ k. mark_by (ruling (with_marks g x) d upper k)) (λ k. get_or (free ∷ x) k free)
-        (λ j h i. ruled_free (m j) (b j) (f j) i))
-
-    -- nor unmark a required one
-    pub ruled-requireds : length x ≡ g.m → requireds x ≤ requireds (applied (with_marks g x) d upper)
-    unfolding applied with_marks ruling m b f
-    ruled-requireds e =
-        subst (λ (z : Marks). requireds z ≤ requireds (applied (with_marks g x) d upper)) (row-marks g.m x e)
-        (requireds-more g.m (λ k. get_or (free ∷ x) k free) (λ k. mark_by (ruling (with_marks g x) d upper k))
-        (λ j h i. required_ruled (m j) (b j) (f j) i))

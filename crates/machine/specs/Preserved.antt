@@ -4,7 +4,7 @@ use Rattle.std.specs.Prelude.{◌≡◌, refl, Bool, true, false, not, ◌&&◌,
 use Rattle.std.proofs.Common.{arith, eqb-true, leb-true}
 use Prim.Native.Nat.{ℕ, ◌<◌}
 use Rattle.std.proofs.lemmas.Bool.{not-false}
-use Rattle.lists.specs.Bools.{by_cases, and_both, cond_zero}
+use Rattle.lists.specs.Bools.{by_cases, and_both, cond_zero, bit_most}
 use Rattle.lists.specs.Rows.{row-size}
 use Rattle.integers.specs.Range.{within_range}
 use Rattle.graph.specs.Limits.{max_ceiling, max_sweeps, max_step, max_count}
@@ -15,7 +15,7 @@ use Rattle.tree_theory.specs.Inputs.{multipliers_fit, ceiling_fits}
 use Rattle.tree_theory.specs.Accepted.{denominator_range}
 use Rattle.machine.specs.Outcomes.{Incumbent, no_tour, a_tour}
 use Rattle.machine.specs.Machine.{Node, marks_of}
-use Rattle.machine.specs.Machine.{Opening, trimmed, held, Progress, State, no_search, searching, begin, finished}
+use Rattle.machine.specs.Machine.{Opening, trimmed, lifts, tidy, held, Progress, State, no_search, searching, begin, finished}
 use Rattle.machine.specs.Calls.{fault, tell, show, shown_by, step}
 use Rattle.machine.specs.Trimmed.{trimmed_trim, trimmed-valid}
 use Rattle.machine.specs.Kept.{Accepted, Kept}
@@ -30,7 +30,7 @@ module _ (s : Progress) (h : Kept s) (x : Node) (rest : List Node) (e : s.stack 
 
 -- no fault: what each test tells
 pub accepts-held : (o : Opening) → fault o ≡ 0 → Accepted (held o)
-unfolding fault held ceiling_fits trimmed
+unfolding fault held tidy ceiling_fits trimmed
 accepts-held o h =
     let e15 = cond_zero (not (value.valid o.graph)) 15 _ (omega arith) h in
     let e11 = cond_zero (not (eqb (length o.multipliers) o.graph.n)) 11 _ (omega arith) e15.1 in
@@ -47,6 +47,7 @@ accepts-held o h =
       sweeps = leb-true o.settings.sweeps max_sweeps both.0;
       step = leb-true o.settings.step max_step both.1;
       denominator = denominator_range o.settings.denominator e14.1;
+      lifting = bit_most (lifts o.settings);
     }
 
 pub begin-kept : (o : Opening) → Accepted o → Kept (begin o)

@@ -1,6 +1,6 @@
 -- The ends of a turn of a node that is not refused, as the code comes to them, over the bytes of the node's marks and the multipliers so far
 -- (`AtPass`); and then of a node that may be refused (`AtTurn`). Rests on the passes' definition alone.
-use Rattle.std.specs.Prelude.{◌≡◌, refl, ℕ, zero, suc, ◌-◌, ◌≤◌, ◌<◌, ℤ, pos, Result, Ok, Err}
+use Rattle.std.specs.Prelude.{◌≡◌, refl, Bool, ℕ, zero, suc, ◌-◌, ◌≤◌, ◌<◌, ℤ, pos, Result, Ok, Err}
 use Rattle.std.proofs.Math.Path.{sym, ap}
 use Rattle.std.proofs.Common.{◌∙◌, subst, inr, arith}
 use mathlib.Core.List.{List}
@@ -35,41 +35,41 @@ use Rattle.node.specs.Marks.{with_bytes, Padded}
 use Rattle.node.specs.Passes.{network-marks, FoundIn, Pending, later, AtPass}
 use Rattle.node.specs.Refusing.{outcome, AtTurn, AtPassOf, turn_padded, turn_refused, turn_accepted}
 
-turn : (g : Network) (step : ℕ) (upper : ℤ) (left : ℕ) (d : List ℤ) (x : Marks)
-    → passes g step upper left d x ≡ concluded g.m (pass (with_marks g x) (multiplier d) upper) (later g step upper left d)
+turn : (lifting : Bool) (g : Network) (step : ℕ) (upper : ℤ) (left : ℕ) (d : List ℤ) (x : Marks)
+    → passes lifting g step upper left d x ≡ concluded g.m (pass lifting (with_marks g x) (multiplier d) upper) (later lifting g step upper left d)
 unfolding passes
-turn g step upper zero d x = refl
-turn g step upper (suc left) d x = refl
+turn lifting g step upper zero d x = refl
+turn lifting g step upper (suc left) d x = refl
 
-module _ (den : ℕ) (g : Graph) (valid : Valid g) (step : ℕ) (upper : ℤ) (out : M.Opened) (left : ℕ) (x : List ℕ) (d : List ℤ)
-    (s : AtPass den g step upper out left x d) where
+module _ (lifting : Bool) (den : ℕ) (g : Graph) (valid : Valid g) (step : ℕ) (upper : ℤ) (out : M.Opened) (left : ℕ) (x : List ℕ) (d : List ℤ)
+    (s : AtPass lifting den g step upper out left x d) where
   abbrev h : Graph
   h = with_bytes g x
 
   -- the machine's pass is the one that the code makes
-  pass_is : (p : Pass) → pass (scaled_by den (network h)) (multiplier (fit g.n (pos 0) d)) upper ≡ p
-      → out ≡ concluded g.m p (later (scaled_by den (network g)) step upper left (fit g.n (pos 0) d))
+  pass_is : (p : Pass) → pass lifting (scaled_by den (network h)) (multiplier (fit g.n (pos 0) d)) upper ≡ p
+      → out ≡ concluded g.m p (later lifting (scaled_by den (network g)) step upper left (fit g.n (pos 0) d))
   unfolding network with_marks
   pass_is p e =
       sym s.comes
-      ∙ turn (scaled_by den (network g)) step upper left (fit g.n (pos 0) d) s.marks
-      ∙ ap (λ (q : Pass). concluded g.m q (later (scaled_by den (network g)) step upper left (fit g.n (pos 0) d))) same
+      ∙ turn lifting (scaled_by den (network g)) step upper left (fit g.n (pos 0) d) s.marks
+      ∙ ap (λ (q : Pass). concluded g.m q (later lifting (scaled_by den (network g)) step upper left (fit g.n (pos 0) d))) same
     where
-      same : pass (with_marks (scaled_by den (network g)) s.marks) (multiplier (fit g.n (pos 0) d)) upper ≡ p
+      same : pass lifting (with_marks (scaled_by den (network g)) s.marks) (multiplier (fit g.n (pos 0) d)) upper ≡ p
       same =
-          ap (λ (f : Network). pass (scaled_by den f) (multiplier (fit g.n (pos 0) d)) upper)
+          ap (λ (f : Network). pass lifting (scaled_by den f) (multiplier (fit g.n (pos 0) d)) upper)
           (sym (network-marks g s.marks valid.few s.long) ∙ ap (λ (y : List ℕ). network (with_bytes g y)) (sym s.bytes))
           ∙ e
 
-  pub turn_shut : pass (scaled_by den (network h)) (multiplier (fit g.n (pos 0) d)) upper ≡ shut → out ≡ closes
+  pub turn_shut : pass lifting (scaled_by den (network h)) (multiplier (fit g.n (pos 0) d)) upper ≡ shut → out ≡ closes
   turn_shut e = pass_is shut e
 
-  pub turn_found : (w : List ℕ) → FoundAs den h (fit g.n (pos 0) d) upper w → FoundIn out w
+  pub turn_found : (w : List ℕ) → FoundAs lifting den h (fit g.n (pos 0) d) upper w → FoundIn out w
   unfolding tree_bytes
   turn_found w f = record { tour = row g.m f.tour; is = pass_is (found f.tour) f.is; bytes = f.bytes }
 
-  module _ (w degrees : List ℕ) (r : RuledAs den h (fit g.n (pos 0) d) upper w degrees) where
-    goes_on_lem : out ≡ later (scaled_by den (network g)) step upper left (fit g.n (pos 0) d) r.tree r.marks
+  module _ (w degrees : List ℕ) (r : RuledAs lifting den h (fit g.n (pos 0) d) upper w degrees) where
+    goes_on_lem : out ≡ later lifting (scaled_by den (network g)) step upper left (fit g.n (pos 0) d) r.tree r.marks
     goes_on_lem = pass_is (unclosed r.tree r.marks) r.is
 
     -- after the last pass
@@ -78,7 +78,7 @@ module _ (den : ℕ) (g : Graph) (valid : Valid g) (step : ℕ) (upper : ℤ) (o
       marks = r.marks;
       multipliers = fit g.n (pos 0) d;
       long = r.long;
-      comes = goes_on_lem ∙ ap (λ (i : ℕ). later (scaled_by den (network g)) step upper i (fit g.n (pos 0) d) r.tree r.marks) z;
+      comes = goes_on_lem ∙ ap (λ (i : ℕ). later lifting (scaled_by den (network g)) step upper i (fit g.n (pos 0) d) r.tree r.marks) z;
       bytes = r.bytes;
       told = e;
     }
@@ -88,15 +88,15 @@ module _ (den : ℕ) (g : Graph) (valid : Valid g) (step : ℕ) (upper : ℤ) (o
       unfolding T.degree network
       degree_now v a b = r.degree v a b
 
-      pub turn_next : AtPass den g step upper out less w next
+      pub turn_next : AtPass lifting den g step upper out less w next
       turn_next = record {
         marks = r.marks;
         long = r.long;
         bytes = r.bytes;
         fits = ap multipliers_fit gained_now ∙ again.fits;
         comes =
-            ap (λ (l : List ℤ). passes (scaled_by den (network g)) step upper less l r.marks) gained_now
-            ∙ sym (goes_on_lem ∙ ap (λ (i : ℕ). later (scaled_by den (network g)) step upper i (fit g.n (pos 0) d) r.tree r.marks) e);
+            ap (λ (l : List ℤ). passes lifting (scaled_by den (network g)) step upper less l r.marks) gained_now
+            ∙ sym (goes_on_lem ∙ ap (λ (i : ℕ). later lifting (scaled_by den (network g)) step upper i (fit g.n (pos 0) d) r.tree r.marks) e);
       }
         where
           gained_now : fit g.n (pos 0) next ≡ gained (scaled_by den (network g)) step r.tree (fit g.n (pos 0) d)
@@ -143,14 +143,14 @@ module _ (g : Graph) (first : List ℤ) (settings : Settings) (padded : Padded g
   at_shut w h =
       let v = verdict_at (Ok verdict.Shut) w h in
       let t = accepted v.0 in
-      (t.0, turn_shut _ g (fault-fit _ t.0).valid _ _ _ left now.mark d t.1 v.1)
+      (t.0, turn_shut _ _ g (fault-fit _ t.0).valid _ _ _ left now.mark d t.1 v.1)
 
   pub at_found : (w : List ℕ) → VerdictIs (taken now d settings) (Ok verdict.Found) w
       → (fault (taken g first settings) ≡ 0) × FoundIn (outcome (taken g first settings)) w
   at_found w h =
       let v = verdict_at (Ok verdict.Found) w h in
       let t = accepted v.0 in
-      (t.0, turn_found _ g (fault-fit _ t.0).valid _ _ _ left now.mark d t.1 w v.1)
+      (t.0, turn_found _ _ g (fault-fit _ t.0).valid _ _ _ left now.mark d t.1 w v.1)
 
   pub at_ruled : (live : ℕ) (degrees w : List ℕ) → VerdictIs (taken now d settings) (Ok (verdict.Ruled live degrees)) w
       → Turned g first settings left d w degrees live
@@ -165,7 +165,7 @@ module _ (g : Graph) (first : List ℤ) (settings : Settings) (padded : Padded g
         step = f.step;
         ranged = λ i b.
             rw (← fit_at g.n (pos 0) d i b) (fit_ranged (fit g.n (pos 0) d) t.1.fits i (omega (arith, fit-size g.n (pos 0) d)));
-        last = λ z. turn_last _ g f.valid _ _ _ left now.mark d t.1 w degrees v.1 z _ refl;
-        next = λ z e gains. inr (t.0, turn_next _ g f.valid _ _ _ left now.mark d t.1 w degrees v.1 e gains (left - 1) (omega arith));
+        last = λ z. turn_last _ _ g f.valid _ _ _ left now.mark d t.1 w degrees v.1 z _ refl;
+        next = λ z e gains. inr (t.0, turn_next _ _ g f.valid _ _ _ left now.mark d t.1 w degrees v.1 e gains (left - 1) (omega arith));
         few = v.2;
       }

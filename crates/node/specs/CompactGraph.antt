@@ -1,6 +1,6 @@
 -- The graph of the edges that are left: it is valid where the whole graph is, its network is the thin network of crate compaction, and so
 -- what the passes of a node come to on it, spread out to all edges, is what they come to.
-use Rattle.std.specs.Prelude.{◌≡◌, List, ℕ, zero, suc, ◌≤◌, ◌<◌, get_or, ℤ, pos}
+use Rattle.std.specs.Prelude.{◌≡◌, Bool, List, ℕ, zero, suc, ◌≤◌, ◌<◌, get_or, ℤ, pos}
 use Rattle.std.proofs.Math.Path.{refl, sym, ap}
 use Rattle.std.proofs.Common.{◌∙◌, subst, arith, eqb-true}
 use Rattle.std.proofs.Math.Bool.{true}
@@ -135,14 +135,14 @@ module _ (g : Graph) where
         (λ i l y. marks-at g.m g.mark i l ∙ ap mark_of (eqb-true (get_or g.mark i 0) 2 (not-false _ y)) ∙ unfold mark_of in refl)
 
     -- WHAT THE PASSES COME TO
-    pub left-passes : (den : ℕ) (d : List ℤ) (step : ℕ) (upper : ℤ) (k : ℕ)
-        → spread_opened e g.m (passes (scaled_by den (network (left g))) step upper k d (marks_in (left g).m (left g).mark))
-        ≡ passes (scaled_by den (network g)) step upper k d (marks_in g.m g.mark)
+    pub left-passes : (lifting : Bool) (den : ℕ) (d : List ℤ) (step : ℕ) (upper : ℤ) (k : ℕ)
+        → spread_opened e g.m (passes lifting (scaled_by den (network (left g))) step upper k d (marks_in (left g).m (left g).mark))
+        ≡ passes lifting (scaled_by den (network g)) step upper k d (marks_in g.m g.mark)
     unfolding network
-    left-passes den d step upper k =
-        ap (λ (f : Network). spread_opened e g.m (passes (scaled_by den f) step upper k d y)) network-thin
-        ∙ sym (passes-thin e (scaled_by den (network g)) step upper k d y (marks-size (left g).m (left g).mark))
-        ∙ ap (λ (x : Marks). passes (scaled_by den (network g)) step upper k d x) (sym marks-spread)
+    left-passes lifting den d step upper k =
+        ap (λ (f : Network). spread_opened e g.m (passes lifting (scaled_by den f) step upper k d y)) network-thin
+        ∙ sym (passes-thin e (scaled_by den (network g)) lifting step upper k d y (marks-size (left g).m (left g).mark))
+        ∙ ap (λ (x : Marks). passes lifting (scaled_by den (network g)) step upper k d x) (sym marks-spread)
       where
         y : Marks
         y = marks_in (left g).m (left g).mark

@@ -26,13 +26,14 @@ use Rattle.tree_theory.specs.Arrays.{bytes, edge_in, network-valid, network_n}
 use Rattle.tree_theory.specs.Inputs.{multiplier}
 use Rattle.tree_theory.specs.Scaled.{scaled_by}
 use Rattle.tree_theory.specs.Scaling.{valid_scaled}
-use Rattle.tree_theory.specs.Enumeration.{no_tree, a_tree, least_tree, ruling}
+use Rattle.tree_theory.specs.Enumeration.{no_tree, a_tree, least_tree}
 use Rattle.tree_theory.specs.LeastTree.{Right, tree_right}
 use Rattle.onetree.specs.Answers.{ruling_byte}
 use Rattle.tours.specs.Tours.{degree, is_tour}
 use Rattle.tours.specs.Tours as T
 use Rattle.machine.specs.Calls.{fault}
-use Rattle.machine.specs.Machine.{Marks, Opening, applied, mark_by, shut, found, unclosed, pass_by, pass}
+use Rattle.lifting.specs.Lifted.{ruling_with}
+use Rattle.machine.specs.Machine.{Marks, Opening, lifts, applied, mark_by, shut, found, unclosed, pass_by, pass}
 use Rattle.machine.specs.NodeTours.{applied-length}
 use Rattle.tours.specs.Degrees.{degree_agree}
 use Rattle.tours.specs.DegreeTest.{test_yes, test_no}
@@ -51,16 +52,16 @@ unfolding bytes_of_tour row
 tree_bytes m t = bytes_of_tour (row m t)
 
 -- the tree is a tour, and w has its bytes
-pub record FoundAs (den : ℕ) (g : Graph) (d : List ℤ) (upper : ℤ) (w : List ℕ) : Type 0 where
+pub record FoundAs (lifting : Bool) (den : ℕ) (g : Graph) (d : List ℤ) (upper : ℤ) (w : List ℕ) : Type 0 where
   pub tour : Edges
-  pub is : pass (scaled_by den (network g)) (multiplier d) upper ≡ found tour
+  pub is : pass lifting (scaled_by den (network g)) (multiplier d) upper ≡ found tour
   pub bytes : w ≡ tree_bytes g.m tour
 
 -- the tree is none: w has the bytes of the marks after the rulings, and the tree's degrees are known
-pub record RuledAs (den : ℕ) (g : Graph) (d : List ℤ) (upper : ℤ) (w degrees : List ℕ) : Type 0 where
+pub record RuledAs (lifting : Bool) (den : ℕ) (g : Graph) (d : List ℤ) (upper : ℤ) (w degrees : List ℕ) : Type 0 where
   pub tree : Edges
   pub marks : Marks
-  pub is : pass (scaled_by den (network g)) (multiplier d) upper ≡ unclosed tree marks
+  pub is : pass lifting (scaled_by den (network g)) (multiplier d) upper ≡ unclosed tree marks
   pub long : length marks ≡ g.m
   pub bytes : w ≡ bytes_of marks
   pub degree : (v : ℕ) → 1 ≤ v → v ≤ g.n → get_or degrees v 0 ≡ T.degree (network g) tree v
@@ -73,10 +74,10 @@ top_of o = o.settings.denominator times o.settings.ceiling
 abbrev pub VerdictIs : Opening → Result Verdict Refusal → List ℕ → Type 0
 VerdictIs o (Err r) w = (fault o ≡ number r) × (w ≡ o.graph.mark)
 VerdictIs o (Ok verdict.Shut) w =
-    (fault o ≡ 0) × (pass (scaled_by o.settings.denominator (network o.graph)) (multiplier o.multipliers) (top_of o) ≡ shut)
-VerdictIs o (Ok verdict.Found) w = (fault o ≡ 0) × FoundAs o.settings.denominator o.graph o.multipliers (top_of o) w
+    (fault o ≡ 0) × (pass (lifts o.settings) (scaled_by o.settings.denominator (network o.graph)) (multiplier o.multipliers) (top_of o) ≡ shut)
+VerdictIs o (Ok verdict.Found) w = (fault o ≡ 0) × FoundAs (lifts o.settings) o.settings.denominator o.graph o.multipliers (top_of o) w
 VerdictIs o (Ok (verdict.Ruled live degrees)) w =
-    (fault o ≡ 0) × RuledAs o.settings.denominator o.graph o.multipliers (top_of o) w degrees × (live ≤ max_edges)
+    (fault o ≡ 0) × RuledAs (lifts o.settings) o.settings.denominator o.graph o.multipliers (top_of o) w degrees × (live ≤ max_edges)
 
 -- ---- the bytes of a tree
 
@@ -98,27 +99,28 @@ module _ (g : Network) (d : ℕ → ℤ) (upper b : ℤ) (t : Edges) (e : least_
   least_tree_lem : OneTree g t
   least_tree_lem = (subst (Right g d) e (tree_right g d)).1.tree
 
-  pub pass-above : lt_z upper b ≡ true → pass g d upper ≡ shut
+  pub pass-above : (lifting : Bool) → lt_z upper b ≡ true → pass lifting g d upper ≡ shut
   unfolding pass pass_by
-  pass-above h = rw (e, h)
+  pass-above lifting h = rw (e, h)
 
-  by_test : lt_z upper b ≡ false → (x : Bool) → is_tour g t ≡ x → pass g d upper ≡ cond x (found t) (unclosed t (applied g d upper))
+  by_test : (lifting : Bool) → lt_z upper b ≡ false → (x : Bool) → is_tour g t ≡ x
+      → pass lifting g d upper ≡ cond x (found t) (unclosed t (applied lifting g d upper))
   unfolding pass pass_by
-  by_test h x i = rw (e, h, i)
+  by_test lifting h x i = rw (e, h, i)
 
-  pub pass_tour : lt_z upper b ≡ false → is_tour g t ≡ true → pass g d upper ≡ found t
-  pass_tour h i = by_test h true i
+  pub pass_tour : (lifting : Bool) → lt_z upper b ≡ false → is_tour g t ≡ true → pass lifting g d upper ≡ found t
+  pass_tour lifting h i = by_test lifting h true i
 
-  pub pass-ruled : lt_z upper b ≡ false → is_tour g t ≡ false → pass g d upper ≡ unclosed t (applied g d upper)
-  pass-ruled h i = by_test h false i
+  pub pass-ruled : (lifting : Bool) → lt_z upper b ≡ false → is_tour g t ≡ false → pass lifting g d upper ≡ unclosed t (applied lifting g d upper)
+  pass-ruled lifting h i = by_test lifting h false i
 
-pub pass_none : (g : Network) (d : ℕ → ℤ) (upper : ℤ) → least_tree g d ≡ no_tree → pass g d upper ≡ shut
+pub pass_none : (lifting : Bool) (g : Network) (d : ℕ → ℤ) (upper : ℤ) → least_tree g d ≡ no_tree → pass lifting g d upper ≡ shut
 unfolding pass pass_by
-pass_none g d upper e = rw e
+pass_none lifting g d upper e = rw e
 
 -- ---- from the bytes of a tree and of its rulings
 
-module _ (den : ℕ) (g : Graph) (valid : value.Valid g) (d : List ℤ) (upper b : ℤ) (t : Edges)
+module _ (lifting : Bool) (den : ℕ) (g : Graph) (valid : value.Valid g) (d : List ℤ) (upper b : ℤ) (t : Edges)
     (least : least_tree (scaled_by den (network g)) (multiplier d) ≡ a_tree b t) (low : lt_z upper b ≡ false)
     (w degrees : List ℕ) (tree : w ≡ tree_bytes g.m t) (counted : DegreesTo g.m g w degrees) where
   agrees : Agree (network g).m (bytes w) t
@@ -140,10 +142,10 @@ module _ (den : ℕ) (g : Graph) (valid : value.Valid g) (d : List ℤ) (upper b
   room : g.n < length degrees
   room = omega (arith, counted.size, valid.high)
 
-  pub tree_found : AllTwo degrees g.n → FoundAs den g d upper w
+  pub tree_found : AllTwo degrees g.n → FoundAs lifting den g d upper w
   tree_found h = record {
     tour = t;
-    is = pass_tour (scaled_by den (network g)) (multiplier d) upper b t least low tour;
+    is = pass_tour (scaled_by den (network g)) (multiplier d) upper b t least lifting low tour;
     bytes = tree;
   }
     where
@@ -155,21 +157,21 @@ module _ (den : ℕ) (g : Graph) (valid : value.Valid g) (d : List ℤ) (upper b
           ∙ two-each degrees g.n room h v (vertex v i))
 
   module _ (rulings x : List ℕ)
-      (ruled : (k : ℕ) → k < g.m → get_or rulings k 0 ≡ ruling_byte (ruling (scaled_by den (network g)) (multiplier d) upper (suc k)))
+      (ruled : (k : ℕ) → k < g.m → get_or rulings k 0 ≡ ruling_byte (ruling_with lifting (scaled_by den (network g)) (multiplier d) upper (suc k)))
       (made : Filling 0 max_edges g.m (λ k. mark_byte (get_or rulings k 0)) x) where
     marks : Marks
-    marks = applied (scaled_by den (network g)) (multiplier d) upper
+    marks = applied lifting (scaled_by den (network g)) (multiplier d) upper
 
     long : length marks ≡ g.m
     unfolding marks network
-    long = applied-length (scaled_by den (network g)) (multiplier d) upper
+    long = applied-length lifting (scaled_by den (network g)) (multiplier d) upper
 
     mark_at_lem : (k : ℕ) → k < g.m → mark_byte (get_or rulings k 0) ≡ byte_of (get_or marks k free)
     unfolding marks applied network
     mark_at_lem k h =
         ap mark_byte (ruled k h)
-        ∙ mark_ruling (ruling (scaled_by den (network g)) (multiplier d) upper (suc k))
-        ∙ ap byte_of (sym (row_at g.m (λ j. mark_by (ruling (scaled_by den (network g)) (multiplier d) upper j)) k free h))
+        ∙ mark_ruling (ruling_with lifting (scaled_by den (network g)) (multiplier d) upper (suc k))
+        ∙ ap byte_of (sym (row_at g.m (λ j. mark_by (ruling_with lifting (scaled_by den (network g)) (multiplier d) upper j)) k free h))
 
     marks-bytes : x ≡ bytes_of marks
     unfolding bytes_of
@@ -177,12 +179,12 @@ module _ (den : ℕ) (g : Graph) (valid : value.Valid g) (d : List ℤ) (upper b
         filling_is 0 max_edges (λ k. mark_byte (get_or rulings k 0)) g.m x (λ k. byte_of (get_or marks k free)) made mark_at_lem
         (λ k h. ap byte_of (get_or-eq_default marks free (omega (arith, long))))
 
-    pub tree-ruled : (AllTwo degrees g.n → ⊥) → RuledAs den g d upper x degrees
+    pub tree-ruled : (AllTwo degrees g.n → ⊥) → RuledAs lifting den g d upper x degrees
     unfolding marks
     tree-ruled h = record {
       tree = t;
       marks = marks;
-      is = pass-ruled (scaled_by den (network g)) (multiplier d) upper b t least low no_tour;
+      is = pass-ruled (scaled_by den (network g)) (multiplier d) upper b t least lifting low no_tour;
       long = long;
       bytes = marks-bytes;
       degree = λ v l i. unfold T.degree in degrees_are v i;

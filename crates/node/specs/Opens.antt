@@ -13,7 +13,7 @@ use Rattle.graph.specs.Meaning.{not_valid}
 use Rattle.tree_theory.specs.Scaled.{scaled_by}
 use Rattle.machine.specs.Outcomes.{closes, finds}
 use Rattle.machine.specs.Machine as M
-use Rattle.machine.specs.Machine.{Marks, Opening, branch, passes}
+use Rattle.machine.specs.Machine.{Marks, Opening, lifts, branch, passes}
 use Rattle.machine.specs.Calls.{fault}
 use Rattle.mark_rows.specs.MarkRows.{rows_of, marks_in_rows}
 use Rattle.mark_rows.specs.SixWords.{marks-length}
@@ -63,7 +63,7 @@ module _ (o : Opening) (node : Workspace) where
           → opened_as (spread_opened (kept o.graph.mark) o.graph.m out) ≡ opens o node
       left-opens out e =
           ap (λ (x : M.Opened). opened_as (spread_opened (kept o.graph.mark) o.graph.m x)) (sym e)
-          ∙ ap opened_as (left-passes o.graph (left_few o.graph few) o.settings.denominator o.multipliers o.settings.step (top_of o)
+          ∙ ap opened_as (left-passes o.graph (left_few o.graph few) (lifts o.settings) o.settings.denominator o.multipliers o.settings.step (top_of o)
           o.settings.sweeps)
           ∙ opens-valid
 
@@ -95,7 +95,7 @@ canonical m y l few long e = e ∙ ap rows_of (sym (ap (marks_in_rows m) e ∙ r
 -- A NODE OF A SEARCH, on the graph of its opening: nothing is refused, whatever marks that graph had, and whatever six words the node's are
 pub opens_node : (o : Opening) → Fit o → (x : List ℕ) (node : Workspace)
     → opens (record { graph = marked o.graph x; multipliers = o.multipliers; settings = o.settings }) node
-    ≡ opened_as (passes (scaled_by o.settings.denominator (network o.graph)) o.settings.step (top_of o) o.settings.sweeps
+    ≡ opened_as (passes (lifts o.settings) (scaled_by o.settings.denominator (network o.graph)) o.settings.step (top_of o) o.settings.sweeps
     o.multipliers (marks_in_rows o.graph.m x))
 opens_node o f x node =
     sym (opens-valid given node f.valid.few (fit-fault (left_in given) (record {
@@ -107,10 +107,10 @@ opens_node o f x node =
       step = f.step;
       denominator = f.denominator;
     })))
-    ∙ ap opened_as (passes_from_lem o.settings.denominator o.graph (bytes_of y) o.multipliers o.settings.step (top_of o) o.settings.sweeps
+    ∙ ap opened_as (passes_from_lem (lifts o.settings) o.settings.denominator o.graph (bytes_of y) o.multipliers o.settings.step (top_of o) o.settings.sweeps
     f.valid.few (sym (ap bytes_of back))
     ∙ ap (λ (z : Marks).
-    passes (scaled_by o.settings.denominator (network o.graph)) o.settings.step (top_of o) o.settings.sweeps o.multipliers z) back)
+    passes (lifts o.settings) (scaled_by o.settings.denominator (network o.graph)) o.settings.step (top_of o) o.settings.sweeps o.multipliers z) back)
   where
     y : Marks
     y = marks_in_rows o.graph.m x

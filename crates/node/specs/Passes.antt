@@ -83,25 +83,25 @@ pub record Pending (m : ℕ) (out : M.Opened) (w : List ℕ) (last : List ℤ) :
 -- ---- a turn of the machine's passes
 
 -- how an unclosed node goes on
-abbrev pub later : Network → ℕ → ℤ → ℕ → List ℤ → Edges → Marks → M.Opened
-later g step upper zero d t y = branch d y
-later g step upper (suc left) d t y = passes g step upper left (gained g step t d) y
+abbrev pub later : Bool → Network → ℕ → ℤ → ℕ → List ℤ → Edges → Marks → M.Opened
+later lifting g step upper zero d t y = branch d y
+later lifting g step upper (suc left) d t y = passes lifting g step upper left (gained g step t d) y
 
 -- the passes that are left, of a node with the marks' bytes x and the multipliers d, come to `out`
-pub record AtPass (den : ℕ) (g : Graph) (step : ℕ) (upper : ℤ) (out : M.Opened) (left : ℕ) (x : List ℕ) (d : List ℤ) : Type 0 where
+pub record AtPass (lifting : Bool) (den : ℕ) (g : Graph) (step : ℕ) (upper : ℤ) (out : M.Opened) (left : ℕ) (x : List ℕ) (d : List ℤ) : Type 0 where
   pub marks : Marks
   pub long : length marks ≡ g.m
   pub bytes : x ≡ bytes_of marks
   pub fits : multipliers_fit (fit g.n (pos 0) d) ≡ true
-  pub comes : passes (scaled_by den (network g)) step upper left (fit g.n (pos 0) d) marks ≡ out
+  pub comes : passes lifting (scaled_by den (network g)) step upper left (fit g.n (pos 0) d) marks ≡ out
 
 -- the passes of a node whose marks are those of the graph h
-abbrev pub passes_from : ℕ → Graph → List ℤ → ℕ → ℤ → ℕ → M.Opened
-passes_from den h d step upper left = passes (scaled_by den (network h)) step upper left (fit h.n (pos 0) d) (marks_in h.m h.mark)
+abbrev pub passes_from : Bool → ℕ → Graph → List ℤ → ℕ → ℤ → ℕ → M.Opened
+passes_from lifting den h d step upper left = passes lifting (scaled_by den (network h)) step upper left (fit h.n (pos 0) d) (marks_in h.m h.mark)
 
-pub at_first : (den : ℕ) (h : Graph) (d : List ℤ) (step : ℕ) (upper : ℤ) (left : ℕ) → h.mark ≡ bytes_of (marks_in h.m h.mark)
-    → multipliers_fit (fit h.n (pos 0) d) ≡ true → AtPass den h step upper (passes_from den h d step upper left) left h.mark d
-at_first den h d step upper left e fits = record {
+pub at_first : (lifting : Bool) (den : ℕ) (h : Graph) (d : List ℤ) (step : ℕ) (upper : ℤ) (left : ℕ) → h.mark ≡ bytes_of (marks_in h.m h.mark)
+    → multipliers_fit (fit h.n (pos 0) d) ≡ true → AtPass lifting den h step upper (passes_from lifting den h d step upper left) left h.mark d
+at_first lifting den h d step upper left e fits = record {
   marks = marks_in h.m h.mark;
   long = marks-size h.m h.mark;
   bytes = e;
@@ -110,25 +110,25 @@ at_first den h d step upper left e fits = record {
 }
 
 -- the passes set the marks of the network, so they do not depend on those that it had
-passes-marks : (g : Network) (y : Marks) (step : ℕ) (upper : ℤ) (left : ℕ) (d : List ℤ) (x : Marks)
-    → passes (with_marks g y) step upper left d x ≡ passes g step upper left d x
+passes-marks : (lifting : Bool) (g : Network) (y : Marks) (step : ℕ) (upper : ℤ) (left : ℕ) (d : List ℤ) (x : Marks)
+    → passes lifting (with_marks g y) step upper left d x ≡ passes lifting g step upper left d x
 unfolding passes with_marks gained T.degree
-passes-marks g y step upper zero d x = refl
-passes-marks g y step upper (suc left) d x =
-    λ i. concluded g.m (pass (with_marks g x) (multiplier d) upper) (λ t z. passes-marks g y step upper left (gained g step t d) z i)
+passes-marks lifting g y step upper zero d x = refl
+passes-marks lifting g y step upper (suc left) d x =
+    λ i. concluded g.m (pass lifting (with_marks g x) (multiplier d) upper) (λ t z. passes-marks lifting g y step upper left (gained g step t d) z i)
 
-pub passes_from_lem : (den : ℕ) (g : Graph) (x : List ℕ) (d : List ℤ) (step : ℕ) (upper : ℤ) (left : ℕ) → g.m ≤ max_edges
+pub passes_from_lem : (lifting : Bool) (den : ℕ) (g : Graph) (x : List ℕ) (d : List ℤ) (step : ℕ) (upper : ℤ) (left : ℕ) → g.m ≤ max_edges
     → x ≡ bytes_of (marks_in g.m x)
-    → passes (scaled_by den (network (with_bytes g x))) step upper left d (marks_in g.m x)
-    ≡ passes (scaled_by den (network g)) step upper left d (marks_in g.m x)
+    → passes lifting (scaled_by den (network (with_bytes g x))) step upper left d (marks_in g.m x)
+    ≡ passes lifting (scaled_by den (network g)) step upper left d (marks_in g.m x)
 unfolding with_marks
-passes_from_lem den g x d step upper left few e =
-    ap (λ (f : Network). passes (scaled_by den f) step upper left d (marks_in g.m x))
+passes_from_lem lifting den g x d step upper left few e =
+    ap (λ (f : Network). passes lifting (scaled_by den f) step upper left d (marks_in g.m x))
     (ap (λ (y : List ℕ). network (with_bytes g y)) e ∙ network-marks g (marks_in g.m x) few (marks-size g.m x))
-    ∙ passes-marks (scaled_by den (network g)) (marks_in g.m x) step upper left d (marks_in g.m x)
+    ∙ passes-marks lifting (scaled_by den (network g)) (marks_in g.m x) step upper left d (marks_in g.m x)
 
-module _ (den : ℕ) (g : Graph) (valid : Valid g) (step : ℕ) (upper : ℤ) (out : M.Opened) (left : ℕ) (x : List ℕ) (d : List ℤ)
-    (s : AtPass den g step upper out left x d) where
+module _ (lifting : Bool) (den : ℕ) (g : Graph) (valid : Valid g) (step : ℕ) (upper : ℤ) (out : M.Opened) (left : ℕ) (x : List ℕ) (d : List ℤ)
+    (s : AtPass lifting den g step upper out left x d) where
   abbrev h : Graph
   h = with_bytes g x
 

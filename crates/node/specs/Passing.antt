@@ -22,10 +22,11 @@ use Rattle.graph.specs.Meaning.{true_valid}
 use Rattle.tree_theory.specs.OneTree.{Edges}
 use Rattle.tree_theory.specs.Inputs.{input_fault, multiplier, multipliers_fit, ceiling_fits, denominator_fault}
 use Rattle.tree_theory.specs.Scaled.{scaled_by}
-use Rattle.tree_theory.specs.Enumeration.{Tree, no_tree, a_tree, least_tree, ruling}
+use Rattle.tree_theory.specs.Enumeration.{Tree, no_tree, a_tree, least_tree}
 use Rattle.greedy.specs.declared.Found.{Found}
 use Rattle.onetree.specs.Answers.{HintAfter, Reply, refused, none, bounded, pass_meaning, rule_fault, unless_fault, rule_says, rule_reply, ruling_byte, padded, pass_tree, pass_rulings}
-use Rattle.machine.specs.Machine.{Opening, shut, pass}
+use Rattle.lifting.specs.Lifted.{ruling_with}
+use Rattle.machine.specs.Machine.{Opening, lifts, shut, pass}
 use Rattle.machine.specs.Calls.{fault}
 use Rattle.node.specs.Marks.{bytes_of_tour}
 use Rattle.node.specs.Faults.{settings_fault, lastly, fault_rule, fault-fit}
@@ -95,16 +96,17 @@ module _ (den : ℕ) (g : Graph) (d : List ℤ) (upper : ℤ) (valid : value.Val
   not-refused n p e = says_no_number n p top (least_tree (scaled_by den (network g)) (multiplier d)) (e ∙ says)
 
   -- by the answer: there is none within the ceiling, or there is one
-  pub none_shut : none ≡ rule_reply g d upper den g.m → pass (scaled_by den (network g)) (multiplier d) top ≡ shut
-  none_shut e = go (least_tree (scaled_by den (network g)) (multiplier d)) refl (e ∙ says)
+  pub none_shut : (lifting : Bool) → none ≡ rule_reply g d upper den g.m → pass lifting (scaled_by den (network g)) (multiplier d) top ≡ shut
+  none_shut lifting e = go (least_tree (scaled_by den (network g)) (multiplier d)) refl (e ∙ says)
     where
       second : (b : ℤ) (t : Edges) → least_tree (scaled_by den (network g)) (multiplier d) ≡ a_tree b t → (x : Bool) → lt_z top b ≡ x
-          → none ≡ cond x none (bounded b) → pass (scaled_by den (network g)) (multiplier d) top ≡ shut
-      second b t q true i h = pass-above (scaled_by den (network g)) (multiplier d) top b t q i
+          → none ≡ cond x none (bounded b) → pass lifting (scaled_by den (network g)) (multiplier d) top ≡ shut
+      second b t q true i h = pass-above (scaled_by den (network g)) (multiplier d) top b t q lifting i
       second b t q false i h = absurd (let z : ◌≡◌ {A = ℕ} 0 1 = cc in omega arith)
 
-      go : (t : Tree) → least_tree (scaled_by den (network g)) (multiplier d) ≡ t → none ≡ rule_says top t → pass (scaled_by den (network g)) (multiplier d) top ≡ shut
-      go no_tree q h = pass_none (scaled_by den (network g)) (multiplier d) top q
+      go : (t : Tree) → least_tree (scaled_by den (network g)) (multiplier d) ≡ t → none ≡ rule_says top t
+          → pass lifting (scaled_by den (network g)) (multiplier d) top ≡ shut
+      go no_tree q h = pass_none lifting (scaled_by den (network g)) (multiplier d) top q
       go (a_tree b t) q h = second b t q (lt_z top b) refl h
 
   pub bounded_within : (b : ℤ) → bounded b ≡ rule_reply g d upper den g.m → Within den g d top b
@@ -143,12 +145,13 @@ module _ (den : ℕ) (g : Graph) (d : List ℤ) (upper : ℤ) (valid : value.Val
               ap bit (get_or-eq_default (row g.m t) false (omega (arith, row-size g.m t)))
               ∙ sym (row_at max_edges f i 0 b ∙ rw (lt-leb (suc i) g.m (omega arith)))
 
-  pub pass-rulings : (out : List ℕ) (b : ℤ) (w : Within den g d top b) (k : ℕ) → k < g.m
-      → get_or (pass_rulings g d upper den out) k 0 ≡ ruling_byte (ruling (scaled_by den (network g)) (multiplier d) top (suc k))
+  pub pass-rulings : (lifting : Bool) (out : List ℕ) (b : ℤ) (w : Within den g d top b) (k : ℕ) → k < g.m
+      → get_or (pass_rulings g d upper den lifting out) k 0 ≡ ruling_byte (ruling_with lifting (scaled_by den (network g)) (multiplier d) top (suc k))
   unfolding pass_rulings padded
-  pass-rulings out b w k h =
+  pass-rulings lifting out b w k h =
       rw (no_fault, w.least, w.low)
-      (row_at max_edges (λ j. cond (leb j g.m) (ruling_byte (ruling (scaled_by den (network g)) (multiplier d) top j)) 0) k 0 (omega (arith, valid.few))
+      (row_at max_edges (λ j. cond (leb j g.m) (ruling_byte (ruling_with lifting (scaled_by den (network g)) (multiplier d) top j)) 0) k 0
+      (omega (arith, valid.few))
       ∙ rw (le-leb (suc k) g.m h))
 
 -- ---- what the code is told
@@ -160,14 +163,14 @@ pub record LeastIs (o : Opening) (found : Found) (tree rulings : List ℕ) : Typ
   pub bytes : tree ≡ tree_bytes o.graph.m within.tree
   pub ruled : (k : ℕ) → k < o.graph.m
       → get_or rulings k 0
-      ≡ ruling_byte (ruling (scaled_by o.settings.denominator (network o.graph)) (multiplier o.multipliers) (top_of o) (suc k))
+      ≡ ruling_byte (ruling_with (lifts o.settings) (scaled_by o.settings.denominator (network o.graph)) (multiplier o.multipliers) (top_of o) (suc k))
   pub few : found.live ≤ max_edges
 
 -- refused with its fault, or without one the least 1-tree, where it is within the upper bound
 abbrev pub TreeIs : Opening → Result (Option Found) Refusal → List ℕ → List ℕ → Type 0
 TreeIs o (Err r) tree rulings = fault o ≡ number r
 TreeIs o (Ok None) tree rulings =
-    (fault o ≡ 0) × (pass (scaled_by o.settings.denominator (network o.graph)) (multiplier o.multipliers) (top_of o) ≡ shut)
+    (fault o ≡ 0) × (pass (lifts o.settings) (scaled_by o.settings.denominator (network o.graph)) (multiplier o.multipliers) (top_of o) ≡ shut)
 TreeIs o (Ok (Some found)) tree rulings = LeastIs o found tree rulings
 
 module _ (o : Opening) (none : fault o ≡ 0) (tree rulings tree_before rulings_before : List ℕ) where
@@ -177,11 +180,11 @@ module _ (o : Opening) (none : fault o ≡ 0) (tree rulings tree_before rulings_
   -- once it refuses nothing
   pub tree_is : (x : Option Found) → pass_meaning (Ok x) ≡ replied
       → tree ≡ pass_tree o.graph o.multipliers o.settings.ceiling o.settings.denominator tree_before
-      → rulings ≡ pass_rulings o.graph o.multipliers o.settings.ceiling o.settings.denominator rulings_before
+      → rulings ≡ pass_rulings o.graph o.multipliers o.settings.ceiling o.settings.denominator (lifts o.settings) rulings_before
       → (marks out order : List ℕ) → HintAfter (Ok x) marks o.graph.m out order → TreeIs o (Ok x) tree rulings
   tree_is None said t r marks out order hint =
       let f = fault-fit o none in
-      (none, none_shut _ _ _ _ f.valid f.long f.multipliers f.ceiling f.denominator said)
+      (none, none_shut _ _ _ _ f.valid f.long f.multipliers f.ceiling f.denominator (lifts o.settings) said)
   tree_is (Some found) said t r marks out order hint =
       let f = fault-fit o none in
       let w = bounded_within _ _ _ _ f.valid f.long f.multipliers f.ceiling f.denominator found.bound said in
@@ -191,6 +194,6 @@ module _ (o : Opening) (none : fault o ≡ 0) (tree rulings tree_before rulings_
         bytes = t ∙ pass-tree _ _ _ _ f.valid f.long f.multipliers f.ceiling f.denominator tree_before found.bound w;
         ruled = λ k h.
             ap (λ (l : List ℕ). get_or l k 0) r
-            ∙ pass-rulings _ _ _ _ f.valid f.long f.multipliers f.ceiling f.denominator rulings_before found.bound w k h;
+            ∙ pass-rulings _ _ _ _ f.valid f.long f.multipliers f.ceiling f.denominator (lifts o.settings) rulings_before found.bound w k h;
         few = hint.looks.few;
       }

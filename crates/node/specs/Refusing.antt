@@ -13,7 +13,7 @@ use Rattle.tree_theory.specs.Scaled.{scaled_by}
 use Rattle.machine.specs.declared.Settings.{Settings}
 use Rattle.machine.specs.Outcomes.{closes, finds, splits}
 use Rattle.machine.specs.Machine as M
-use Rattle.machine.specs.Machine.{Opening, open_node, passes}
+use Rattle.machine.specs.Machine.{Opening, lifts, open_node, passes}
 use Rattle.machine.specs.Calls.{fault}
 use Rattle.node.specs.declared.Workspace.{Workspace}
 use Rattle.node.specs.declared.passes.Ending.{Ending}
@@ -27,7 +27,7 @@ use Rattle.node.specs.Passes.{FoundIn, Pending, AtPass, at_first, at-valid}
 -- what the node comes to, where it has no fault
 abbrev pub outcome : Opening → M.Opened
 outcome o =
-    passes (scaled_by o.settings.denominator (network o.graph)) o.settings.step (top_of o) o.settings.sweeps o.multipliers
+    passes (lifts o.settings) (scaled_by o.settings.denominator (network o.graph)) o.settings.step (top_of o) o.settings.sweeps o.multipliers
     (marks_in o.graph.m o.graph.mark)
 
 -- the machine's opening of a node refuses nothing
@@ -63,7 +63,7 @@ module _ (g : Graph) (first : List ℤ) (settings : Settings) where
 
   -- its passes, in a turn of the loop
   abbrev pub AtPassOf : ℕ → List ℕ → List ℤ → Type 0
-  AtPassOf left x d = AtPass settings.denominator g settings.step (top_of given) (outcome given) left x d
+  AtPassOf left x d = AtPass (lifts settings) settings.denominator g settings.step (top_of given) (outcome given) left x d
 
   -- nothing is done yet, or the node has no fault
   abbrev pub AtTurn : ℕ → List ℕ → List ℤ → Type 0
@@ -87,7 +87,7 @@ module _ (g : Graph) (first : List ℤ) (settings : Settings) where
     later-fit z t =
         let f = fault-fit given z in
         fit-fault (taken_at x d) (record {
-          valid = at-valid settings.denominator g f.valid settings.step (top_of given) (outcome given) left x d t;
+          valid = at-valid (lifts settings) settings.denominator g f.valid settings.step (top_of given) (outcome given) left x d t;
           long = fit-size g.n (pos 0) d;
           multipliers = t.fits;
           ceiling = f.ceiling;
@@ -107,7 +107,7 @@ module _ (g : Graph) (first : List ℤ) (settings : Settings) where
         let z : fault given ≡ 0 = sym (ap fault (first_taken r.1 r.2)) ∙ e in
         let f = fault-fit given z in
         let start =
-        at_first settings.denominator g first settings.step (top_of given) settings.sweeps (marks_back g f.valid padded) f.multipliers
+        at_first (lifts settings) settings.denominator g first settings.step (top_of given) settings.sweeps (marks_back g f.valid padded) f.multipliers
         in
         (z, begun r start))
         (λ r. r) s

@@ -90,8 +90,8 @@ pub enum Fate {
 // pass go over them alone, and what they come to is packed into words again. The graph's own marks count for nothing, and words that make no
 // marks are read as marks all the same. The ceiling of the settings is the upper bound. `lists` are for the passes to work in: whatever they
 // hold, the answers are the same, and what they hold afterwards is free, so a search makes them once for all its nodes.
-// Ruled out: an edge that the node excludes, and that a node below it does not; multipliers that gain after the last pass; a byte written
-// where the node is refused.
+// Ruled out: an edge that the node excludes, and that a node below it does not; multipliers that gain after the last pass; an edge ruled by lifting
+// where the settings say 0, or one that lifting rules left free where they do not; a byte written where the node is refused.
 pub fn open(
     g: &Graph,
     multipliers: &[i32; MAX_VERTICES],

@@ -5,7 +5,6 @@ ghost use Rattle.lists.specs.Filling.{Filling};
 ghost use Rattle.integers.specs.Range.{InRange, clamp};
 ghost use Rattle.graph.specs.Refusals.{number};
 ghost use Rattle.graph.specs.Valid.{Valid};
-ghost use Rattle.tours.specs.Counted.{DegreesTo};
 ghost use Rattle.graph.specs.Limits.{max_vertices, max_edges, max_multiplier, max_step};
 ghost use Rattle.onetree.specs.Answers.{byte_of, ruling_bytes};
 ghost use Rattle.node.specs.Marks.{with_bytes, Padded};
@@ -20,23 +19,7 @@ ghost use Rattle.node.specs.Refusing.{EndsAs};
 use crate::{padded, settings_fault};
 use graph::{Graph, MAX_EDGES, MAX_VERTICES, Refusal, VERTEX_PLACES, ValidGraph};
 use machine::Settings;
-use onetree::{Found, MAX_MULTIPLIER, PassLists, Ruling};
-
-// The degree of each vertex in the edges that are in, vertex v's at place v. The graph by reference: by value a pass takes 7 instructions more.
-fn count_degrees(valid: &ValidGraph, tree: &[u8; MAX_EDGES]) -> [u8; VERTEX_PLACES]
-    ensures { DegreesTo valid.now.graph.now.m valid.now.graph.now tree.now result }
-{
-    let g = valid.graph;
-    let mut degrees = [0u8; VERTEX_PLACES];
-    let m = usize::from(g.m);
-    for ((&a, &b), &w) in g.a[..m].iter().zip(&g.b[..m]).zip(&tree[..m]) {
-        if w == 1 {
-            degrees[usize::from(a)] += 1;
-            degrees[usize::from(b)] += 1;
-        }
-    }
-    degrees
-}
+use onetree::{Found, MAX_MULTIPLIER, PassLists, Ruling, count_degrees};
 
 // Is every degree 2? A 1-tree is then a tour.
 fn two_each(degrees: &[u8]) -> bool
@@ -118,7 +101,7 @@ fn lastly(refusal: Refusal, settings: Settings) -> Refusal
 }
 
 // The least 1-tree within the ceiling, and its rulings, or that there is none: one call of the tree part, which refuses a graph of more vertices
-// than there are places. The hint is for the tree part alone.
+// than there are places. It lifts where the settings say anything but 0. The hint is for the tree part alone.
 fn ask(
     g: &Graph,
     d: &[i32; MAX_VERTICES],
@@ -133,6 +116,7 @@ fn ask(
         &d[..usize::from(g.n).min(MAX_VERTICES)],
         settings.ceiling,
         settings.denominator,
+        settings.lifting != 0,
         hint,
         lists,
     )

@@ -1,7 +1,7 @@
 -- What the tree call and the rule call answer, and what they leave in the lent list, for every input: refusals first, in document 01's
 -- order, then by the least 1-tree. Multipliers and bounds count in q-ths of a minute, ceilings in minutes (document 02, C-17). The contracts cite
 -- these. Definitions only.
-use Rattle.std.specs.Prelude.{◌≡◌, ◌≤◌, map, not, cond, List, ℕ, zero, suc, leb, length, replicate, ℤ, Option, None, Some, Result, Ok, Err}
+use Rattle.std.specs.Prelude.{◌≡◌, ◌≤◌, Bool, map, not, cond, List, ℕ, zero, suc, leb, length, replicate, ℤ, Option, None, Some, Result, Ok, Err}
 use Rattle.std.specs.Int.Signed.{lt_z}
 use Rattle.lists.specs.Bools.{bit}
 use Rattle.lists.specs.Rows.{row}
@@ -20,6 +20,7 @@ use Rattle.greedy.specs.declared.Found.{Found}
 use Rattle.greedy.specs.declared.Lists.{Lists}
 use Rattle.greedy.specs.Hint.{Hinted}
 use Rattle.greedy.specs.Least.{Weighed}
+use Rattle.lifting.specs.Lifted.{ruling_with}
 use Rattle.onetree.specs.declared.rulings.NoRuling.{NoRuling}
 use Rattle.onetree.specs.declared.rulings.Ruling as code
 use Rattle.onetree.specs.declared.rulings.Ruling.TheVariants as variant
@@ -156,12 +157,12 @@ pass_tree g d ceiling q out =
     leaves (rule_fault g d ceiling q g.m) out
     (pass_writes g.m (q times ceiling) (λ t k. bit (t k)) (least_tree (scaled_by q (network g)) (multiplier d)))
 
--- the bytes of the rule call
-unfoldable pub pass_rulings : Graph → List ℤ → ℤ → ℕ → List ℕ → List ℕ
-unfolding rule_fault
-pass_rulings g d ceiling q out =
+-- the bytes of the rule call, with lifting or without. C-13: "Lifted rulings are applied with the pass's own"
+unfoldable pub pass_rulings : Graph → List ℤ → ℤ → ℕ → Bool → List ℕ → List ℕ
+unfolding rule_fault ruling_with
+pass_rulings g d ceiling q lifting out =
     leaves (rule_fault g d ceiling q g.m) out
-    (pass_writes g.m (q times ceiling) (λ t k. ruling_byte (ruling (scaled_by q (network g)) (multiplier d) (q times ceiling) k))
+    (pass_writes g.m (q times ceiling) (λ t k. ruling_byte (ruling_with lifting (scaled_by q (network g)) (multiplier d) (q times ceiling) k))
     (least_tree (scaled_by q (network g)) (multiplier d)))
 
 -- what a pass leaves in the list that it is lent for a hint: a refusal leaves it as it was

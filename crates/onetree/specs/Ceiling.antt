@@ -13,8 +13,9 @@ use Rattle.tree_theory.specs.OneTree.{Edges}
 use Rattle.tree_theory.specs.Scaled.{scaled_by}
 use Rattle.tree_theory.specs.Inputs.{multiplier, ceiling_fits, denominator_fault}
 use Rattle.tree_theory.specs.Accepted.{passed, denominator_range}
-use Rattle.tree_theory.specs.Enumeration.{Tree, no_tree, a_tree, least_tree, ruling}
+use Rattle.tree_theory.specs.Enumeration.{Tree, no_tree, a_tree, least_tree}
 use Rattle.tree_theory.specs.LeastTree.{tree_found, tree_missing}
+use Rattle.lifting.specs.Lifted.{ruling_with}
 use Rattle.onetree.specs.Answers.{ruling_byte, ruling_bytes, all_keep}
 use Rattle.tree_theory.specs.Arrays.{blank, bytes, in_edge}
 use Rattle.greedy.specs.Charged.{high_bound, low_bound, max_slack}
@@ -38,13 +39,13 @@ Over ceiling no_tree = Unit {0}
 Over ceiling (a_tree b t) = (lt_z ceiling b ≡ true)
 
 -- the least 1-tree has this bound, within the ceiling, and the lists have its bytes and the rulings'
-pub record Within (den : ℕ) (g : Graph) (d : List ℤ) (ceiling b : ℤ) (tree rulings : List ℕ) : Type 0 where
+pub record Within (lifting : Bool) (den : ℕ) (g : Graph) (d : List ℤ) (ceiling b : ℤ) (tree rulings : List ℕ) : Type 0 where
   pub edges : Edges
   pub least : least_tree (scaled_by den (network g)) (multiplier d) ≡ a_tree b edges
   pub fits : mag b < 9223372036854775808
   pub under : lt_z ceiling b ≡ false
   pub chosen : (k : ℕ) → k < g.m → get_or tree k 0 ≡ bit (edges (suc k))
-  pub ruled : (k : ℕ) → k < g.m → get_or rulings k 0 ≡ ruling_byte (ruling (scaled_by den (network g)) (multiplier d) ceiling (suc k))
+  pub ruled : (k : ℕ) → k < g.m → get_or rulings k 0 ≡ ruling_byte (ruling_with lifting (scaled_by den (network g)) (multiplier d) ceiling (suc k))
   pub past : (k : ℕ) → g.m ≤ k → (get_or tree k 0 ≡ 0) × (get_or rulings k 0 ≡ 0)
   pub long : (length tree ≡ max_edges) × (length rulings ≡ max_edges)
 
@@ -56,10 +57,10 @@ pub record NoneWithin (den : ℕ) (g : Graph) (d : List ℤ) (ceiling : ℤ) (af
   pub rulings : after.rulings ≡ all_keep
 
 -- what the lists are by the answer, of a call's input without a fault
-abbrev pub AgainstCeiling : ℕ → Graph → List ℤ → ℤ → Option Found → PassLists → Type 0
-AgainstCeiling den g d ceiling None after = NoneWithin den g d ceiling after × Weighed den g d after.least
-AgainstCeiling den g d ceiling (Some r) after =
-    Within den g d ceiling r.bound after.least.tree (ruling_bytes after.rulings) × Hinted g.mark g.m after.least.order r.live
+abbrev pub AgainstCeiling : Bool → ℕ → Graph → List ℤ → ℤ → Option Found → PassLists → Type 0
+AgainstCeiling lifting den g d ceiling None after = NoneWithin den g d ceiling after × Weighed den g d after.least
+AgainstCeiling lifting den g d ceiling (Some r) after =
+    Within lifting den g d ceiling r.bound after.least.tree (ruling_bytes after.rulings) × Hinted g.mark g.m after.least.order r.live
     × Weighed den g d after.least
 
 -- ---- the fault of the ceiling comes before that of the denominator
@@ -114,16 +115,16 @@ module _ (den : ℕ) (g : Graph) (d : List ℤ) (ceiling : ℤ) (r : Found) (fou
   ceiling_over l = record { over = rw edges.1 l; tree = refl; order = refl; rulings = refl }
 
   -- it is within it
-  pub ceiling_within : lt_z ceiling r.bound ≡ false → (slack : ℕ) → SlackIs ceiling r.bound slack → slack ≤ max_slack
-      → (res : List ℕ) → RuledBy g found.tree found.charges slack res → length res ≡ max_edges
-      → Within den g d ceiling r.bound found.tree res
-  ceiling_within l slack s small res ruled long = record {
+  pub ceiling_within : (lifting : Bool) → lt_z ceiling r.bound ≡ false → (slack : ℕ) → SlackIs ceiling r.bound slack → slack ≤ max_slack
+      → (res : List ℕ) → RuledBy lifting g d found.tree found.charges slack res → length res ≡ max_edges
+      → Within lifting den g d ceiling r.bound found.tree res
+  ceiling_within lifting l slack s small res ruled long = record {
     edges = edges.0;
     least = edges.1;
     fits = t.fits;
     under = l;
     chosen = λ k h. byte_is (get_or found.tree k 0) (t.bits k) ∙ ap bit (sym (edges.2 k h));
-    ruled = ruled.each den d ceiling (record {
+    ruled = ruled.each den ceiling (record {
       charged = t.weighed.charged;
       least = t.least;
       within = subst (λ (x : ℤ). SlackIs ceiling x slack) t.bound_is s;

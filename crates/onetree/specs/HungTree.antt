@@ -5,7 +5,7 @@ use Rattle.graph.specs.declared.Graph.{Graph}
 use Rattle.tree_theory.specs.Spans.{Spans}
 use Rattle.tree_theory.specs.Merges.{Merges}
 use Rattle.swaps.specs.TreeTable.{Ends, Lists}
-use Rattle.swaps.specs.Visiting.{Rooting, rooting, Rows, Hung, Complete, Lined}
+use Rattle.swaps.specs.Visiting.{Rooting, rooting, depth_at, Rows, Hung, Complete, Lined}
 use Rattle.swaps.specs.RootedTree as tree
 use Rattle.swaps.specs.RootedTree.{Labelled, RootedIn, two_ends, walkable}
 use Rattle.swaps.specs.Swaps.{Below}
@@ -37,6 +37,7 @@ pub record HungTree (g : Graph) (w rep : List ℕ) (r : Rooting) (queue : List �
   pub below : (v : ℕ) → BelowRoot queue count v → Below r v
   pub queued : (v : ℕ) → Below r v → BelowRoot queue count v
   pub each : OneEach (BelowRoot queue count) r.edge
+  pub low : (v : ℕ) → 1 ≤ depth_at r v → 2 ≤ v
   pub some : 1 ≤ count
   pub few : count ≤ 21
 
@@ -55,6 +56,7 @@ module _ (g : Graph) (w rep from to : List ℕ) (spans : Spans g w) (merges : Me
       below = down;
       queued = below_queue r queue count lined;
       each = one_each_as (Below r) (BelowRoot queue count) r.edge down (one_each g spans.valid w spans.tree rep r root);
+      low = λ v d. (hung.inside v d).0;
       some = lined.first.0;
       few = omega (arith, lined.room);
     }

@@ -10,6 +10,11 @@ pub mod Ruled
 -- the least 1-tree, hung
 pub mod HungTree
 pub mod ReadyToJudge
+-- lifting: the best to change places, and what becomes of kept edges
+pub mod Picks
+pub mod Masks
+pub mod Lifts
+pub mod Retried
 -- the calls, case by case
 pub mod TreeCall
 pub mod Ceiling

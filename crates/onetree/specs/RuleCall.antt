@@ -1,5 +1,5 @@
 -- From what code knows to what the rule call and the combined pass promise: their replies and lists in each case. Assumes nothing.
-use Rattle.std.specs.Prelude.{◌≡◌, refl, ◌≢◌, not, cond, List, ℕ, suc, ◌<◌, ◌≤◌, length, get_or, leb, ℤ}
+use Rattle.std.specs.Prelude.{◌≡◌, refl, ◌≢◌, Bool, false, not, cond, List, ℕ, suc, ◌<◌, ◌≤◌, length, get_or, leb, ℤ}
 use Rattle.std.proofs.Common.{◌∙◌, arith, le-leb}
 use Rattle.std.proofs.Math.Path.{sym}
 use Rattle.std.proofs.Math.Decide.{dec_le}
@@ -15,6 +15,7 @@ use Rattle.tree_theory.specs.OneTree.{Edges}
 use Rattle.tree_theory.specs.Scaled.{scaled_by}
 use Rattle.tree_theory.specs.Inputs.{multiplier, ceiling_fits, denominator_fault, input_fault}
 use Rattle.tree_theory.specs.Enumeration.{Tree, no_tree, a_tree, least_tree, Ruling, ruling}
+use Rattle.lifting.specs.Lifted.{ruling_with}
 use Rattle.onetree.specs.Answers.{Reply, refused, none, bounded, rule_fault, rule_reply, rule_leaves, rule_says, rule_writes, ruling_byte, padded, pass_writes, pass_tree, pass_rulings}
 use Rattle.tree_theory.specs.Arrays.{blank, entry}
 use Rattle.tree_theory.specs.Accepted.{Accepted, passed, no_fault, denominator_range}
@@ -77,9 +78,9 @@ module _ (g : Graph) (d : List ℤ) (ceiling : ℤ) (den : ℕ) (out : List ℕ)
           (least_tree (scaled_by den (network g)) (multiplier d)) h));
     }
 
-    pub rule_some : (b : ℤ) (tree rulings : List ℕ) → Within den g d (den times ceiling) b tree rulings
+    pub rule_some : (b : ℤ) (tree rulings : List ℕ) → Within false den g d (den times ceiling) b tree rulings
         → RuleCall g d ceiling den out (bounded b) (row (length out) (entry rulings))
-    unfolding rule_reply rule_leaves
+    unfolding rule_reply rule_leaves ruling_with
     rule_some b tree rulings h = record { reply = rw (e, h.least, h.under); left = rw (e, h.least, h.under) same }
       where
         same : row (length out) (entry rulings) ≡ row g.m (λ k. ruling_byte (ruling (scaled_by den (network g)) (multiplier d) (den times ceiling) k))
@@ -87,10 +88,10 @@ module _ (g : Graph) (d : List ℤ) (ceiling : ℤ) (den : ℕ) (out : List ℕ)
 
 -- ---- the combined pass: its reply r, and its two lists, before (t, s) and after
 
-pub record PassIs (g : Graph) (d : List ℤ) (ceiling : ℤ) (den : ℕ) (t s : List ℕ) (r : Reply) (tree rulings : List ℕ) : Type 0 where
+pub record PassIs (g : Graph) (d : List ℤ) (ceiling : ℤ) (den : ℕ) (lifting : Bool) (t s : List ℕ) (r : Reply) (tree rulings : List ℕ) : Type 0 where
   pub reply : r ≡ rule_reply g d ceiling den g.m
   pub chosen : tree ≡ pass_tree g d ceiling den t
-  pub ruled : rulings ≡ pass_rulings g d ceiling den s
+  pub ruled : rulings ≡ pass_rulings g d ceiling den lifting s
 
 -- a list of 190 that has f at the edges and 0 past them
 padded_is : (m : ℕ) (f : ℕ → ℕ) (l : List ℕ) → length l ≡ max_edges → ((k : ℕ) → k < m → get_or l k 0 ≡ f (suc k))
@@ -103,8 +104,8 @@ padded_is m f l long at past =
     go j (yes h) = rw (le-leb (suc j) m h) (at j h)
     go j (no h) = rw (lt-leb (suc j) m (omega arith)) (past j (omega arith))
 
-module _ (g : Graph) (d : List ℤ) (ceiling : ℤ) (den : ℕ) (t s : List ℕ) where
-  pub pass-refused : (f : ℕ) → f ≡ rule_fault g d ceiling den g.m → f ≢ 0 → PassIs g d ceiling den t s (refused f 0) t s
+module _ (g : Graph) (d : List ℤ) (ceiling : ℤ) (den : ℕ) (lifting : Bool) (t s : List ℕ) where
+  pub pass-refused : (f : ℕ) → f ≡ rule_fault g d ceiling den g.m → f ≢ 0 → PassIs g d ceiling den lifting t s (refused f 0) t s
   unfolding rule_reply pass_tree pass_rulings
   pass-refused f e n = rw e (record {
     reply = sym (fault-replies (rule_fault g d ceiling den g.m) _ (λ z. n (e ∙ z)));
@@ -113,21 +114,21 @@ module _ (g : Graph) (d : List ℤ) (ceiling : ℤ) (den : ℕ) (t s : List ℕ)
   })
 
   module _ (e : rule_fault g d ceiling den g.m ≡ 0) where
-    pub pass_none : Over (den times ceiling) (least_tree (scaled_by den (network g)) (multiplier d)) → PassIs g d ceiling den t s none blank blank
+    pub pass_none : Over (den times ceiling) (least_tree (scaled_by den (network g)) (multiplier d)) → PassIs g d ceiling den lifting t s none blank blank
     unfolding rule_reply pass_tree pass_rulings
     pass_none h = record {
       reply = rw e (sym (over_says (den times ceiling) (least_tree (scaled_by den (network g)) (multiplier d)) h));
       chosen = rw e (sym (over_blank g.m (den times ceiling) (λ t k. bit (t k)) (least_tree (scaled_by den (network g)) (multiplier d)) h));
-      ruled = rw e (sym (over_blank g.m (den times ceiling) (λ t k. ruling_byte (ruling (scaled_by den (network g)) (multiplier d) (den times ceiling) k))
+      ruled = rw e (sym (over_blank g.m (den times ceiling) (λ t k. ruling_byte (ruling_with lifting (scaled_by den (network g)) (multiplier d) (den times ceiling) k))
           (least_tree (scaled_by den (network g)) (multiplier d)) h));
     }
 
-    pub pass_some : (b : ℤ) (tree rulings : List ℕ) → Within den g d (den times ceiling) b tree rulings
-        → PassIs g d ceiling den t s (bounded b) tree rulings
+    pub pass_some : (b : ℤ) (tree rulings : List ℕ) → Within lifting den g d (den times ceiling) b tree rulings
+        → PassIs g d ceiling den lifting t s (bounded b) tree rulings
     unfolding rule_reply pass_tree pass_rulings
     pass_some b tree rulings h = record {
       reply = rw (e, h.least, h.under);
       chosen = rw (e, h.least, h.under) (padded_is g.m (λ k. bit (h.edges k)) tree h.long.0 h.chosen (λ k l. (h.past k l).0));
-      ruled = rw (e, h.least, h.under) (padded_is g.m (λ k. ruling_byte (ruling (scaled_by den (network g)) (multiplier d) (den times ceiling) k)) rulings
+      ruled = rw (e, h.least, h.under) (padded_is g.m (λ k. ruling_byte (ruling_with lifting (scaled_by den (network g)) (multiplier d) (den times ceiling) k)) rulings
           h.long.1 h.ruled (λ k l. (h.past k l).1));
     }

@@ -1,6 +1,6 @@
 -- The loops over the edges, over the labels and again over the edges give every edge its byte, and the bytes are the rulings: for whatever
 -- multipliers and ceiling the charges and the slack stand for. Assumes nothing.
-use Rattle.std.specs.Prelude.{◌≡◌, refl, ◌≢◌, ◌⊎◌, cond, List, eqb, ℤ}
+use Rattle.std.specs.Prelude.{◌≡◌, refl, ◌≢◌, ◌⊎◌, Bool, false, cond, List, length, eqb, ℤ}
 use Rattle.std.proofs.Common.{◌∙◌, ap, subst, inl, inr, arith}
 use Rattle.std.proofs.Math.Path.{sym}
 use Prim.Native.Nat.{ℕ, zero, suc, ◌<◌, ◌≤◌}
@@ -16,6 +16,8 @@ use Rattle.tree_theory.specs.Enumeration.{ruling}
 use Rattle.tree_theory.specs.Rulings.{rules_required, rules_excluded}
 use Rattle.tree_theory.specs.Scaled.{scaled_by}
 use Rattle.tree_theory.specs.Inputs.{multiplier}
+use Rattle.tree_theory.specs.Merges.{Merges}
+use Rattle.tree_theory.specs.Multipliers.{Ranged}
 use Rattle.onetree.specs.Answers.{ruling_byte, ruling_bytes, all_keep}
 use Rattle.tree_theory.specs.Arrays.{blank, bytes, of_edge, mark_required, mark_excluded}
 use Rattle.swaps.specs.Extremes.{Least}
@@ -23,7 +25,9 @@ use Rattle.lists.specs.FilledFrom.{Updated}
 use Rattle.swaps.specs.Visiting.{Rooting, edge_at}
 use Rattle.swaps.specs.RootedTree.{RootedIn}
 use Rattle.swaps.specs.Swaps.{a_at, mark_at, Below, over_in, over_once, over_all}
-use Rattle.greedy.specs.Charged.{no_charge}
+use Rattle.greedy.specs.Charged.{no_charge, max_slack, Cheap}
+use Rattle.greedy.specs.declared.Lists.{Lists}
+use Rattle.lifting.specs.Lifted.{ruling_with}
 use Rattle.onetree.specs.Verdicts.{charge_at, Comes, force_byte, Judgement, out_byte, in_byte}
 use Rattle.onetree.specs.Candidates.{near_comes, far_comes}
 use Rattle.onetree.specs.Outside.{Ready, RuledOutside, Barring}
@@ -40,11 +44,19 @@ ruling_of mark old = cond (eqb mark 1) 3 (cond (eqb mark 2) 4 old)
 abbrev pub final_at : List ℕ → List ℕ → ℕ → ℕ
 final_at mark out k = ruling_of (get_or mark k 0) (get_or out k 0)
 
--- every edge's byte is its ruling's, and past the edges there is 0
-pub record RuledBy (g : Graph) (w c : List ℕ) (slack : ℕ) (res : List ℕ) : Type 0 where
-  pub each : (den : ℕ) (d : List ℤ) (z : ℤ) → Judgement den g w c slack d z → (k : ℕ) → k < g.m
-      → get_or res k 0 ≡ ruling_byte (ruling (scaled_by den (network g)) (multiplier d) z (suc k))
+-- every edge's byte is its ruling's, with lifting or without, and past the edges there is 0
+pub record RuledBy (lifting : Bool) (g : Graph) (d : List ℤ) (w c : List ℕ) (slack : ℕ) (res : List ℕ) : Type 0 where
+  pub each : (den : ℕ) (z : ℤ) → Judgement den g w c slack d z → (k : ℕ) → k < g.m
+      → get_or res k 0 ≡ ruling_byte (ruling_with lifting (scaled_by den (network g)) (multiplier d) z (suc k))
   pub past : (k : ℕ) → g.m ≤ k → get_or res k 0 ≡ 0
+
+-- what lifting adds to numbers stays in its words: labels have places, charges have their keys, multipliers their range
+pub record ListsFit (g : Graph) (l : Lists) (d : List ℤ) (slack : ℕ) : Type 0 where
+  pub merges : Merges g l.labels
+  pub cheap : Cheap g l.charges
+  pub ranged : Ranged d
+  pub size : length d ≡ g.n
+  pub near : slack ≤ max_slack
 
 mark_cases : (x : ℕ) → x ≤ 2 → (x ≡ 0) ⊎ ((x ≡ 1) ⊎ (x ≡ 2))
 mark_cases zero h = inl refl
@@ -111,9 +123,10 @@ module _ (g : Graph) (w c rep : List ℕ) (r : Rooting) (weight : List ℕ) (dea
           go (inr (inl e)) = rw e (sym (ap ruling_byte (rules_required (scaled_by den (network g)) (multiplier d) z (suc k) mk (mark_required g k hk e))))
           go (inr (inr e)) = rw e (sym (ap ruling_byte (rules_excluded (scaled_by den (network g)) (multiplier d) z (suc k) mk (mark_excluded g k hk e))))
 
-    -- THE RULINGS
-    pub ruled_by_lem : (res : List ℕ) → Updated (final_at g.mark mid) mid res g.m → RuledBy g w c slack res
-    ruled_by_lem res u = record {
-      each = λ den d z j k hk. u.done k hk ∙ final den d z j k hk;
+    -- THE RULINGS of the ordinary pass, whatever the multipliers
+    pub ruled_by_lem : (d : List ℤ) (res : List ℕ) → Updated (final_at g.mark mid) mid res g.m → RuledBy false g d w c slack res
+    unfolding ruling_with
+    ruled_by_lem d res u = record {
+      each = λ den z j k hk. u.done k hk ∙ final den d z j k hk;
       past = λ k l. u.rest k l ∙ kept k (λ v i q. omega (arith, (over v i).0)) ∙ h.rest k l;
     }

@@ -8,10 +8,15 @@ ghost use Rattle.onetree.specs.Answers.{all_keep, ruling_bytes, meaning, pass_me
 ghost use Rattle.onetree.specs.Answers.{rule_reply, rule_leaves, pass_tree, pass_rulings};
 
 mod climb;
+mod degrees;
 mod judge;
+mod lifts;
+mod picks;
 mod rooted;
 mod rulings;
+mod sides;
 
+pub use degrees::count_degrees;
 use graph::{Graph, MAX_EDGES, Refusal};
 use greedy::{Checked, Denominator};
 pub use greedy::{
@@ -78,7 +83,7 @@ pub fn rule(
 {
     let capped = Capped::new(g, multipliers, ceiling, denominator, out.len())?;
     let mut lists = PassLists::blank();
-    let Some(found) = capped.judge(&[], &mut lists) else {
+    let Some(found) = capped.judge(false, &[], &mut lists) else {
         return Ok(None);
     };
     rulings::write(&lists.rulings, out);
@@ -86,24 +91,26 @@ pub fn rule(
 }
 
 // What the tree call and the rule call say, from one tree, for a search that lends the lists: a byte for each edge and 0 past them in the
-// tree and the rulings, all 0 where no 1-tree is within the ceiling. hint: an order to start sorting from; whatever it holds, the answers
-// are the same. The order then has such a hint for the next pass, in as many bytes as are `live`. Charges and labels are those of the edges and
-// the vertices, whether there is such a 1-tree or not.
-// Ruled out: a byte of either list where no 1-tree is within the ceiling, or past the edges; a refusal that changes a byte.
+// tree and the rulings, all 0 where no 1-tree is within the ceiling. lifting: what the ordinary rulings keep is tried under its lifted multipliers
+// too (document 02, C-13). hint: an order to start sorting from; whatever it holds, the answers are the same. The order then has such a hint for the
+// next pass, in as many bytes as are `live`. Charges and labels are those of the edges and the vertices, whether there is such a 1-tree or not.
+// Ruled out: a byte of either list where no 1-tree is within the ceiling, or past the edges; a refusal that changes a byte; with lifting a kept edge
+// that its lifted multipliers decide; without it an edge that they alone do.
 pub fn pass(
     g: &Graph,
     multipliers: &[i32],
     ceiling: i64,
     denominator: u64,
+    lifting: bool,
     hint: &[u8],
     lists: &mut PassLists,
 ) -> Result<Option<Found>, Refusal>
     ensures reply { pass_meaning result ≡ rule_reply g.now multipliers.now ceiling denominator g.now.m }
     ensures tree { lists.new.least.tree ≡ pass_tree g.now multipliers.now ceiling denominator lists.old.least.tree }
-    ensures rulings { ruling_bytes lists.new.rulings ≡ pass_rulings g.now multipliers.now ceiling denominator (ruling_bytes lists.old.rulings) }
+    ensures rulings { ruling_bytes lists.new.rulings ≡ pass_rulings g.now multipliers.now ceiling denominator lifting (ruling_bytes lists.old.rulings) }
     ensures hint { HintAfter result g.now.mark g.now.m lists.old.least.order lists.new.least.order }
     ensures weighed { WeighedAfter denominator g.now multipliers.now lists.old.least result lists.new.least }
 {
     let capped = Capped::new(g, multipliers, ceiling, denominator, usize::from(g.m))?;
-    Ok(capped.judge(hint, lists))
+    Ok(capped.judge(lifting, hint, lists))
 }

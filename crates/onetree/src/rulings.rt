@@ -11,7 +11,7 @@ ghost use Rattle.onetree.specs.Answers.{byte_of, ruling_bytes, all_keep};
 ghost use Rattle.onetree.specs.Verdicts.{bar_byte, force_byte};
 ghost use Rattle.onetree.specs.Candidates.{NearIs};
 ghost use Rattle.onetree.specs.Outside.{near_byte};
-ghost use Rattle.onetree.specs.Ruled.{ruling_of, RuledBy};
+ghost use Rattle.onetree.specs.Ruled.{ruling_of, ListsFit, RuledBy};
 
 use crate::rooted::{EndLabels, LeastTree, Rooting};
 use graph::{EXCLUDED, FREE, Graph, MAX_EDGES, MAX_VERTICES, REQUIRED, VERTEX_PLACES};
@@ -25,7 +25,7 @@ const MAX_SLACK: u64 = MAX_DENOMINATOR * MAX_CEILING as u64
 
 // Where there is no edge: more than any charge and any slack together, and 0, less than any charge. No Options: of the dearest alone they took 1.11 times the
 // instructions of all climbs, of both 1.25 times.
-const NONE: u64 = MAX_CHARGE + MAX_SLACK + 1;
+pub(crate) const NONE: u64 = MAX_CHARGE + MAX_SLACK + 1;
 
 const NO_TOP: u64 = 0;
 
@@ -112,9 +112,9 @@ fn force(low: u64, c: u64, slack: u64) -> Ruling
 
 // At vertex 1: the dearest free edge of the tree and the cheapest free edge outside it.
 #[derive(Clone, Copy)]
-struct Near {
-    dearest: u64,
-    cheapest: u64,
+pub(crate) struct Near {
+    pub dearest: u64,
+    pub cheapest: u64,
 }
 
 impl Near {
@@ -168,12 +168,12 @@ fn ruling_of(mark: u8, old: Ruling) -> Ruling
 // What edges are judged by: the least 1-tree, hung on the labels of its edges' ends; at vertex 1 the dearest and the cheapest; and how far it lies below
 // the ceiling.
 #[derive(Clone, Copy)]
-struct Judging<'a> {
-    tree: LeastTree<'a>,
-    ends: &'a EndLabels,
-    hung: &'a Rooting,
-    near: Near,
-    slack: u64,
+pub(crate) struct Judging<'a> {
+    pub tree: LeastTree<'a>,
+    pub ends: &'a EndLabels,
+    pub hung: &'a Rooting,
+    pub near: Near,
+    pub slack: u64,
 }
 
 // `outside` goes by place: six arrays are read at each. `inside` goes over the queue, and writes at the places of its edges.
@@ -239,12 +239,20 @@ impl<'a> Judging<'a> {
 }
 
 // The ruling of every edge into res, 'keep' before, from the least 1-tree, its charges, the labels that required edges give its vertices and
-// how far it lies below the ceiling.
+// how far it lies below the ceiling; with lifting or without.
 // The length is said, since a caller that lends a field is not told it.
-// Ruled out: a required edge swapped out or ruled FORCE; a BAR at a bound that equals the ceiling.
-pub(crate) fn rulings(g: &Graph, lists: &Lists, slack: u64, res: &mut [Ruling; MAX_EDGES])
-    requires { Spans g.now lists.now.tree × Merges g.now lists.now.labels × (res.old ≡ all_keep) }
-    ensures { RuledBy g.now lists.now.tree lists.now.charges slack (ruling_bytes res.new) × (length res.new ≡ max_edges) }
+// Ruled out: a required edge swapped out or ruled FORCE; a BAR at a bound that equals the ceiling; without lifting an edge tried under other multipliers.
+pub(crate) fn rulings(
+    g: &Graph,
+    multipliers: &[i32],
+    lists: &Lists,
+    slack: u64,
+    lifting: bool,
+    res: &mut [Ruling; MAX_EDGES],
+)
+    requires spans { Spans g.now lists.now.tree × Merges g.now lists.now.labels × (res.old ≡ all_keep) }
+    requires lists { ListsFit g.now lists.now multipliers.now slack }
+    ensures { RuledBy lifting g.now multipliers.now lists.now.tree lists.now.charges slack (ruling_bytes res.new) × (length res.new ≡ max_edges) }
 {
     let tree = LeastTree { graph: g, lists };
     let mut ends = EndLabels::blank();
@@ -263,4 +271,7 @@ pub(crate) fn rulings(g: &Graph, lists: &Lists, slack: u64, res: &mut [Ruling; M
     judging.outside(res, &mut cheapest);
     judging.inside(&cheapest, res);
     judging.finish(res);
+    if lifting {
+        judging.lift(multipliers, res);
+    }
 }

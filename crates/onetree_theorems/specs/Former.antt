@@ -1,15 +1,23 @@
--- WHAT THE CALLS ANSWERED BEFORE DOCUMENT 02'S C-17, by the definitions of then: no denominator, and the network's own costs. Kept for one claim,
--- "With q = 1, which the programs use, every answer is the old one" (AtOne.antt). Definitions only.
+-- WHAT THE CALLS ANSWERED BEFORE DOCUMENT 02'S C-13, by the definitions of then: a pass with its own rulings alone (`before_lifting`); and before its C-17
+-- too: no denominator, and the network's own costs (`before_denominators`). Kept for two claims: "With q = 1, which the programs use, every answer is
+-- the old one", and that so it is without lifting, which "the programs open without" (AtOne.antt). Definitions only.
 use Rattle.std.specs.Prelude.{true, false, not, cond, ◌&&◌, List, [], ◌∷◌, ℕ, zero, suc, eqb, leb, ltb, length, ℤ}
+use Rattle.std.specs.Int.Signed.{lt_z}
+use Rattle.lists.specs.Rows.{row}
+use Rattle.integers.specs.Multiples.{◌times◌}
 use Rattle.graph.specs.declared.Graph.{Graph}
 use Rattle.graph.specs.Limits.{max_sweeps, max_step, max_count}
-use Rattle.graph.specs.Network.{network}
+use Rattle.graph.specs.Network.{Network, network}
 use Rattle.graph.specs.Valid.{valid}
 use Rattle.tree_theory.specs.Inputs.{multiplier, multipliers_fit, ceiling_fits, input_fault}
-use Rattle.tree_theory.specs.Enumeration.{least_tree, ruling}
+use Rattle.tree_theory.specs.Enumeration.{Tree, no_tree, a_tree, least_tree, ruling}
+use Rattle.tree_theory.specs.Scaled.{scaled_by}
 use Rattle.onetree.specs.Answers as tree
 use Rattle.preview.specs.Preview.{remarked, can_be_marked, is_free_edge}
-use Rattle.machine.specs.Machine.{Node, Opened, passes, Opening, Progress, State, no_search, searching, held, begin, settled, finished}
+use Rattle.tours.specs.Tours.{is_tour}
+use Rattle.machine.specs.Machine.{Marks, with_marks, mark_by, Pass, shut, found, unclosed, gained, branch, concluded}
+use Rattle.machine.specs.Machine.{Node, Opened, Opening, Progress, State, no_search, searching, held, begin, settled, finished}
+use Rattle.machine.specs.Calls as machine
 use Rattle.machine.specs.Calls.{Call, opens, run, tell, show, close, accepted, runs, tells, Reply, refuses, accepts, verdict, shown_by}
 
 -- ---- the tree call, the rule call and the preview
@@ -44,7 +52,44 @@ unfoldable pub preview_leaves : Graph → List ℤ → ℕ → ℕ → List ℕ 
 unfolding preview_fault tree_leaves
 preview_leaves g d k mark out = tree.leaves (preview_fault g d k mark (length out)) out (tree_leaves (remarked g k mark) d out)
 
--- ---- the search: the fault of an opening and the opening of a node, and what rests on them
+-- ---- the search: when an opening is refused and what the opening of a node comes to, which is all that changed of it
+
+pub record Ways : Type 0 where
+  pub fault : Opening → ℕ
+  pub open_node : Opening → ℤ → Node → Opened
+
+-- a pass, its rulings applied, and the passes of a node
+unfoldable pub applied : Network → (ℕ → ℤ) → ℤ → Marks
+applied g d upper = row g.m (λ k. mark_by (ruling g d upper k))
+
+unfoldable pub pass_by : Network → (ℕ → ℤ) → ℤ → Tree → Pass
+unfolding applied
+pass_by g d upper no_tree = shut
+pass_by g d upper (a_tree bound t) =
+    cond (lt_z upper bound) shut
+    (cond (is_tour g t) (found t)
+    (unclosed t (applied g d upper)))
+
+unfoldable pub pass : Network → (ℕ → ℤ) → ℤ → Pass
+unfolding pass_by
+pass g d upper = pass_by g d upper (least_tree g d)
+
+unfoldable pub passes : Network → ℕ → ℤ → ℕ → List ℤ → Marks → Opened
+unfolding pass
+passes g step upper zero d x =
+    concluded g.m (pass (with_marks g x) (multiplier d) upper) (λ t y. branch d y)
+passes g step upper (suc left) d x =
+    concluded g.m (pass (with_marks g x) (multiplier d) upper)
+    (λ t y. passes g step upper left (gained g step t d) y)
+
+abbrev pub before_lifting : Ways
+before_lifting =
+    record {
+      fault = machine.fault;
+      open_node = λ o upper x.
+          let q = o.settings.denominator in
+          passes (scaled_by q (network o.graph)) o.settings.step (q times upper) o.settings.sweeps x.multipliers x.marks;
+    }
 
 unfoldable pub fault : Opening → ℕ
 fault o =
@@ -55,47 +100,53 @@ fault o =
     (cond (not (leb o.settings.sweeps max_sweeps && leb o.settings.step max_step)) 14
     0))))
 
-unfoldable pub open_node : Opening → ℤ → Node → Opened
-open_node o upper x = passes (network o.graph) o.settings.step upper o.settings.sweeps x.multipliers x.marks
+abbrev pub before_denominators : Ways
+before_denominators =
+    record {
+      fault = fault;
+      open_node = λ o upper x. passes (network o.graph) o.settings.step upper o.settings.sweeps x.multipliers x.marks;
+    }
 
-unfoldable pub open_top : Progress → List Node → Progress
-unfolding open_node settled
-open_top s [] = s
-open_top s (x ∷ rest) = settled s rest (open_node s.opening s.upper x)
+-- ---- and what rests on them, as the machine has it
 
-unfoldable pub ran : ℕ → Progress → Progress
+unfoldable pub open_top : Ways → Progress → List Node → Progress
+unfolding settled
+open_top w s [] = s
+open_top w s (x ∷ rest) = settled s rest (w.open_node s.opening s.upper x)
+
+unfoldable pub ran : Ways → ℕ → Progress → Progress
 unfolding open_top
-ran zero s = s
-ran (suc budget) s =
-    elim (not (finished s) && ltb s.count max_count) [ true ↦ ran budget (open_top s s.stack) | false ↦ s ]
+ran w zero s = s
+ran w (suc budget) s =
+    elim (not (finished s) && ltb s.count max_count) [ true ↦ ran w budget (open_top w s s.stack) | false ↦ s ]
 
 unfoldable pub opened_by : Opening → ℕ → Reply
 opened_by o zero = accepts (searching (begin (held o))) accepted
 opened_by o (suc k) = refuses no_search (opens o) (suc k)
 
-unfoldable pub run_by : ℕ → Progress → Reply
+unfoldable pub run_by : Ways → ℕ → Progress → Reply
 unfolding ran
-run_by budget s = let r : Progress = ran budget s in accepts (searching r) (runs (finished r) r.count)
+run_by w budget s = let r : Progress = ran w budget s in accepts (searching r) (runs (finished r) r.count)
 
-unfoldable pub step : State → Call → Reply
-unfolding opened_by fault run_by
-step no_search (opens o) = opened_by o (fault o)
-step no_search (run budget) = refuses no_search (run budget) 20
-step no_search tell = refuses no_search tell 20
-step no_search (show l) = refuses no_search (show l) 20
-step no_search close = refuses no_search close 20
-step (searching s) (opens o) = refuses (searching s) (opens o) 21
-step (searching s) (run budget) = run_by budget s
-step (searching s) tell = accepts (searching s) (tells (verdict s) s.count)
-step (searching s) (show l) = shown_by s l (finished s) s.incumbent
-step (searching s) close = accepts no_search accepted
+unfoldable pub step : Ways → State → Call → Reply
+unfolding opened_by run_by
+step w no_search (opens o) = opened_by o (w.fault o)
+step w no_search (run budget) = refuses no_search (run budget) 20
+step w no_search tell = refuses no_search tell 20
+step w no_search (show l) = refuses no_search (show l) 20
+step w no_search close = refuses no_search close 20
+step w (searching s) (opens o) = refuses (searching s) (opens o) 21
+step w (searching s) (run budget) = run_by w budget s
+step w (searching s) tell = accepts (searching s) (tells (verdict s) s.count)
+step w (searching s) (show l) = shown_by s l (finished s) s.incumbent
+step w (searching s) close = accepts no_search accepted
 
-unfoldable pub state_after : State → List Call → State
+unfoldable pub state_after : Ways → State → List Call → State
 unfolding step
-state_after s [] = s
-state_after s (c ∷ cs) = state_after (step s c).state cs
+state_after w s [] = s
+state_after w s (c ∷ cs) = state_after w (step w s c).state cs
 
 -- from 'no search'
-unfoldable pub leaves : List Call → State
+unfoldable pub leaves : Ways → List Call → State
 unfolding state_after
-leaves cs = state_after no_search cs
+leaves w cs = state_after w no_search cs

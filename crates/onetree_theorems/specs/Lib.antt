@@ -13,5 +13,6 @@ pub mod Theorems
 pub mod SameCharts
 pub mod LowerCeiling
 pub mod PreviewLaws
+pub mod FormerSearch
 pub mod AtOne
 pub mod AnyDenominator

@@ -1,15 +1,13 @@
 -- The first number that applies, once for all calls: where tests decide what is asked, in its order, the fault that they give is the first.
 -- And the tests of these calls. Assumes nothing.
-use Rattle.std.specs.Prelude.{◌≡◌, ◌↔◌, ◌⊎◌, Bool, true, false, not, cond, ◌&&◌, List, [], ◌∷◌, ℕ, suc, ◌<◌, ◌≤◌, eqb, leb, length, ℤ, pos}
+use Rattle.std.specs.Prelude.{◌≡◌, ◌↔◌, ◌⊎◌, Bool, true, false, not, cond, ◌&&◌, List, [], ◌∷◌, ℕ, suc, ◌<◌, ◌≤◌, eqb, leb, length, ℤ}
 use Rattle.std.proofs.Math.Path.{refl}
 use Rattle.std.proofs.Common.{sym, inl, inr, arith, eqb-true, eq-eqb, leb-true, le-leb}
 use Rattle.std.proofs.lemmas.Bool.{false≢true}
 use Rattle.lists.specs.Bools.{Says, and_both}
-use Rattle.lists.specs.All.{every_of}
-use Rattle.integers.specs.Parts.{eq_of_parts}
 use Rattle.integers.specs.Range.{InRange, within, within_range, range_within}
 use Rattle.graph.specs.declared.Graph.{Graph}
-use Rattle.graph.specs.Limits.{max_multiplier, max_ceiling, max_sweeps, max_step, max_denominator}
+use Rattle.graph.specs.Limits.{max_ceiling, max_sweeps, max_step, max_denominator}
 use Rattle.graph.specs.Valid.{Valid, valid}
 use Rattle.graph.specs.Meaning.{valid_true, true_valid}
 use Rattle.tree_theory.specs.Inputs.{multiplier, multipliers_fit, ceiling_fits, denominator_fits, denominator_fault, input_fault}

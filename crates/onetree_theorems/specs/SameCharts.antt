@@ -23,7 +23,7 @@ use Rattle.tree_theory.specs.Scaled.{scaled_by}
 use Rattle.tree_theory.specs.Enumeration.{least_tree, ruling}
 use Rattle.onetree.specs.Answers.{unless_fault, leaves, tree_fault, tree_says, tree_writes, tree_reply, tree_leaves, rule_fault, rule_says, rule_writes, rule_reply, rule_leaves}
 use Rattle.machine.specs.declared.Settings.{Settings}
-use Rattle.machine.specs.Machine.{Opening, State, no_search, searching, trimmed, held, begin, opening_of}
+use Rattle.machine.specs.Machine.{Opening, State, no_search, searching, trimmed, tidy, held, begin, opening_of}
 use Rattle.machine.specs.Calls.{opens, accepted, accepts, fault, opened_by, step}
 use Rattle.onetree_theorems.specs.Calls.{SameAnswers}
 
@@ -141,7 +141,7 @@ module _ (g h : Graph) (s : SameGraph g h) where
 
     held_same : held (opening_of g d settings) ≡ held (opening_of h d settings)
     unfolding held
-    held_same = λ i. record { graph = trimmed-same i; multipliers = d; settings = settings }
+    held_same = λ i. record { graph = trimmed-same i; multipliers = d; settings = tidy settings }
 
     opened-same : (f : ℕ) → opened_by (opening_of g d settings) f ≡ opened_by (opening_of h d settings) f
     unfolding opened_by

@@ -13,9 +13,9 @@ use Rattle.reports.specs.Rulings.{zero_multipliers, plain_denominator}
 abbrev pub budget : ℕ
 budget = 1000000
 
--- "with zero dues, no sweeps, step 0"
+-- "with zero dues, no sweeps, step 0"; document 02, C-13: "A yes or no at opening turns lifting on; the programs open without it"
 abbrev pub plain_settings : ℤ → Settings
-plain_settings ceiling = record { ceiling = ceiling; sweeps = 0; step = 0; denominator = plain_denominator }
+plain_settings ceiling = record { ceiling = ceiling; sweeps = 0; step = 0; denominator = plain_denominator; lifting = 0 }
 
 abbrev pub plain_opening : ℤ → Graph → Opening
 plain_opening ceiling g = record { graph = g; multipliers = zero_multipliers g; settings = plain_settings ceiling }

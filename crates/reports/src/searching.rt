@@ -22,6 +22,7 @@ fn last_answer(input: &Input) -> Result<Verdict, Refusal>
         sweeps: 0,
         step: 0,
         denominator: PLAIN_DENOMINATOR,
+        lifting: 0,
     };
     let mut search = Search::fresh();
     search.open(&input.graph, input.multipliers(), settings)?;

@@ -128,6 +128,7 @@ pub record FieldsTidy (g : Graph) (d : List ℤ) (h : Bool) (w : List ℕ) : Typ
 -- of `Fits`
 pub record FieldsFit (o : Opening) (z : ℤ) (p : ℕ) (w : List ℕ) (k : ℕ) : Type 0 where
   pub opening : fault o ≡ 0
+  pub lifting : o.settings.lifting ≤ 1
   pub upper : ceiling_fits z ≡ true
   pub depth : p ≤ o.graph.n + 2
   pub best : Bits w
@@ -165,7 +166,7 @@ module _ (s : Search) where
 
   pub fits_fields : Fits s → Fitting s
   unfolding opening_in
-  fits_fields t = record { opening = t.opening; upper = t.upper; depth = t.depth; best = t.best; count = t.count }
+  fits_fields t = record { opening = t.opening; lifting = t.lifting; upper = t.upper; depth = t.depth; best = t.best; count = t.count }
 
   -- the last test of an open record
   pub says_fits : (b : Bool) → Fitting s → CarriedFits s.graph.n s.depth s.carried
@@ -173,7 +174,16 @@ module _ (s : Search) where
   unfolding opening_in
   says_fits b t e =
       says_both b {Q = Fits s}
-      (λ l. record { opening = t.opening; upper = t.upper; depth = t.depth; stack = l; carried = e; best = t.best; count = t.count })
+      (λ l. record {
+        opening = t.opening;
+        lifting = t.lifting;
+        upper = t.upper;
+        depth = t.depth;
+        stack = l;
+        carried = e;
+        best = t.best;
+        count = t.count;
+      })
       (λ f. f.stack)
 
   -- and of one where none is open

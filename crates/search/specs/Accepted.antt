@@ -1,12 +1,13 @@
 -- An opening that the machine's state may hold is one without a fault: none of 15, 11, 12, 13, 14, 32 applies. So the check of a record need
--- only ask for the fault. Assumes nothing.
-use Rattle.std.specs.Prelude.{◌≡◌, true, ℕ, ◌≤◌, length, ℤ}
-use Rattle.std.proofs.Common.{subst, eq-eqb, le-leb}
+-- only ask for the fault, and for lifting as it is stored. Assumes nothing.
+use Rattle.std.specs.Prelude.{◌≡◌, refl, true, not, ℕ, zero, suc, ◌≤◌, eqb, length, ℤ}
+use Rattle.std.proofs.Common.{subst, arith, eq-eqb, le-leb}
+use Rattle.lists.specs.Bools.{bit}
 use Rattle.integers.specs.Range.{InRange, within_range, range_within}
 use Rattle.graph.specs.Limits.{max_ceiling, max_sweeps, max_step, max_denominator}
 use Rattle.graph.specs.Meaning.{true_valid}
 use Rattle.tree_theory.specs.Inputs.{ceiling_fits, denominator_fits, denominator_fault}
-use Rattle.machine.specs.Machine.{Opening, held}
+use Rattle.machine.specs.Machine.{Opening, tidy, held}
 use Rattle.machine.specs.Calls.{fault}
 use Rattle.machine.specs.Trimmed.{Trim, trim_trimmed}
 use Rattle.machine.specs.Kept.{Accepted}
@@ -37,10 +38,26 @@ accepted_fault o a =
     )
     (range_denominator o.settings.denominator a.denominator)
 
--- what the state holds of an opening is that opening, where its graph has nothing past its edges
-pub held_same : (o : Opening) → Trim o.graph → held o ≡ o
-unfolding held
-held_same o t = λ i. record { graph = trim_trimmed o.graph t i; multipliers = o.multipliers; settings = o.settings }
+-- lifting that is 0 or 1 is stored as it is
+tidy_bit : (k : ℕ) → k ≤ 1 → bit (not (eqb k 0)) ≡ k
+tidy_bit zero h = refl
+tidy_bit (suc zero) h = refl
+tidy_bit (suc (suc k)) h = absurd (omega arith)
 
-pub fault_accepted : (o : Opening) → Trim o.graph → fault o ≡ 0 → Accepted o
-fault_accepted o t h = subst Accepted (held_same o t) (accepts-held o h)
+-- what the state holds of an opening is that opening, where its graph has nothing past its edges and its lifting is 0 or 1
+pub held_same : (o : Opening) → Trim o.graph → o.settings.lifting ≤ 1 → held o ≡ o
+unfolding held tidy
+held_same o t b = λ i. record {
+  graph = trim_trimmed o.graph t i;
+  multipliers = o.multipliers;
+  settings = record {
+    ceiling = o.settings.ceiling;
+    sweeps = o.settings.sweeps;
+    step = o.settings.step;
+    denominator = o.settings.denominator;
+    lifting = tidy_bit o.settings.lifting b i;
+  };
+}
+
+pub fault_accepted : (o : Opening) → Trim o.graph → o.settings.lifting ≤ 1 → fault o ≡ 0 → Accepted o
+fault_accepted o t b h = subst Accepted (held_same o t b) (accepts-held o h)

@@ -1,9 +1,11 @@
 -- The record that an accepted opening leaves, from what its code makes: the trimmed graph, the padded multipliers, and one node in the
 -- stack's words. Assumes nothing.
-use Rattle.std.specs.Prelude.{◌≡◌, ℕ, length, get_or, ℤ, pos}
+use Rattle.std.specs.Prelude.{◌≡◌, Bool, true, false, ℕ, length, get_or, ℤ, pos}
 use Rattle.std.proofs.Math.Path.{refl}
 use Rattle.std.proofs.Common.{sym, ap, ◌∙◌, subst}
 use mathlib.Core.List.{List, [], ◌∷◌}
+use mir.Val as words
+use Rattle.lists.specs.Bools.{bit}
 use Rattle.std.proofs.Math.ListN.{replicate}
 use Rattle.lists.specs.Rows.{row, row-size, row_at}
 use Rattle.lists.specs.Fill.{fit, fill_is}
@@ -13,7 +15,8 @@ use Rattle.graph.specs.Network.{free, mark_of, network}
 use Rattle.graph.specs.Places.{network_mark}
 use Rattle.graph.specs.Valid.{Valid}
 use Rattle.tree_theory.specs.Multipliers.{Ranged, fit_ranged}
-use Rattle.machine.specs.Machine.{Node, node_of, marks_of, Opening, Progress, trimmed, held, begin, opening_of}
+use Rattle.machine.specs.declared.Settings.{Settings}
+use Rattle.machine.specs.Machine.{Node, node_of, marks_of, Opening, Progress, lifts, trimmed, tidy, held, begin, opening_of}
 use Rattle.machine.specs.Outcomes.{no_tour}
 use Rattle.machine.specs.Calls.{fault}
 use Rattle.machine.specs.Trimmed.{valid-trimmed}
@@ -62,6 +65,22 @@ graph-marks g =
 
 -- ---- the record
 
+-- the settings as they are stored: lifting is the byte of a test
+pub settings_stored : (t : Settings) (ceiling : ℤ) (lifting : ℕ) → ceiling ≡ t.ceiling → lifting ≡ words.bool_byte (lifts t)
+    → record { ceiling = ceiling; sweeps = t.sweeps; step = t.step; denominator = t.denominator; lifting = lifting } ≡ tidy t
+unfolding tidy
+settings_stored t ceiling lifting ec el = λ i. record {
+  ceiling = ec i;
+  sweeps = t.sweeps;
+  step = t.step;
+  denominator = t.denominator;
+  lifting = (el ∙ byte (lifts t)) i;
+}
+  where
+    byte : (b : Bool) → words.bool_byte b ≡ bit b
+    byte true = refl
+    byte false = refl
+
 -- the search that an opening begins, written out
 begins : Opening → Progress
 begins o =
@@ -72,20 +91,21 @@ unfolding begins begin
 begins_is o = refl
 
 holds : Opening → Opening
-holds o = opening_of (trimmed o.graph) o.multipliers o.settings
+holds o = opening_of (trimmed o.graph) o.multipliers (tidy o.settings)
 
 holds_is : (o : Opening) → holds o ≡ held o
 unfolding holds held
 holds_is o = refl
 
 module _ (o : Opening) (h : fault o ≡ 0) (g : Graph) (eg : g ≡ trimmed o.graph) (d : List ℤ)
-    (ed : d ≡ fit max_vertices (pos 0) o.multipliers) (ceiling : ℤ) (ec : ceiling ≡ o.settings.ceiling) (x l : List ℕ)
+    (ed : d ≡ fit max_vertices (pos 0) o.multipliers) (settings : Settings) (es : settings ≡ tidy o.settings) (ceiling : ℤ)
+    (ec : ceiling ≡ o.settings.ceiling) (x l : List ℕ)
     (rows : x ≡ rows_of (marks_in g.m g.mark)) (put : PutRows 0 x (replicate stack_size 0) l) (e : List ℤ) (carry : PutCarried 0 d (replicate carried_size (pos 0)) e) where
   -- what the code makes
   abbrev pub made : Search
   made =
       record {
-        settings = o.settings;
+        settings = settings;
         upper = ceiling;
         count = 0;
         stack = l;
@@ -119,9 +139,9 @@ module _ (o : Opening) (h : fault o ≡ 0) (g : Graph) (eg : g ≡ trimmed o.gra
       (subst (λ (y : List ℤ). PutCarried 0 y (replicate carried_size (pos 0)) e) ed carry)
 
   made_is : made ≡ record_of (begins (holds o))
-  unfolding record_of begins holds has_incumbent best_bytes
+  unfolding record_of begins holds tidy has_incumbent best_bytes
   made_is = λ i. record {
-    settings = o.settings;
+    settings = es i;
     upper = ec i;
     count = 0;
     depth = 1;

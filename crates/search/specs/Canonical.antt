@@ -70,8 +70,10 @@ abbrev pub Bits : List ℕ → Type 0
 Bits l = (i : ℕ) → i < max_edges → get_or l i 0 ≤ 1
 
 pub record Fits (s : Search) : Type 0 where
-  -- the arguments are such as an opening accepts: none of 15, 11, 12, 13, 14
+  -- the arguments are such as an opening accepts: none of 15, 11, 12, 13, 14, 32
   pub opening : fault (opening_in s) ≡ 0
+  -- and lifting is stored as 0 or 1 ("A yes or no at opening", document 02, C-13)
+  pub lifting : s.settings.lifting ≤ 1
   pub upper : ceiling_fits s.upper ≡ true
   pub depth : s.depth ≤ s.graph.n + 2
   pub stack : StackFits s.graph.m s.depth s.stack

@@ -116,13 +116,16 @@ carried_tidy n depth e =
 no_settings_lem : (t : Settings) → Dec (t ≡ no_settings)
 no_settings_lem t =
     map_dec
-    {A = (t.ceiling ≡ pos 0) × ((t.sweeps ≡ 0) × ((t.step ≡ 0) × (t.denominator ≡ 0)))}
-    (λ e i. record { ceiling = e.0 i; sweeps = e.1.0 i; step = e.1.1.0 i; denominator = e.1.1.1 i })
+    {A = (t.ceiling ≡ pos 0) × ((t.sweeps ≡ 0) × ((t.step ≡ 0) × ((t.denominator ≡ 0) × (t.lifting ≡ 0))))}
+    (λ e i. record { ceiling = e.0 i; sweeps = e.1.0 i; step = e.1.1.0 i; denominator = e.1.1.1.0 i; lifting = e.1.1.1.1 i })
     (λ e. (
       ap (λ (x : Settings). x.ceiling) e,
-      (ap (λ (x : Settings). x.sweeps) e, (ap (λ (x : Settings). x.step) e, ap (λ (x : Settings). x.denominator) e)),
+      (
+        ap (λ (x : Settings). x.sweeps) e,
+        (ap (λ (x : Settings). x.step) e, (ap (λ (x : Settings). x.denominator) e, ap (λ (x : Settings). x.lifting) e)),
+      ),
     ))
-    (both (ℤ_discrete _ _) (both (ℕ_discrete _ _) (both (ℕ_discrete _ _) (ℕ_discrete _ _))))
+    (both (ℤ_discrete _ _) (both (ℕ_discrete _ _) (both (ℕ_discrete _ _) (both (ℕ_discrete _ _) (ℕ_discrete _ _)))))
 
 module _ (s : Search) where
   tidy : Dec (Tidy s)
@@ -162,23 +165,24 @@ module _ (s : Search) where
   fits : Dec (Fits s)
   fits =
       map_dec
-      {A = (fault (opening_in s) ≡ 0) × ((ceiling_fits s.upper ≡ true) × ((s.depth ≤ s.graph.n + 2)
+      {A = (fault (opening_in s) ≡ 0) × ((s.settings.lifting ≤ 1) × ((ceiling_fits s.upper ≡ true) × ((s.depth ≤ s.graph.n + 2)
       × (StackFits s.graph.m s.depth s.stack × (CarriedFits s.graph.n s.depth s.carried
-      × (Bits s.best × (s.count ≤ max_count))))))}
+      × (Bits s.best × (s.count ≤ max_count)))))))}
       (λ t. record {
         opening = t.0;
-        upper = t.1.0;
-        depth = t.1.1.0;
-        stack = t.1.1.1.0;
-        carried = t.1.1.1.1.0;
-        best = t.1.1.1.1.1.0;
-        count = t.1.1.1.1.1.1;
+        lifting = t.1.0;
+        upper = t.1.1.0;
+        depth = t.1.1.1.0;
+        stack = t.1.1.1.1.0;
+        carried = t.1.1.1.1.1.0;
+        best = t.1.1.1.1.1.1.0;
+        count = t.1.1.1.1.1.1.1;
       })
-      (λ t. (t.opening, (t.upper, (t.depth, (t.stack, (t.carried, (t.best, t.count)))))))
-      (both (ℕ_discrete _ _) (both (bool _ _) (both (dec_le _ _)
+      (λ t. (t.opening, (t.lifting, (t.upper, (t.depth, (t.stack, (t.carried, (t.best, t.count))))))))
+      (both (ℕ_discrete _ _) (both (dec_le _ _) (both (bool _ _) (both (dec_le _ _)
       (both (below s.depth (λ p. NodeFits s.graph.m s.stack p) node_fits)
       (both (below s.depth (λ p. multipliers_fit (multipliers_at s.graph.n s.carried p) ≡ true) (λ p. bool _ _))
-      (both (below max_edges (λ i. get_or s.best i 0 ≤ 1) (λ i. dec_le _ _)) (dec_le _ _)))))))
+      (both (below max_edges (λ i. get_or s.best i 0 ≤ 1) (λ i. dec_le _ _)) (dec_le _ _))))))))
 
   stands : (b : Bool) → Dec (Stands b s)
   stands true = fits

@@ -105,6 +105,7 @@ module _ (s : Progress) (h : Kept s) where
   unfolding record_of
   record_fits = record {
     opening = ap fault opening_back ∙ accepted_fault s.opening h.opening;
+    lifting = h.opening.lifting;
     upper = range_fits s.upper h.upper;
     depth = h.depth;
     stack = λ p b. let f = node_waits s.opening.graph.n s.opening.graph.m s.stack h.nodes p b in (
@@ -279,7 +280,7 @@ module _ (r : Search) (t : Typed r) (f : Flags r) (u : Tidy r) where
 
     valid_few : r.graph.m ≤ max_edges
     unfolding opening_in
-    valid_few = (fault_accepted (opening_in r) (unfold opening_in in trim) w.opening).valid.few
+    valid_few = (fault_accepted (opening_in r) (unfold opening_in in trim) (unfold opening_in in w.lifting) w.opening).valid.few
 
     cell_back : (p : ℕ) → p < max_nodes → (j : ℕ) → j < node_words
         → cell word_at (nodes r.graph.n r.graph.m r.stack r.carried r.depth) p j ≡ get_or r.stack (node_words * p + j) 0
@@ -349,7 +350,7 @@ module _ (r : Search) (t : Typed r) (f : Flags r) (u : Tidy r) where
     open_kept : Kept (progress_of r)
     unfolding progress_of
     open_kept = record {
-      opening = fault_accepted (opening_in r) (unfold opening_in in trim) w.opening;
+      opening = fault_accepted (opening_in r) (unfold opening_in in trim) (unfold opening_in in w.lifting) w.opening;
       upper = fits_range r.upper w.upper;
       depth = unfold opening_in in rw (nodes-size r.graph.n r.graph.m r.stack r.carried r.depth) w.depth;
       nodes =

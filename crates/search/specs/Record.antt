@@ -24,7 +24,7 @@ carried_size = 440
 
 -- the settings of a record where no search is open
 abbrev pub no_settings : Settings
-no_settings = record { ceiling = pos 0; sweeps = 0; step = 0; denominator = 0 }
+no_settings = record { ceiling = pos 0; sweeps = 0; step = 0; denominator = 0; lifting = 0 }
 
 -- "A fresh hunt record has no hunt open"
 unfoldable pub fresh : Search

@@ -1,10 +1,11 @@
 -- WHAT THE RECORD'S CHECK ACCEPTS, told by the machine's states: exactly the records of the states that fit a record (check_stored,
 -- stored_check), and `decode` gives such a state back (decode-stored). Canonical says the same byte by byte. Assumes nothing.
-use Rattle.std.specs.Prelude.{◌≡◌, true, ◌+◌, ◌≤◌, length}
+use Rattle.std.specs.Prelude.{◌≡◌, true, ℕ, ◌+◌, ◌≤◌, length}
 use Rattle.std.proofs.Common.{sym, ap, subst}
+use Rattle.lists.specs.Bools.{bit_most}
 use Rattle.graph.specs.Limits.{max_count}
 use Rattle.tree_theory.specs.Inputs.{ceiling_fits}
-use Rattle.machine.specs.Machine.{Opening, Progress, State, no_search, searching, held}
+use Rattle.machine.specs.Machine.{Opening, lifts, tidy, Progress, State, no_search, searching, held}
 use Rattle.machine.specs.Calls.{fault}
 use Rattle.machine.specs.Trimmed.{Trim, trimmed_trim}
 use Rattle.machine.specs.Kept.{Nodes, Sized, KeptState}
@@ -40,7 +41,7 @@ kept_fitting : (s : State) → KeptState s → FittingState s
 kept_fitting no_search h = tt
 kept_fitting (searching s) h = record {
   accepted = accepted_fault s.opening h.opening;
-  trim = held_same s.opening h.opening.trim;
+  trim = held_same s.opening h.opening.trim h.opening.lifting;
   upper = range_fits s.upper h.upper;
   depth = h.depth;
   nodes = h.nodes;
@@ -52,10 +53,14 @@ held_trim : (o : Opening) → held o ≡ o → Trim o.graph
 unfolding held
 held_trim o e = subst Trim (ap (λ (p : Opening). p.graph) e) (trimmed_trim o.graph)
 
+held_lifting : (o : Opening) → held o ≡ o → o.settings.lifting ≤ 1
+unfolding held tidy
+held_lifting o e = subst (λ (k : ℕ). k ≤ 1) (ap (λ (p : Opening). p.settings.lifting) e) (bit_most (lifts o.settings))
+
 fitting_kept : (s : State) → FittingState s → KeptState s
 fitting_kept no_search h = tt
 fitting_kept (searching s) h = record {
-  opening = fault_accepted s.opening (held_trim s.opening h.trim) h.accepted;
+  opening = fault_accepted s.opening (held_trim s.opening h.trim) (held_lifting s.opening h.trim) h.accepted;
   upper = fits_range s.upper h.upper;
   depth = h.depth;
   nodes = h.nodes;

@@ -62,8 +62,12 @@ impl<'a> Opening<'a> {
         stack::put(&mut nodes, 0, &node::rows_of(&checked));
         let mut carried = [0; CARRIED_SIZE];
         stack::put(&mut carried, 0, &multipliers);
+        let settings = Settings {
+            lifting: u64::from(self.settings.lifting != 0),
+            ..self.settings
+        };
         Search {
-            settings: self.settings,
+            settings,
             upper: self.settings.ceiling,
             count: 0,
             stack: nodes,

@@ -226,6 +226,7 @@ impl Search {
         let m = usize::from(self.graph.m);
         let depth = self.depth as usize;
         if !self.opening_fits()
+            || self.settings.lifting > 1
             || !onetree::ceiling_fits(self.upper)
             || depth > n + 2
             || !bits(&self.best)

@@ -2,12 +2,12 @@
 -- once, for every way in which an answer of the machine can be said (`f`). Nothing is proved here. Two ways are: this crate's `demand_3` has what
 -- the answers mean (`means` of crate search and the like), crate ffi's `demand_3_exported` the numbers. What it speaks of is defined in tours'
 -- Tours (a tour), machine's Machine, Calls and Demand3 (the machine, its calls, what a finished search says), shelf_theory's Shelves (saved states) and ShelfRecords (the calls on two records).
-use Rattle.std.specs.Prelude.{◌≡◌, List, ℕ, suc, ◌-◌, ◌^◌, ◌≤◌}
+use Rattle.std.specs.Prelude.{◌≡◌, true, false, List, ℕ, suc, ◌-◌, ◌^◌, ◌≤◌}
 use Rattle.graph.specs.Network.{network}
 use Rattle.tours.specs.OneNetwork.{OneNetwork}
-use Rattle.machine.specs.Machine.{Opening, State}
+use Rattle.machine.specs.Machine.{Opening, lifts, State}
 use Rattle.machine.specs.Calls as machine
-use Rattle.machine.specs.Calls.{Call, Verdict, History, no_opening, since, free_at_start}
+use Rattle.machine.specs.Calls.{Call, tell, tells, Verdict, History, no_opening, since, free_at_start}
 use Rattle.machine.specs.Demand3.{NumberedAlike, Finished, Says, ShowAlike}
 use Rattle.lent_records.specs.Machine.{Machine, leaves}
 use Rattle.lent_records.specs.Records.{Interface, record_of, AsTheMachine}
@@ -65,8 +65,8 @@ pub record Demand3 {A : Type 0} (f : machine.Answer → A) : Type 0 where
   -- as document 01's machine does", and "Demand 3 covers these lists too": both records to the byte, and 24 never
   pub equal : (cs : List AnyCall) → AsTheMachine (calls_said f) cs
   -- "Take two such lists that each leave a finished hunt, both of one sea (its legs in any order) and opened with one ceiling, whatever
-  -- dues, sweeps and steps the two have. Tell gives both the same verdict: .."; document 02, C-23: "With legs numbered alike, finished hunts
-  -- now agree on the round as well as its cost."
+  -- dues, sweeps and steps the two have. Tell gives both the same verdict: .."; so whatever denominators (document 02, C-17), and with lifting or
+  -- without (C-13). C-23: "With legs numbered alike, finished hunts now agree on the round as well as its cost."
   pub agree : (cs ds : List AnyCall) (o p : Opening) → LeavesFinished cs o → LeavesFinished ds p
       → OneNetwork (network o.graph) (network p.graph) → o.settings.ceiling ≡ p.settings.ceiling
       → (v : Verdict) × SaysAfter f cs o v × SaysAfter f ds p v
@@ -78,3 +78,16 @@ pub record Demand3 {A : Type 0} (f : machine.Answer → A) : Type 0 where
       → Finished ((calls_said f).holds (record_of (calls_said f) cs)).current
   -- "the hunt after an accepted back equals the hunt at the latest accepted save under that name"
   pub restores : (cs : List AnyCall) (k : ℕ) → Accepts searches (search_calls f) cs (back k) → Restored searches (search_calls f) cs k
+
+-- ---- of `agree`, what document 02 says of lifting
+
+-- tell gives this verdict next, with the best cost where there is one, whatever the count
+abbrev pub TellsAfter : {A : Type 0} → (machine.Answer → A) → List AnyCall → Verdict → Type 0
+TellsAfter f cs v = (count : ℕ) × ((calls_said f).answer (record_of (calls_said f) cs) (plain tell) ≡ f (tells v count))
+
+-- document 02, C-13: "A finished lifted hunt and a finished unlifted one, of one sea and one ceiling, must have the same verdict and cost."
+abbrev pub LiftedAgrees : {A : Type 0} → (machine.Answer → A) → Type 0
+LiftedAgrees f = (lifted unlifted : List AnyCall) (o p : Opening) → LeavesFinished lifted o → LeavesFinished unlifted p
+    → lifts o.settings ≡ true → lifts p.settings ≡ false
+    → OneNetwork (network o.graph) (network p.graph) → o.settings.ceiling ≡ p.settings.ceiling
+    → (v : Verdict) × TellsAfter f lifted v × TellsAfter f unlifted v

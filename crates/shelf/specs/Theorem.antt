@@ -21,7 +21,7 @@ use Rattle.shelf_theory.proofs.Paths.{current_is, history_is}
 use Rattle.shelf_theory.specs.Paths as paths
 use Rattle.shelf_theory.specs.ShelfFollows.{shelf_list}
 use Rattle.shelf_theory.proofs.ShelfFollows.{plain-answer, plain_list, restores_record}
-use Rattle.shelf.specs.Demand3.{AnyCall, search_left, history, LeavesFinished, calls_said, SaysAfter, ShowAlikeAfter, Demand3}
+use Rattle.shelf.specs.Demand3.{AnyCall, search_left, history, LeavesFinished, calls_said, SaysAfter, ShowAlikeAfter, Demand3, LiftedAgrees}
 
 -- ---- the path of a list
 
@@ -90,3 +90,12 @@ module _ {A : Type 0} (f : plainly.Answer → A) where
 -- DEMAND 3 of this crate's calls and crate search's
 pub demand_3 : Demand3 {A = plainly.Answer} (λ a. a)
 demand_3 = demand_3_said {A = plainly.Answer} (λ a. a) (λ n e. let z : ◌≡◌ {A = ℕ} 0 1 = cc in omega arith)
+
+-- A FINISHED LIFTED SEARCH AND A FINISHED UNLIFTED ONE, of one graph and one ceiling, have the same verdict and cost
+pub lifted_agrees : {A : Type 0} (f : plainly.Answer → A) → Demand3 f → LiftedAgrees f
+lifted_agrees f demand cs ds o p l k on off one same =
+    let a = demand.agree cs ds o p l k one same in
+    (a.0, (a.1.count, a.1.told), (a.2.count, a.2.told))
+
+pub lifted_calls : LiftedAgrees {A = plainly.Answer} (λ a. a)
+lifted_calls = lifted_agrees {A = plainly.Answer} (λ a. a) demand_3

@@ -8,7 +8,7 @@
 //!
 //! let graph = Graph::from_edges(3, &[Edge::free(1, 2, 4), Edge::free(1, 3, 3), Edge::free(2, 3, 2)]);
 //! let mut search = Search::fresh();
-//! search.open(&graph, &[0; 3], Settings { ceiling: 100, sweeps: 0, step: 0, denominator: 1 })?;
+//! search.open(&graph, &[0; 3], Settings { ceiling: 100, sweeps: 0, step: 0, denominator: 1, lifting: 0 })?;
 //! search.run(1_000_000)?;
 //! assert_eq!(search.tell()?.verdict, Verdict::Best(9));
 //! assert_eq!(search.show()?, [true; 3]);
@@ -346,6 +346,17 @@ pub fn simulate(
 
 /// A search for each pair of sweeps and step, 1 to 16 of them, each with the whole budget: the count of nodes with which it finishes, or none
 /// if it is still going on; 15, 11, 12, 13, 14, 32.
+///
+/// ```
+/// use planner::{compare, Edge, Graph, Terms};
+///
+/// let costs = [(1, 2, 4), (1, 3, 3), (1, 4, 5), (2, 3, 2), (2, 4, 6), (3, 4, 1)];
+/// let graph = Graph::from_edges(4, &costs.map(|(a, b, cost)| Edge::free(a, b, cost)));
+/// let terms = Terms { ceiling: 12, budget: 1_000, denominator: 1, lifting: 0 };
+/// assert_eq!(compare(&graph, &[0; 4], terms, &[(0, 0), (2, 1)])?, [Some(5), Some(1)]);
+/// assert_eq!(compare(&graph, &[0; 4], Terms { lifting: 1, ..terms }, &[(0, 0)])?, [Some(3)]);
+/// # Ok::<(), planner::Refusal>(())
+/// ```
 pub fn compare(
     graph: &Graph,
     multipliers: &[i32],
@@ -474,7 +485,7 @@ impl Told {
     }
 }
 
-/// A search for the cheapest tour. It owns its record, 4,464 bytes on the heap.
+/// A search for the cheapest tour. It owns its record, 4,472 bytes on the heap.
 #[derive(Clone, Debug)]
 pub struct Search {
     record: Box<Record>,
@@ -611,7 +622,7 @@ impl Shelf {
 ///
 /// let graph = Graph::from_edges(3, &[Edge::free(1, 2, 4), Edge::free(1, 3, 3), Edge::free(2, 3, 2)]);
 /// let mut class = Dispatcher::fresh();
-/// let place = class.add(&graph, &[0; 3], Settings { ceiling: 100, sweeps: 0, step: 0, denominator: 1 })?;
+/// let place = class.add(&graph, &[0; 3], Settings { ceiling: 100, sweeps: 0, step: 0, denominator: 1, lifting: 0 })?;
 /// assert_eq!(class.turn(1_000)?, Some(place));
 /// assert_eq!(class.tell(place)?.verdict, Verdict::Best(9));
 /// assert_eq!(class.turn(1_000)?, None);

@@ -69,6 +69,9 @@ pub struct Settings {
     pub sweeps: u32,
     pub step: u32,
     pub denominator: u64,
+    /// 0 no, 1 yes, and any other number is yes: each edge that a pass keeps is tried again under multipliers lifted for it alone. As a rule a
+    /// search opens fewer nodes then, and each takes longer; the verdict and the cost are the same.
+    pub lifting: u64,
 }
 
 /// What a simulation answers. A field without a value is 0.
@@ -81,13 +84,14 @@ pub struct Sailed {
     pub state: u64,
 }
 
-/// What every search of a comparison has alike.
+/// What every search of a comparison has alike; `lifting` as in [`Settings`].
 #[repr(C)]
 #[derive(Clone, Copy, PartialEq, Eq, Debug)]
 pub struct Terms {
     pub ceiling: i64,
     pub budget: u64,
     pub denominator: u64,
+    pub lifting: u64,
 }
 
 /// The record that the calls on a search work on (docs/RECORD.md). With contents that fail its check every call is refused 24.
@@ -133,13 +137,13 @@ macro_rules! layout {
 
 layout!(Reply, 32, number at 0, place at 8, value at 16, nodes at 24);
 layout!(Graph, 1_332, cost at 0, a at 760, b at 950, mark at 1_140, n at 1_330, m at 1_331);
-layout!(Settings, 24, ceiling at 0, sweeps at 8, step at 12, denominator at 16);
+layout!(Settings, 32, ceiling at 0, sweeps at 8, step at 12, denominator at 16, lifting at 24);
 layout!(Sailed, 32, number at 0, place at 8, total at 16, state at 24);
-layout!(Terms, 24, ceiling at 0, budget at 8, denominator at 16);
+layout!(Terms, 32, ceiling at 0, budget at 8, denominator at 16, lifting at 24);
 layout!(
-    Record, 4_464,
-    settings at 0, upper at 24, count at 32, stack at 40, depth at 1_096, graph at 1_100, multipliers at 2_432, carried at 2_512, best at 4_272,
-    open at 4_462, has_best at 4_463
+    Record, 4_472,
+    settings at 0, upper at 32, count at 40, stack at 48, depth at 1_104, graph at 1_108, multipliers at 2_440, carried at 2_520, best at 4_280,
+    open at 4_470, has_best at 4_471
 );
 
 layout!(Places, PLACES * std::mem::size_of::<Record>(), places at 0);

@@ -96,6 +96,53 @@ pub struct Law {
     /// C-17: a record's q is such as an opening accepts
     pub denominator_checked: bool,
 
+    /// C-13: "Add the SIMPLE change", where it is asked for and nowhere else
+    pub lifts_where_asked: bool,
+    pub lifts_unasked: bool,
+    /// C-13: "The machine in document 01 is read with this change": in every pass of a node
+    pub every_pass_lifts: bool,
+    /// C-13: "complete policy"
+    pub complete_policy: bool,
+    /// C-13: lines I1 and D1, lines I2 and D2, and these only "if j ≠ 1"
+    pub first_limit: bool,
+    pub second_limit: bool,
+    pub second_limit_left_out: bool,
+    /// C-13: "deg_T(i) ≥ 2" of an edge outside the tree, "≤ 2" of one inside
+    pub rises_from_degree: usize,
+    pub falls_to_degree: usize,
+    /// C-13: "i ∉ {1,k,l}"
+    pub support_stays: bool,
+    /// C-13: end b is treated too
+    pub second_end_moves: bool,
+    /// C-13: "both from the reduced and replacement costs under the pass's own dues"
+    pub own_dues: bool,
+    /// C-13: "Of several support or replacement legs equally good, the lowest-numbered is taken"
+    pub lowest_support: bool,
+    pub lowest_replacement: bool,
+    /// C-13: "a required leg is never a support"
+    pub required_no_support: bool,
+    /// C-13: "Where no leg limits a change the due goes to the end of its range"
+    pub unlimited_goes_on: bool,
+    /// C-13: "no change passes that end"
+    pub lifts_held: bool,
+    /// C-13: "exactly when the definition in Rulings says so": a bound equal to U is within
+    pub lifted_at_upper_stays: bool,
+    /// C-13: "A 'dead' under lifted dues bars or forces it too": it does not close the node, and which of both the tree says
+    pub lifted_dead_rules: bool,
+    pub lifted_dead_closes: bool,
+    pub dead_by_side: bool,
+    /// C-13: a leg "is tried under its lifted dues", and they rule of no other
+    pub own_leg_alone: bool,
+    /// C-13: "Lifted rulings are applied with the pass's own"
+    pub lifted_together: bool,
+    /// C-13: "dues go back afterwards"
+    pub dues_go_back: bool,
+    /// C-13: "A yes or no": a number that counts where any of these bits is set; and it is kept as 0 or 1
+    pub lifting_bits: u64,
+    pub lifting_kept_as_bit: bool,
+    /// C-13: a record's is no higher
+    pub max_lifting: u64,
+
     /// C-12: "ends as soon as those buoys are connected": with no part left to join
     pub parts_left: usize,
     /// C-12: and looks at no leg beyond
@@ -300,6 +347,33 @@ impl Law {
         denominator_before: 0,
         denominator_before_leg: true,
         denominator_checked: true,
+        lifts_where_asked: true,
+        lifts_unasked: false,
+        every_pass_lifts: true,
+        complete_policy: true,
+        first_limit: true,
+        second_limit: true,
+        second_limit_left_out: true,
+        rises_from_degree: 2,
+        falls_to_degree: 2,
+        support_stays: true,
+        second_end_moves: true,
+        own_dues: true,
+        lowest_support: true,
+        lowest_replacement: true,
+        required_no_support: true,
+        unlimited_goes_on: true,
+        lifts_held: true,
+        lifted_at_upper_stays: true,
+        lifted_dead_rules: true,
+        lifted_dead_closes: false,
+        dead_by_side: true,
+        own_leg_alone: true,
+        lifted_together: true,
+        dues_go_back: true,
+        lifting_bits: u64::MAX,
+        lifting_kept_as_bit: true,
+        max_lifting: 1,
         parts_left: 0,
         looked_beyond: 0,
         required_first: true,

@@ -3,6 +3,7 @@
 
 use super::graph::{Graph, EXCLUDED, FREE, REQUIRED};
 use super::law::Law;
+use super::lifting::{self, Pass};
 use super::rulings::{self, ceiling_fits, Ruled, BAR, FORCE};
 use super::tours::{cost, is_tour};
 use super::tree::{self, Method};
@@ -20,6 +21,8 @@ pub struct Search {
     pub step: u32,
     /// C-17's q
     pub denominator: u64,
+    /// C-13's "yes or no at opening": 1 or 0
+    pub lifting: u64,
     /// U, in minutes
     pub upper: i64,
     /// "a pile of waiting nodes", from bottom to top
@@ -46,6 +49,8 @@ pub enum Call {
         sweeps: u32,
         step: u32,
         denominator: u64,
+        /// 0 is no, any other number yes
+        lifting: u64,
     },
     Run {
         budget: u64,
@@ -126,6 +131,12 @@ impl Search {
         }
     }
 
+    /// Document 02, C-13: "The machine in document 01 is read with this change" where its opening says so, in each pass.
+    fn lifts(&self, law: &Law, pass: u32) -> bool {
+        let asked = self.lifting != 0 && law.lifts_where_asked;
+        (asked || law.lifts_unasked) && (law.every_pass_lifts || pass == self.sweeps)
+    }
+
     /// Passes 0 to 'sweeps' over one node, which "opens with" the dues that it carries, then its two children.
     fn open_node(&mut self, law: &Law, method: Method, node: Node) {
         let Node {
@@ -150,9 +161,8 @@ impl Search {
                 self.find(law, tree.edges);
                 return;
             }
-            let q = self.denominator;
-            let ruled = rulings::rule(law, method, &graph, &multipliers, q, self.upper);
-            let Ruled::Bound { rulings, .. } = ruled else {
+            let found = self.ruled(law, method, &graph, &mut multipliers, &tree.edges, pass);
+            let Some(rulings) = found else {
                 return;
             };
             apply(&mut marks, &rulings);
@@ -160,7 +170,8 @@ impl Search {
                 apply(&mut below.marks, &rulings);
             }
             if pass < self.sweeps || law.last_pass_gains {
-                let times = if law.step_in_units { 1 } else { q as u32 };
+                let q = self.denominator as u32;
+                let times = if law.step_in_units { 1 } else { q };
                 let step = times * self.step;
                 adjust(law, &graph, &tree.edges, step, &mut multipliers);
             }
@@ -169,6 +180,38 @@ impl Search {
             }
         }
         self.split(law, &marks, &multipliers);
+    }
+
+    /// The rulings of a pass, those that it lifts among them; none where the node closes. Only a bent law's leave other multipliers behind.
+    fn ruled(
+        &self,
+        law: &Law,
+        method: Method,
+        graph: &Graph,
+        multipliers: &mut Vec<i32>,
+        tree: &[u8],
+        pass: u32,
+    ) -> Option<Vec<u8>> {
+        let (q, upper) = (self.denominator, self.upper);
+        let Ruled::Bound { rulings, .. } = rulings::rule(law, method, graph, multipliers, q, upper)
+        else {
+            return None;
+        };
+        if !self.lifts(law, pass) {
+            return Some(rulings);
+        }
+        let by = Pass {
+            law,
+            method,
+            graph,
+            multipliers,
+            q,
+            tree,
+            upper,
+        };
+        let lifted = lifting::lift(&by, &rulings);
+        *multipliers = lifted.multipliers;
+        (!lifted.closes).then_some(lifted.rulings)
     }
 
     /// Document 02, C-23: "On finding a round the ceiling becomes its cost and not one less, and a later round of that cost replaces the
@@ -314,6 +357,7 @@ impl Machine {
             sweeps,
             step,
             denominator,
+            lifting,
         } = call
         else {
             unreachable!("only an opening comes here");
@@ -339,6 +383,7 @@ impl Machine {
             sweeps: *sweeps,
             step: *step,
             denominator: *denominator,
+            lifting: kept(law, *lifting),
             upper: *ceiling,
             stack: vec![Node {
                 marks: graph.marks(),
@@ -349,6 +394,15 @@ impl Machine {
             shared: None,
         });
         Ok(Answer::Accepted)
+    }
+}
+
+/// C-13: "A yes or no at opening turns lifting on": any number but 0 is a yes, and is kept as 1.
+fn kept(law: &Law, lifting: u64) -> u64 {
+    match lifting & law.lifting_bits {
+        0 => 0,
+        number if !law.lifting_kept_as_bit => number,
+        _ => 1,
     }
 }
 

@@ -8,6 +8,7 @@ pub mod dispatcher;
 pub mod former;
 pub mod graph;
 pub mod law;
+pub mod lifting;
 pub mod machine;
 pub mod programs;
 pub mod recent;

@@ -54,7 +54,7 @@ pub fn rulings(law: &Law, input: &[u8]) -> String {
     }
 }
 
-/// Program 'hunt': "one run with zero dues, no sweeps, step 0 and allowance 1,000,000".
+/// Program 'hunt': "one run with zero dues, no sweeps, step 0 and allowance 1,000,000". C-13: "the programs open without it".
 pub fn search(law: &Law, input: &[u8]) -> String {
     let (ceiling, graph) = match split(law, input) {
         Ok(parts) => parts,
@@ -68,6 +68,7 @@ pub fn search(law: &Law, input: &[u8]) -> String {
         sweeps: 0,
         step: 0,
         denominator: 1,
+        lifting: 0,
     };
     if let Answer::Refused(refusal) = machine.call(&open) {
         return refused(refusal);

@@ -25,7 +25,7 @@ pub enum Ruled {
 }
 
 /// Whether a bound is within the ceiling: "at or below".
-fn within(law: &Law, bound: i64, ceiling: i64) -> bool {
+pub fn within(law: &Law, bound: i64, ceiling: i64) -> bool {
     if law.ceiling_within {
         bound <= ceiling
     } else {

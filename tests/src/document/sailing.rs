@@ -131,6 +131,8 @@ pub struct Trial {
     pub ceiling: i64,
     pub budget: u64,
     pub denominator: u64,
+    /// C-13's "yes or no", every hunt's
+    pub lifting: u64,
     pub sweeps: Vec<u32>,
     pub steps: Vec<u32>,
     /// how many entries the report has
@@ -138,7 +140,8 @@ pub struct Trial {
 }
 
 /// "it reports the count with which each pair's hunt finishes, or 0 if still going on after the whole allowance. .. No pairs, or more than 16, come
-/// under 11, as do .. a report list without one entry a pair." It takes the arguments of opening, so of C-17 q too, and 32 comes after 14.
+/// under 11, as do .. a report list without one entry a pair." It takes the arguments of opening, so of C-13 whether it lifts, and of C-17
+/// q, and 32 comes after 14.
 pub fn compare(law: &Law, method: Method, trial: &Trial) -> Result<Vec<u64>, Refusal> {
     let pairs = trial.sweeps.len();
     let wrong_pairs = !(1..=law.max_pairs).contains(&pairs)
@@ -173,6 +176,7 @@ pub fn compare(law: &Law, method: Method, trial: &Trial) -> Result<Vec<u64>, Ref
             sweeps: *sweeps,
             step: *step,
             denominator: q,
+            lifting: trial.lifting,
         });
         let Answer::Ran { finished, count } = machine.call(&Call::Run { budget: left }) else {
             unreachable!("the opening was tested");

@@ -94,7 +94,7 @@ fn connect_all(n: usize, edges: &[(u8, u8)]) -> bool {
     }
 }
 
-fn edges_of(set: u32, m: usize) -> Vec<u8> {
+pub fn edges_of(set: u32, m: usize) -> Vec<u8> {
     (0..m).map(|k| (set >> k & 1) as u8).collect()
 }
 

@@ -4,6 +4,7 @@
 use crate::document::graph::Graph;
 use crate::document::machine::Call;
 use crate::document::recent::Log;
+use crate::document::sailing::Trial;
 use crate::document::Refusal;
 use crate::record::{graph_bytes, graph_of, GRAPH};
 use crate::report::Hex;
@@ -76,6 +77,7 @@ pub fn settings(opening: &Call) -> raw::Settings {
         sweeps,
         step,
         denominator,
+        lifting,
         ..
     } = opening
     else {
@@ -86,6 +88,17 @@ pub fn settings(opening: &Call) -> raw::Settings {
         sweeps: *sweeps,
         step: *step,
         denominator: *denominator,
+        lifting: *lifting,
+    }
+}
+
+/// What a comparison takes beside the graph, the multipliers and the pairs.
+pub fn terms(trial: &Trial) -> raw::Terms {
+    raw::Terms {
+        ceiling: trial.ceiling,
+        budget: trial.budget,
+        denominator: trial.denominator,
+        lifting: trial.lifting,
     }
 }
 

@@ -1,10 +1,10 @@
 //! The simulator and the comparison of settings.
 
 use super::lent::Lent;
-use super::{by_value, call};
+use super::{by_value, call, terms};
 use crate::document::graph::Graph;
 use crate::document::sailing::{Asked, Trial};
-use planner::raw::{planner_compare, planner_simulate, Reply as Numbers, Sailed, Terms};
+use planner::raw::{planner_compare, planner_simulate, Reply as Numbers, Sailed};
 
 /// What a simulation answers, and what became of the lent times.
 #[derive(PartialEq, Eq, Debug)]
@@ -66,16 +66,11 @@ pub fn compare(trial: &Trial) -> ComparedReply {
         steps.pointer(),
         report.pointer(),
     );
-    let terms = Terms {
-        ceiling: trial.ceiling,
-        budget: trial.budget,
-        denominator: trial.denominator,
-    };
     let said = call!(planner_compare(
         g,
         d,
         trial.multipliers.len(),
-        terms,
+        terms(trial),
         first,
         trial.sweeps.len(),
         second,

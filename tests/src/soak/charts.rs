@@ -57,6 +57,8 @@ pub const VALUES: Kind = Kind {
         bends::HIGHER_DENOMINATOR,
         bends::DENOMINATOR_BEFORE_CEILING,
         bends::LEG_BEFORE_DENOMINATOR,
+        bends::LIFTED_UNASKED,
+        bends::FLAG_WITHOUT_EFFECT,
     ],
 };
 

@@ -19,6 +19,7 @@ pub const DISPATCHERS: Kind = Kind {
         bends::HIGHEST_FREE,
         bends::FINISHED_GIVE_WAY,
         bends::SEVEN_PLACES_CHECKED,
+        bends::LIFTED_UNASKED,
     ],
 };
 

@@ -35,6 +35,7 @@ pub const HUNT: Kind = Kind {
         bends::HIGHER_CEILING,
         bends::FORMER_CEILING_BYTES,
         bends::EXCLUDED_ON_TOP,
+        bends::LIFTED_UNASKED,
     ],
 };
 

@@ -32,6 +32,8 @@ pub const RECORDS: Kind = Kind {
         bends::CARRIED_NOT_JUDGED,
         bends::CARRIED_PAST_N,
         bends::HIGHER_DENOMINATOR,
+        bends::LIFTED_UNASKED,
+        bends::LIFTING_OF_TWO,
     ],
 };
 
@@ -54,6 +56,11 @@ pub const LISTS: Kind = Kind {
         bends::MORE_SWEEPS,
         bends::UPPER_IN_PARTS,
         bends::STEP_TIMES,
+        bends::FLAG_WITHOUT_EFFECT,
+        bends::LAST_PASS_LIFTS,
+        bends::LIFTED_AT_UPPER_RULED,
+        bends::LIFTED_DUES_STAY,
+        bends::LIFTING_AS_SENT,
     ],
 };
 
@@ -67,6 +74,7 @@ pub const SHELVES: Kind = Kind {
         bends::BACK_OF_NEXT_NAME,
         bends::CLOSE_EMPTIES,
         bends::NAMED_PLACE_CHECKED,
+        bends::LIFTING_OF_TWO,
     ],
 };
 

@@ -33,6 +33,15 @@ pub const SUITE: Suite = Suite {
         bends::STEP_TIMES,
         bends::DENOMINATOR_OF_ZERO,
         bends::DENOMINATOR_BEFORE_STEP,
+        bends::FLAG_WITHOUT_EFFECT,
+        bends::LIFTED_UNASKED,
+        bends::LAST_PASS_LIFTS,
+        bends::RELAXED_POLICY,
+        bends::SECOND_LIMIT_DROPPED,
+        bends::LIFTED_AT_UPPER_RULED,
+        bends::LIFTED_DUES_STAY,
+        bends::LIFTING_ONE_BIT,
+        bends::LIFTING_AS_SENT,
     ],
 };
 

@@ -30,6 +30,9 @@ pub const SUITE: Suite = Suite {
         bends::DENOMINATOR_BEFORE_MULTIPLIERS,
         bends::DENOMINATOR_BEFORE_CEILING,
         bends::DENOMINATOR_BEFORE_STEP,
+        bends::FLAG_WITHOUT_EFFECT,
+        bends::LIFTED_UNASKED,
+        bends::LIFTING_ONE_BIT,
     ],
 };
 
@@ -62,6 +65,7 @@ pub fn trial(random: &mut Random, wrong: bool) -> Trial {
         ceiling,
         budget: random.pick(&[0, 1, 2, 3, 5, 8, 40, 300]),
         denominator,
+        lifting: generate::lifting(random),
         sweeps: (0..pairs).map(|_| random.pick(&[0, 0, 1, 2, 15])).collect(),
         steps: (0..pairs)
             .map(|_| random.pick(&[0, 1, 3, 100, 10_000]))
@@ -124,6 +128,7 @@ fn facts(law: &Law, tally: &mut Tally) -> Outcome {
             ceiling,
             budget: 5,
             denominator: 1,
+            lifting: 0,
             sweeps: vec![0, 0, 1, 2, 15, 15],
             steps: vec![0, 10_000, 1, 1, 1, 10],
             length: 6,

@@ -39,6 +39,8 @@ pub const SUITE: Suite = Suite {
         bends::HIGHER_DENOMINATOR,
         bends::DENOMINATOR_NOT_CHECKED,
         bends::RANGE_IN_MINUTES,
+        bends::LIFTING_OF_TWO,
+        bends::LIFTING_NOT_CHECKED,
     ],
 };
 
@@ -82,7 +84,7 @@ pub fn harm(random: &mut Random, record: &mut Record) {
         1 => VERTICES * first_unused + random.below(VERTICES),
         _ => VERTICES * node + random.below(n),
     };
-    match random.below(21) {
+    match random.below(22) {
         0 => record.open = byte,
         1 => record.graph.n = random.pick(&[0, 2, 3, 4, 20, 21, 255]),
         2 => record.graph.m = random.pick(&[0, m - 1, m + 1, 190, 191, 255]),
@@ -108,6 +110,7 @@ pub fn harm(random: &mut Random, record: &mut Record) {
         16 => record.carried[number] = about(random, MAX_MULTIPLIER),
         17 => clear_required(record, node),
         20 => record.stack[random.below(STACK)] = random.word(),
+        21 => record.lifting = random.pick(&[0, 1, 2, 2, 256, 1 << 32, 1 << 63, u64::MAX]),
         18 => {
             let wrong = generate::wrong_denominator(random);
             record.denominator = random.pick(&[1, 2, MAX_DENOMINATOR, wrong, wrong, wrong]);
@@ -289,6 +292,7 @@ fn waiting(random: &mut Random, n: usize, depth: usize) -> Record {
         sweeps: 0,
         step: 0,
         denominator: generate::denominator(random),
+        lifting: generate::lifting(random),
     });
     if let Some(search) = &mut machine.search {
         search.stack = (0..depth)

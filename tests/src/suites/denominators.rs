@@ -122,6 +122,7 @@ impl Case {
             sweeps: self.sweeps,
             step: self.step,
             denominator: self.given.denominator,
+            lifting: 0,
         }
     }
 
@@ -132,6 +133,7 @@ impl Case {
             ceiling: self.given.ceiling,
             budget: 40,
             denominator: self.given.denominator,
+            lifting: 0,
             sweeps: vec![0, self.sweeps],
             steps: vec![0, self.step],
             length: 2,

@@ -34,6 +34,9 @@ pub const SUITE: Suite = Suite {
         bends::LAST_OF_NINE,
         bends::LENGTH_BEFORE_RECORD,
         bends::UPPER_BELOW_COST,
+        bends::LIFTED_UNASKED,
+        bends::LIFTING_AS_SENT,
+        bends::LIFTING_OF_TWO,
     ],
 };
 
@@ -129,6 +132,7 @@ fn example(law: &Law, tally: &mut Tally) -> Outcome {
         sweeps: 0,
         step: 0,
         denominator: 1,
+        lifting: 0,
     });
     let turn = |portion| Call::Turn { portion };
     let refuse = |number| Answer::Refused(Refusal { number, place: 0 });

@@ -25,6 +25,7 @@ pub const SUITE: Suite = Suite {
         bends::CHEAP_NO_REPLACEMENT,
         bends::CEILING_NOT_SCALED,
         bends::MULTIPLIERS_TIMES,
+        bends::LIFTED_UNASKED,
     ],
 };
 
@@ -149,6 +150,7 @@ fn searches(law: &Law, method: Method, tally: &mut Tally) -> Outcome {
             sweeps: 0,
             step: 0,
             denominator: 1,
+            lifting: 0,
         });
         machine.call(&Call::Run { budget: u64::MAX });
         let got = machine.call(&Call::Tell);

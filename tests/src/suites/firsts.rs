@@ -77,6 +77,7 @@ fn opening(random: &mut Random, graph: &Graph) -> Call {
         sweeps: random.pick(&[0, 0, 1, 2, 5]),
         step: random.pick(&[0, 1, 3, 50]),
         denominator: random.pick(&[1, 1, 2, 7, 1_000]),
+        lifting: generate::lifting(random),
     }
 }
 
@@ -113,6 +114,7 @@ fn separating(law: &Law, tally: &mut Tally) -> Outcome {
             sweeps: 0,
             step: 0,
             denominator: 1,
+            lifting: 0,
         }
     };
     let early = sea(one_way, [2, 2, 1, 2, 1, 1]);

@@ -51,13 +51,18 @@ pub fn hunt(open: &Call) -> Hunt {
     hunt
 }
 
-/// A graph of few edges, and an opening of it with q = 1.
+/// A graph of few edges, and an opening of it with q = 1 and without lifting.
 pub fn of_one(random: &mut Random) -> (Graph, Call) {
     let graph = generate::small_graph(random, 5, 9);
     let near = turning_ceiling(random, &graph, &vec![0; graph.n], 1);
     let mut open = opening(random, &graph, near);
-    if let Call::Open { denominator, .. } = &mut open {
-        *denominator = 1;
+    if let Call::Open {
+        denominator,
+        lifting,
+        ..
+    } = &mut open
+    {
+        (*denominator, *lifting) = (1, 0);
     }
     (graph, open)
 }

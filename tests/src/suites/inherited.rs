@@ -23,6 +23,8 @@ pub const SUITE: Suite = Suite {
         bends::MULTIPLIERS_NOT_HELD,
         bends::MARKS_FROM_BELOW,
         bends::EXCLUDED_ON_TOP,
+        bends::LAST_PASS_LIFTS,
+        bends::LIFTED_DUES_STAY,
     ],
 };
 
@@ -53,6 +55,7 @@ fn calls(random: &mut Random, graph: &Graph) -> Vec<Call> {
         sweeps: random.pick(&[1, 1, 1, 2, 3, 5]),
         step: random.pick(&STEPS),
         denominator: random.pick(&[1, 1, 2, 7]),
+        lifting: generate::lifting(random),
     };
     let mut list = vec![open];
     for _ in 0..2 + random.below(8) {
@@ -109,6 +112,7 @@ fn separating(law: &Law, tally: &mut Tally) -> Outcome {
         sweeps: 1,
         step: 2,
         denominator: 1,
+        lifting: 0,
     };
     let counts = [
         (Law::AS_WRITTEN, 11),

@@ -27,6 +27,7 @@ pub const SUITE: Suite = Suite {
         bends::PAST_M_NOT_ZERO,
         bends::STRUCK_ROW_FIRST,
         bends::BITS_FROM_ONE,
+        bends::LIFTING_AS_SENT,
     ],
 };
 
@@ -135,23 +136,29 @@ fn record_fields(law: &Law, search: &Search, named: &raw::Record) -> Vec<Field> 
             search.denominator as i64,
             settings.denominator as i64,
         ),
-        number("upper", 24, search.upper, named.upper),
-        number("count", 32, search.count as i64, named.count as i64),
-        field("stack", 40, stack, &words(&named.stack)),
-        half("depth", 1_096, waiting as u32, named.depth),
+        number(
+            "lifting",
+            24,
+            search.lifting as i64,
+            settings.lifting as i64,
+        ),
+        number("upper", 32, search.upper, named.upper),
+        number("count", 40, search.count as i64, named.count as i64),
+        field("stack", 48, stack, &words(&named.stack)),
+        half("depth", 1_104, waiting as u32, named.depth),
     ];
-    fields.extend(graph_fields(1_100, &search.graph, &named.graph));
+    fields.extend(graph_fields(1_108, &search.graph, &named.graph));
     fields.extend([
         field(
             "multipliers",
-            2_432,
+            2_440,
             multipliers,
             &numbers(&named.multipliers),
         ),
-        field("carried", 2_512, carried, &numbers(&named.carried)),
-        field("best", 4_272, best, &named.best),
-        field("open", 4_462, vec![1], &[named.open]),
-        field("has_best", 4_463, vec![1], &[named.has_best]),
+        field("carried", 2_520, carried, &numbers(&named.carried)),
+        field("best", 4_280, best, &named.best),
+        field("open", 4_470, vec![1], &[named.open]),
+        field("has_best", 4_471, vec![1], &[named.has_best]),
     ]);
     fields
 }
@@ -205,6 +212,7 @@ fn record_left(law: &Law, tally: &mut Tally, random: &mut Random) -> Result<bool
         sweeps: 1 + random.below(3) as u32,
         step: 7 + random.below(900) as u32,
         denominator: generate::denominator(random),
+        lifting: random.pick(&[1, 2, 1 << 63]),
     };
     let (mut machine, mut search) = (Machine::new(law, Method::Kruskal), planner::Search::fresh());
     let mut next = &open;

@@ -1,5 +1,5 @@
 //! Searches through the library: the verdict and the tour shown against all tours; two searches of one graph, with its edges in two orders,
-//! other multipliers, sweeps, steps and denominators, agree.
+//! other multipliers, sweeps, steps and denominators, lifted or not, agree.
 
 use super::searches::{opening, DENSE, SPARSE};
 use crate::bends;
@@ -22,6 +22,7 @@ pub const SUITE: Suite = Suite {
         bends::MARKS_FROM_BELOW,
         bends::UPPER_BELOW_COST,
         bends::UPPER_NOT_SCALED,
+        bends::LIFTED_AT_UPPER_RULED,
     ],
 };
 

@@ -339,6 +339,7 @@ fn opening(graph: &Graph, denominator: u64, ceiling: i64) -> Call {
         sweeps: 0,
         step: 0,
         denominator,
+        lifting: 0,
     }
 }
 

@@ -5,7 +5,9 @@ use crate::report::Suite;
 pub mod calls;
 pub mod facts;
 pub mod former_rules;
+pub mod lifted_seas;
 pub mod own_charts;
+pub mod own_lifts;
 pub mod own_looks;
 pub mod own_rulings;
 pub mod own_trees;
@@ -31,6 +33,8 @@ pub mod inherited;
 pub mod layout;
 #[cfg(feature = "library")]
 pub mod library_searches;
+#[cfg(feature = "library")]
+pub mod lifting;
 #[cfg(feature = "library")]
 pub mod limits;
 #[cfg(feature = "library")]
@@ -67,6 +71,7 @@ pub fn all() -> Vec<Suite> {
         own_trees::SUITE,
         own_looks::SUITE,
         own_rulings::SUITE,
+        own_lifts::SUITE,
         searches::SUITE,
         calls::SUITE,
         former_rules::SUITE,
@@ -90,6 +95,8 @@ pub fn all() -> Vec<Suite> {
         falling_ceilings::SUITE,
         #[cfg(feature = "library")]
         denominators::SUITE,
+        #[cfg(feature = "library")]
+        lifting::SUITE,
         #[cfg(feature = "library")]
         recent::SUITE,
         #[cfg(feature = "library")]

@@ -44,6 +44,7 @@ pub const HUNT: Suite = Suite {
         bends::HIGH_BYTES_LOST,
         bends::FORMER_COST,
         bends::EXCLUDED_ON_TOP,
+        bends::LIFTED_UNASKED,
     ],
 };
 

@@ -48,6 +48,11 @@ pub const SUITE: Suite = Suite {
         bends::DENOMINATOR_BEFORE_CEILING,
         bends::DENOMINATOR_BEFORE_STEP,
         bends::ONE_ROW_COUNTED,
+        bends::FLAG_WITHOUT_EFFECT,
+        bends::LIFTED_UNASKED,
+        bends::LAST_PASS_LIFTS,
+        bends::LIFTED_DUES_STAY,
+        bends::LIFTING_AS_SENT,
     ],
 };
 

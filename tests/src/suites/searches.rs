@@ -1,5 +1,5 @@
 //! The reference machine against all tours: two searches of one graph, with its edges in two orders,
-//! other multipliers, sweeps, steps and denominators, both with the budget that must finish them. Each
+//! other multipliers, sweeps, steps and denominators, lifted or not, both with the budget that must finish them. Each
 //! shows the first of its cheapest tours.
 
 use crate::bends;
@@ -28,6 +28,7 @@ pub const SUITE: Suite = Suite {
         bends::LOWEST_LEG_DECIDES,
         bends::UPPER_NOT_SCALED,
         bends::CEILING_NOT_SCALED,
+        bends::LIFTED_AT_UPPER_RULED,
     ],
 };
 
@@ -72,6 +73,7 @@ pub fn opening(random: &mut Random, graph: &Graph, ceiling: i64) -> Call {
         sweeps: random.pick(&[0, 0, 1, 2, 5, 15]),
         step: random.pick(if few { &STEPS } else { &STEPS[..4] }),
         denominator: generate::denominator(random),
+        lifting: generate::lifting(random),
     }
 }
 

@@ -29,6 +29,8 @@ pub const SUITE: Suite = Suite {
         bends::NAMED_PLACE_CHECKED,
         bends::MULTIPLIERS_RESET,
         bends::UPPER_NOT_LOWERED,
+        bends::FLAG_WITHOUT_EFFECT,
+        bends::LIFTING_OF_TWO,
     ],
 };
 
@@ -209,6 +211,7 @@ fn document(law: &Law, tally: &mut Tally) -> Outcome {
             sweeps: 0,
             step: 0,
             denominator: 1,
+            lifting: 0,
         })
     };
     let run = |budget| AnyCall::Plain(Call::Run { budget });

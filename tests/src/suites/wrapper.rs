@@ -14,14 +14,13 @@ use crate::document::rulings::{self, BAR, FORCE, KEEP};
 use crate::document::shelf::{AnyCall, Shelved};
 use crate::document::tree::{self, Method};
 use crate::document::{chart, dispatcher, sailing, Refusal};
-use crate::ffi::{by_value, settings};
+use crate::ffi::{by_value, settings, terms};
 use crate::generate;
 use crate::random::Random;
 use crate::record::{Dispatched, Record, SIZE};
 use crate::report::{hex, Outcome, Suite, Tally};
 use planner::{
-    Edge, Mark, Progress, Ruled, Ruling, Sailing, Search, Settings, Shelf, Terms, Told, Tree,
-    Verdict,
+    Edge, Mark, Progress, Ruled, Ruling, Sailing, Search, Settings, Shelf, Told, Tree, Verdict,
 };
 
 pub const SUITE: Suite = Suite {
@@ -44,6 +43,9 @@ pub const SUITE: Suite = Suite {
         bends::LEG_BEFORE_DENOMINATOR,
         bends::HIGHEST_FREE,
         bends::BACK_OF_NEXT_NAME,
+        bends::FLAG_WITHOUT_EFFECT,
+        bends::LIFTED_UNASKED,
+        bends::LIFTING_AS_SENT,
     ],
 };
 
@@ -156,11 +158,6 @@ fn sailings(law: &Law, tally: &mut Tally, random: &mut Random, wrong: bool) -> O
         .copied()
         .zip(trial.steps.iter().copied())
         .collect();
-    let terms = Terms {
-        ceiling: trial.ceiling,
-        budget: trial.budget,
-        denominator: trial.denominator,
-    };
     let input = || format!("{trial:?}");
     let wanted = sailing::compare(law, Method::Kruskal, &trial).map_err(refusal);
     let wanted = wanted.map(|counts| {
@@ -169,7 +166,8 @@ fn sailings(law: &Law, tally: &mut Tally, random: &mut Random, wrong: bool) -> O
             .map(|k| (*k != 0).then_some(*k))
             .collect::<Vec<_>>()
     });
-    let got = planner::compare(&by_value(&trial.graph), &trial.multipliers, terms, &pairs);
+    let graph = by_value(&trial.graph);
+    let got = planner::compare(&graph, &trial.multipliers, terms(&trial), &pairs);
     tally.compare("compare", input, &wanted, &got)
 }
 
@@ -440,6 +438,7 @@ fn too_many(tally: &mut Tally) -> Outcome {
         sweeps: 0,
         step: 0,
         denominator: 1,
+        lifting: 0,
     };
     for (n, m) in [
         (20, PLACES + 1),

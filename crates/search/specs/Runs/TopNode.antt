@@ -24,7 +24,8 @@ use Rattle.tours.specs.Tours.{cost}
 use Rattle.machine.specs.Outcomes.{closes, finds, splits, Incumbent, no_tour, a_tour}
 use Rattle.machine.specs.Outcomes as outcomes
 use Rattle.machine.specs.Machine as M
-use Rattle.machine.specs.Machine.{Node, Opening, Progress, passes, edges_of, cost_of, lowered, better, open_node, settled, open_top}
+use Rattle.machine.specs.declared.Settings.{Settings}
+use Rattle.machine.specs.Machine.{Node, Opening, lifts, Progress, passes, edges_of, cost_of, lowered, better, open_node, settled, open_top}
 use Rattle.machine.specs.Kept.{Kept, Waits, Nodes, depth_most}
 use Rattle.machine.proofs.Preserved.{top_kept, found_long}
 use Rattle.machine.specs.Inherited.{siblings}
@@ -59,6 +60,10 @@ pub record Top (s : Progress) : Type 0 where
 -- a record with the stack's words, what the nodes carry, the depth and the count anew
 abbrev pub restacked : Search → List ℕ → List ℤ → ℕ → ℕ → Search
 restacked r l e depth count = record r { stack = l; carried = e; depth = depth; count = count }
+
+-- settings with the present upper bound for the ceiling: what a node is opened with
+abbrev pub with_ceiling : ℤ → Settings → Settings
+with_ceiling u t = record { ceiling = u; sweeps = t.sweeps; step = t.step; denominator = t.denominator; lifting = t.lifting }
 
 -- ---- what the record tells
 
@@ -235,7 +240,7 @@ module _ (r : Search) (s : Progress) (h : Holds r s) (t : Top s) where
   module _ (x : List ℕ) (d : List ℤ) (u : ℤ) (ex : x ≡ rows_at r.stack (r.depth - 1))
       (ed : d ≡ multipliers_at max_vertices r.carried (r.depth - 1)) (eu : u ≡ r.upper) where
     given : Opening
-    given = taken r.graph d (record { ceiling = u; sweeps = r.settings.sweeps; step = r.settings.step; denominator = r.settings.denominator })
+    given = taken r.graph d (with_ceiling u r.settings)
 
     read : fit r.graph.n (pos 0) d ≡ t.node.multipliers
     read = ap (fit r.graph.n (pos 0)) ed ∙ top_carried
@@ -255,19 +260,19 @@ module _ (r : Search) (s : Progress) (h : Holds r s) (t : Top s) where
 
     -- and what it comes to is what the machine's top node comes to
     pub opens_is : (node : Workspace)
-        → opens (taken (marked r.graph x) d (record { ceiling = u; sweeps = r.settings.sweeps; step = r.settings.step; denominator = r.settings.denominator })) node
+        → opens (taken (marked r.graph x) d (with_ceiling u r.settings)) node
         ≡ opened_as (open_node s.opening s.upper t.node)
     unfolding given open_node
     opens_is node = opens_node given fits x node ∙ ap opened_as same
       where
-        same : passes (scaled_by r.settings.denominator (network r.graph)) r.settings.step (r.settings.denominator times u)
+        same : passes (lifts r.settings) (scaled_by r.settings.denominator (network r.graph)) r.settings.step (r.settings.denominator times u)
             r.settings.sweeps (fit r.graph.n (pos 0) d) (marks_in_rows r.graph.m x)
-            ≡ passes (scaled_by s.opening.settings.denominator (network s.opening.graph)) s.opening.settings.step
+            ≡ passes (lifts s.opening.settings) (scaled_by s.opening.settings.denominator (network s.opening.graph)) s.opening.settings.step
             (s.opening.settings.denominator times s.upper) s.opening.settings.sweeps t.node.multipliers t.node.marks
         same =
             λ i.
-            passes (scaled_by (holds_settings r s h i).denominator (network (holds_graph r s h i))) (holds_settings r s h i).step
-            ((holds_settings r s h i).denominator times (eu ∙ holds_upper r s h) i) (holds_settings r s h i).sweeps (read i)
+            passes (lifts (holds_settings r s h i)) (scaled_by (holds_settings r s h i).denominator (network (holds_graph r s h i)))
+            (holds_settings r s h i).step ((holds_settings r s h i).denominator times (eu ∙ holds_upper r s h) i) (holds_settings r s h i).sweeps (read i)
             ((ap (marks_in_rows r.graph.m) ex ∙ row-marks) i)
 
   -- ---- the search after the top node's opening

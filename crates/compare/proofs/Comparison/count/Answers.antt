@@ -6,14 +6,14 @@ use Rattle.machine.specs.Calls.{opens, run}
 use Rattle.machine.specs.Machine.{opening_of}
 use Rattle.search.specs.Replies.{reply}
 use Rattle.search.specs.declared.Search.{Search}
-use Rattle.compare.specs.Comparison.{finished_in}
+use Rattle.compare.specs.Comparison.{settings_of, finished_in}
 use Rattle.compare.specs.TwoCalls.{counted, or_zero}
 use Rattle.compare.proofs.Comparison.count.Goals as goal
 
 pub returns : goal.returns
 returns c =
     let a = c.args.self.now in
-    let o = opening_of a.g.now a.multipliers.now (record { ceiling = a.terms.ceiling; sweeps = c.args.sweeps; step = c.args.step; denominator = a.terms.denominator }) in
+    let o = opening_of a.g.now a.multipliers.now (settings_of a.terms c.args.sweeps c.args.step) in
     let budget = a.terms.budget in
     let left = rw (back64 a.terms.ceiling (search (rules, c.well_formed))) at c.open-opened.ensures.left in
     let finished =

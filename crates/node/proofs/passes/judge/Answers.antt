@@ -15,7 +15,7 @@ returns-then-two_each-clause-verdict c =
     let w = least.within in
     let two = rw c.from.ensures at (c.two_each.ensures.0 c.if-two_each.true) in (
       least.none,
-      tree_found _ _ (fault-fit _ least.none).valid _ _ _ w.tree w.least w.low _ _ least.bytes c.count_degrees-degrees.ensures two,
+      tree_found _ _ _ (fault-fit _ least.none).valid _ _ _ w.tree w.least w.low _ _ least.bytes c.count_degrees-degrees.ensures two,
     )
 
 pub returns-clause-verdict : goal.returns-clause-verdict
@@ -24,7 +24,7 @@ returns-clause-verdict c =
     let w = least.within in
     let made = c.apply.ensures.marks in (
       least.none,
-      tree-ruled _ _ (fault-fit _ least.none).valid _ _ _ w.tree w.least w.low _ _ least.bytes c.count_degrees-degrees.ensures _ _ least.ruled
+      tree-ruled _ _ _ (fault-fit _ least.none).valid _ _ _ w.tree w.least w.low _ _ least.bytes c.count_degrees-degrees.ensures _ _ least.ruled
           made (λ two. true≢false (sym ((rw c.from.ensures at c.two_each.ensures.1) two) ∙ c.if-two_each.false)),
       least.few,
     )

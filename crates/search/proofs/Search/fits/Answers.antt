@@ -32,6 +32,7 @@ returns-then-carried_fits-clause-fits c =
     let carried = subst (λ (k : ℕ). Says c.carried_fits.result (CarriedFits k s.depth s.carried)) c.from-n.ensures c.carried_fits.ensures in
     says_both c.stack_fits.result {Q = Fits s} (λ l. record {
       opening = says_yes c.opening_fits.result c.opening_fits.ensures c.if-not-opening_fits.false;
+      lifting = c.if-self-gt1.false;
       upper = sym bounded ∙ c.if-not-ceiling_fits.false;
       depth = omega (arith, c.from-n.ensures, c.if-depth-n.false);
       stack = l;

@@ -13,7 +13,7 @@ use Rattle.node.specs.declared.Workspace.{Workspace}
 use Rattle.node.specs.Opened.{meaning, opened, opened_as, marked, taken, opens}
 use Rattle.search.specs.declared.Search.{Search}
 use Rattle.search.specs.Record.{rows_at, multipliers_at}
-use Rattle.search.specs.Runs.TopNode.{Holds, Top, holds_mag, holds_size, holds_carried-size, holds_valid, top_depth, top-high, top-room, opens_is, not_refused, next_closes, next_finds, next_splits, split_room}
+use Rattle.search.specs.Runs.TopNode.{Holds, Top, with_ceiling, holds_mag, holds_size, holds_carried-size, holds_valid, top_depth, top-high, top-room, opens_is, not_refused, next_closes, next_finds, next_splits, split_room}
 use Rattle.search.proofs.Search.open_top.Goals as goal
 use Rattle.search.proofs.Search.open_top.Goals.{After-open}
 
@@ -30,8 +30,7 @@ module _ (r : Search) (s : Progress) (h : Holds r s) (t : Top s) where
   came : (x : List ℕ) (d : List ℤ) (u : ℤ) (was left : Workspace) (answer : Result Fate Refusal)
       → x ≡ fill node_words (λ j. get_or r.stack (node_words * (r.depth - 1) + j) 0)
       → d ≡ fill max_vertices (λ j. get_or r.carried (max_vertices * (r.depth - 1) + j) (pos 0)) → u ≡ r.upper
-      → opened answer left ≡ opens (taken (marked r.graph x) d
-      (record { ceiling = u; sweeps = r.settings.sweeps; step = r.settings.step; denominator = r.settings.denominator })) was
+      → opened answer left ≡ opens (taken (marked r.graph x) d (with_ceiling u r.settings)) was
       → opened answer left ≡ opened_as (open_node s.opening s.upper t.node)
   came x d u was left answer ex ed eu e =
       e ∙ opens_is r s h t x d u (rows_read x r.stack (r.depth - 1) ex) (multipliers_read d r.carried (r.depth - 1) ed) eu was

@@ -40,7 +40,17 @@ rulings-requires c =
       tree = (tree_scaled c.args.self.now.q.q _ _).0 t.least.tree;
       bits = λ k. ⊎_elim (λ e. omega arith) (λ e. omega arith) (t.bits k);
     } in
-    (spans, t.weighed.merges, refl)
+    let checked = c.args.self.now.checked in
+    record {
+      spans = (spans, t.weighed.merges, refl);
+      lists = record {
+        merges = t.weighed.merges;
+        cheap = λ k h. (t.weighed.charged k h).high;
+        ranged = checked.ranged;
+        size = checked.size;
+        near = c.slack_of-slack.ensures.1;
+      };
+    }
 
 pub returns : goal.returns
 returns c =
@@ -49,7 +59,7 @@ returns c =
     let h = c.in_ok-found.ensures in
     let under = compared (goal.at.returns c).After-top-top false c.if-top-found.false in
     let slack = rw (back64 c.top-top.result c.top-top.type_inv, c.top-top.ensures, back64 found.bound h.fits) at c.slack_of-slack.ensures in (
-      ceiling_within me.q.q _ _ (me.q.q times me.ceiling) found c.least.new.lists h under
+      ceiling_within me.q.q _ _ (me.q.q times me.ceiling) found c.least.new.lists h c.args.lifting under
           _ slack.0 slack.1 _ c.rulings.ensures.0 (length-map _ byte_of ∙ c.rulings.ensures.1),
       h.hinted,
       h.weighed,

@@ -4,7 +4,7 @@ use Rattle.graph.specs.declared.Graph.{Graph}
 use Rattle.integers.specs.Words.{back64}
 use Rattle.graph.specs.Valid.{Valid}
 use Rattle.machine.specs.Machine.{Opening}
-use Rattle.search.specs.Begun.{asked, begun_valid, begun_trimmed, begun_long, begun_ranged, begun}
+use Rattle.search.specs.Begun.{asked, begun_valid, begun_trimmed, begun_long, begun_ranged, settings_stored, begun}
 use Rattle.search.proofs.opening.Opening.begin.Goals as goal
 
 pub trim-graph-requires : goal.trim-graph-requires
@@ -24,6 +24,7 @@ invariant_of-checked c =
 pub returns : goal.returns
 returns c =
     let a : Opening = asked c.args.self.now in
+    let ceiling = back64 c.args.self.now.settings.ceiling (search (rules, c.well_formed)) in
     begun a c.requires _ c.trim-graph.ensures _ c.padded-multipliers.ensures
-    _ (back64 c.args.self.now.settings.ceiling (search (rules, c.well_formed))) _ _
+    _ (settings_stored c.args.self.now.settings _ _ ceiling c.from.ensures) _ ceiling _ _
     c.rows_of.ensures (c.put.ensures 0) _ (c.put-2.ensures (pos 0))

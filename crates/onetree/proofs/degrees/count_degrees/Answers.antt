@@ -15,8 +15,8 @@ use Rattle.std.proofs.lemmas.Iterator.Consumers.{YieldsList-turn, YieldsList-end
 use Rattle.graph.specs.declared.Graph.{Graph}
 use Rattle.graph.specs.Valid.{Valid}
 use Rattle.tours.specs.Counted.{Ends, degrees_none, degrees_skip, degrees_more, ends_of}
-use Rattle.node.proofs.passes.count_degrees.Goals as goal
-use Rattle.node.proofs.passes.count_degrees.Goals.{In-Some}
+use Rattle.onetree.proofs.degrees.count_degrees.Goals as goal
+use Rattle.onetree.proofs.degrees.count_degrees.Goals.{In-Some}
 
 abbrev Triples : Type 0
 Triples = Zip (Zip (Iter ℕ) (Iter ℕ)) (Iter ℕ)

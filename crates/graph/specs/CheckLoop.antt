@@ -46,7 +46,7 @@ module _ {X : Type 0} (f : X → Bool) where
   none_pass : (xs : List X) → fold (λ fit x. fit && f x) false xs ≡ false
   none_pass xs = fold_stays (λ fit x. fit && f x) false (λ x. refl) xs
 
-  passes_at : (xs : List X) (d : X) → all_pass xs ≡ true → (k : ℕ) → k < length xs → f (get_or xs k d) ≡ true
+  pub passes_at : (xs : List X) (d : X) → all_pass xs ≡ true → (k : ℕ) → k < length xs → f (get_or xs k d) ≡ true
   passes_at [] d h k l = absurd (omega arith)
   passes_at (x ∷ xs) d h k l =
       by_cases (f x) (λ t. at k l t (passes_at xs d (rw t at h))) (λ t. absurd (true≢false (sym h ∙ rw t (none_pass xs))))

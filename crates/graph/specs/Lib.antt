@@ -19,3 +19,4 @@ pub mod Parts
 pub mod PairTable
 pub mod Pigeonhole
 pub mod CheckLoop
+pub mod Rising

@@ -8,6 +8,7 @@ ghost use Rattle.graph.specs.Valid.{ends_ok, graph_fault, valid};
 ghost use Rattle.graph.specs.Refusals.{fault_of};
 ghost use Rattle.graph.specs.PairTable.{place_of};
 ghost use Rattle.graph.specs.CheckLoop.{sized, ends_fit, costs_fit, parts_fit, pair_again, InPairs};
+ghost use Rattle.graph.specs.Rising.{before, pairs_rise};
 
 use crate::{
     EXCLUDED, Graph, MAX_COST, MAX_EDGES, MAX_VERTICES, MIN_VERTICES, Refusal, VERTEX_PLACES,
@@ -41,6 +42,14 @@ fn edge_fits(n: u8, x: u8, y: u8, w: u8) -> bool
     ensures { result ≡ ends_ok n x y && leb w max_mark }
 {
     (1..y).contains(&x) && y <= n && w <= EXCLUDED
+}
+
+// Does the pair x, y come before the pair u, v?
+#[tactic(auto, unfolding(crate::specs::Rising::before))]
+fn before(x: u8, y: u8, u: u8, v: u8) -> bool
+    ensures { result ≡ before x y u v }
+{
+    x < u || x == u && y < v
 }
 
 // The place of the pair x, y in the table of pairs met.
@@ -104,6 +113,29 @@ impl Graph {
         again == 0
     }
 
+    // Does each pair of ends come before that of the next edge? By `&`, as `ends_fit`.
+    fn pairs_rise(&self) -> bool
+        ensures { result ≡ pairs_rise self.now }
+    {
+        let last = self.edges().saturating_sub(1);
+        self.a[..last]
+            .iter()
+            .zip(&self.b[..last])
+            .zip(&self.a[1..])
+            .zip(&self.b[1..])
+            .fold(true, |rise, (((x, y), u), v)| {
+                rise & before(*x, *y, *u, *v)
+            })
+    }
+
+    // The same as `pairs_fit`. Edges mostly stand row by row: then no table is made.
+    fn pairs_once(&self) -> bool
+        requires { (self.now.m ≤ max_edges) × InPairs self.now.a self.now.b self.now.m }
+        ensures { Says result (Nowhere (pair_again self.now.a self.now.b) self.now.m) }
+    {
+        self.pairs_rise() || self.pairs_fit()
+    }
+
     // Is all as it must be but that a pair may be there twice?
     fn parts_fit(&self) -> bool
         ensures { result ≡ parts_fit self.now }
@@ -117,7 +149,7 @@ impl Graph {
     pub fn check(&self) -> bool
         ensures { result ≡ valid self.now }
     {
-        self.parts_fit() && self.pairs_fit()
+        self.parts_fit() && self.pairs_once()
     }
 
     // Refusal 15 where it does not.

@@ -6,13 +6,16 @@ pub mod Least
 -- What follows is proved, or says what code knows.
 -- how large the numbers get: laws over the limits
 pub mod Fits
+pub mod AllWithin
 -- the array of charges, and the bound that a sum of them stands for
 pub mod Charging
 -- the order of the edges: keys, made from a hint or without, and sorted
 pub mod Falling
 pub mod Keys
 pub mod Making
+pub mod Passing
 pub mod Hinting
+pub mod Fronts
 pub mod Parting
 -- the greedy choice, edge by edge
 pub mod Relabelling

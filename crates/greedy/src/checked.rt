@@ -51,16 +51,22 @@ impl<'a> Checked<'a> {
         ensures { Searched q.q self.now.graph.now self.now.multipliers.now result.found lists.new
             × Looked (scaled_by q.q (network self.now.graph.now)) (multiplier self.now.multipliers.now) result.looked }
     {
+        // before all else: behind a loop the compiler writes its zeros twice
+        let mut meeting = Meeting::none();
         self.charge(q, &mut lists.charges);
         let charged = ChargedGraph {
             graph: self.graph,
             charges: &lists.charges,
         };
-        let mut meeting = Meeting::none();
-        charged.order(hint, &mut meeting);
+        let front = charged.order(hint, &mut meeting);
+        let chosen = charged.choose(
+            meeting.keys.as_mut_slice(),
+            front,
+            &mut lists.tree,
+            &mut lists.labels,
+        );
         let keys = meeting.keys.as_slice();
         order::places(keys, &mut lists.order);
-        let chosen = charged.choose(keys, &mut lists.tree, &mut lists.labels);
         let looked = chosen.looked;
         // no `map`: the contract that is inferred for its closure tells nothing of the bound (tried), and clauses of its own are longer than this `else`
         let Some(sum) = chosen.sum else {
@@ -83,6 +89,7 @@ impl<'a> Checked<'a> {
     // caller need not have done it. What was written of a tree that is none is wiped out.
     // Ruled out: of two 1-trees of equal bound the one with the higher-numbered edge; a byte of a tree that is none left standing; a hint that says how
     // many it lists and is wiped out.
+    #[inline(always)]
     pub fn least(&self, q: Denominator, hint: &[u8], lists: &mut Lists) -> Option<Found>
         ensures { Finds q.q self.now.graph.now self.now.multipliers.now result lists.new }
     {

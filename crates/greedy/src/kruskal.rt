@@ -8,11 +8,12 @@ ghost use Rattle.greedy.specs.Charged.{max_charge};
 ghost use Rattle.greedy.specs.ChoiceSoFar.{ChoiceSoFar, Lacking, TwoTaken};
 ghost use Rattle.greedy.specs.Keys.{AllKeyed, KeysOfEdges};
 ghost use Rattle.greedy.specs.Parting.{Reached};
-ghost use Rattle.lists.specs.Sorting.{Ascending};
+ghost use Rattle.greedy.specs.Fronts.{Front};
 ghost use Rattle.greedy.specs.Chosen.{ChosenIs};
 ghost use Rattle.tree_theory.specs.Arrays.{blank};
 
 use crate::charges::ChargedGraph;
+use crate::fronts::complete;
 use crate::order::{CHARGE_UNIT, FAR_KEYS, place};
 use graph::{MAX_EDGES, VERTEX_PLACES};
 
@@ -110,6 +111,41 @@ impl Grown {
     }
 }
 
+impl Grown {
+    ghost use Rattle.std.specs.Prelude.{List, drop};
+    ghost use Rattle.lists.specs.Sorting.{Shuffled};
+    ghost use Rattle.greedy.specs.Fronts.{Front, Completes};
+
+    // The same among the keys from place near on, of which the front is in order: where it is not enough, the others are put in order too. It is as if
+    // all had been in order.
+    fn grow_on(
+        &mut self,
+        charged: &ChargedGraph,
+        keys: &mut [u64],
+        near: usize,
+        front: usize,
+        enough: usize,
+        tree: &mut [u8; MAX_EDGES],
+    )
+        requires { KeysOfEdges charged.now.graph.now keys.old × Front front keys.old × (near + self.old.next ≤ front)
+            × ChoiceSoFar (network charged.now.graph.now) charged.now.charges.now (drop near keys.old) self.old.next self.old.labels tree.old
+            self.old.far self.old.sum }
+        ensures { Shuffled (length keys.old) keys.old keys.new × ((i : ℕ) → i < near → get_or keys.new i 0 ≡ get_or keys.old i 0)
+            × ((ls : List ℕ) × Completes front keys.old ls
+            × ChoiceSoFar (network charged.now.graph.now) charged.now.charges.now (drop near ls) self.new.next self.new.labels tree.new
+            self.new.far self.new.sum
+            × Lacking (network charged.now.graph.now) (drop near ls) enough self.old.next self.new.next
+            × (self.old.next ≤ self.new.next) × (near + self.new.next ≤ length ls)
+            × (near + self.new.next < length ls → enough ≤ self.new.far)) }
+    {
+        self.grow(charged, &keys[near..front], enough, tree);
+        if self.far < enough {
+            complete(keys, front);
+            self.grow(charged, &keys[near..], enough, tree);
+        }
+    }
+}
+
 // Is what was taken a 1-tree? near: how many edges at vertex 1 there were to choose two from, and must: how many of them are required; far: how many
 // others were taken. The required ones among these were taken first, and all must have joined two components. No struct has these six numbers, and
 // in place the four tests are branches, by which the proof of `choose` would have to go.
@@ -144,21 +180,22 @@ impl ChargedGraph<'_> {
         all
     }
 
-    // The choice among all edges by their keys: one byte for each that is taken into the tree, which is blank before, and the labels that the required ones
+    // The choice among all edges by their keys, of which the front is in order: one byte for each that is taken into the tree, which is blank before, and the labels that the required ones
     // give the vertices.
     pub(crate) fn choose(
         &self,
-        keys: &[u64],
+        keys: &mut [u64],
+        front: usize,
         tree: &mut [u8; MAX_EDGES],
         labels: &mut [u8; VERTEX_PLACES],
     ) -> Chosen
-        requires { AllKeyed self.now.graph.now self.now.charges.now keys.now (length keys.now) × Ascending (length keys.now) keys.now × (tree.old ≡ blank) }
-        ensures { ChosenIs self.now.graph.now self.now.charges.now tree.new labels.new result }
+        requires { AllKeyed self.now.graph.now self.now.charges.now keys.old (length keys.old) × Front front keys.old × (tree.old ≡ blank) }
+        ensures { ChosenIs self.now.graph.now self.now.charges.now tree.new labels.new result
+            × AllKeyed self.now.graph.now self.now.charges.now keys.new (length keys.new) }
     {
         let near = reached(keys, FAR_KEYS);
-        let at_1 = &keys[..near];
+        let must = reached(&keys[..near], CHARGE_UNIT);
         let away = &keys[near..];
-        let must = reached(at_1, CHARGE_UNIT);
         let required = reached(away, FAR_KEYS + CHARGE_UNIT);
         let n = usize::from(self.graph.n);
         let enough = n - 2;
@@ -167,8 +204,8 @@ impl ChargedGraph<'_> {
         grown.grow(self, &away[..required], MAX_EDGES, tree);
         let joined = grown.far;
         *labels = grown.labels;
-        grown.grow(self, away, enough, tree);
-        let sum = self.take_two(at_1, grown.sum, tree);
+        grown.grow_on(self, keys, near, front, enough, tree);
+        let sum = self.take_two(&keys[..near], grown.sum, tree);
         Chosen {
             sum: whole(n, near, must, grown.far, required, joined).then_some(sum),
             looked: grown.next - required,

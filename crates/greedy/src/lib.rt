@@ -7,6 +7,7 @@ ghost use Rattle.greedy.specs.Least.{blank_lists, LeastOrRefused};
 
 mod charges;
 mod checked;
+mod fronts;
 mod kruskal;
 mod order;
 mod refusals;

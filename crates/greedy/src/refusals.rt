@@ -1,7 +1,7 @@
 // Refusals 15, 11, 12, 13 and 32: what is wrong with a call's input. Each number is told at one place.
 ghost use Rattle.std.specs.Prelude.{◌≡◌, ◌≤◌, cond, not, IfOk};
-ghost use Rattle.std.specs.List.{list_all};
 ghost use Rattle.integers.specs.Range.{within};
+ghost use Rattle.greedy.specs.AllWithin.{all_within};
 ghost use Rattle.graph.specs.Limits.{max_denominator, max_multiplier};
 ghost use Rattle.graph.specs.Refusals.{fault_of};
 ghost use Rattle.tree_theory.specs.Inputs.{multipliers_fit, ceiling_fits, denominator_fits, denominator_fault, input_fault};
@@ -17,10 +17,13 @@ fn multiplier_fits(x: i32) -> bool
     (-MAX_MULTIPLIER..=MAX_MULTIPLIER).contains(&x)
 }
 
+// By `&`, as graph's `costs_fit`.
 fn all_fit(multipliers: &[i32]) -> bool
-    ensures { result ≡ list_all (within max_multiplier) multipliers.now }
+    ensures { result ≡ all_within max_multiplier multipliers.now }
 {
-    multipliers.iter().all(|x| multiplier_fits(*x))
+    multipliers
+        .iter()
+        .fold(true, |fit, x| fit & multiplier_fits(*x))
 }
 
 // Is each multiplier in its range, and that of vertex 1 zero?

@@ -64,6 +64,7 @@ impl<'a> Capped<'a> {
 
     // One tree, and from it everything: a ruling for each edge and 'keep' past them, 'keep' at every place where no 1-tree is within the ceiling. The rulings
     // are blanked before all else, as `least` does the other lists: the compiler then sees that a caller need not have done it.
+    #[inline(always)]
     pub(crate) fn judge(&self, lifting: bool, hint: &[u8], lists: &mut PassLists) -> Option<Found>
         ensures { AgainstCeiling lifting self.now.q.q self.now.checked.graph.now self.now.checked.multipliers.now (self.now.q.q times self.now.ceiling)
             result lists.new }

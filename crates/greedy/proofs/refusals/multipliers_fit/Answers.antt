@@ -1,20 +1,14 @@
 -- The chain asks `every_of`; then the first multiplier is looked at as bits.
 use Rattle.std.proofs.Common.{◌≡◌, ◌∙◌, refl, sym, ap, List, [], ◌∷◌, Bool, eqb, ℤ, pos, get_or, w32, to_z, of_z, eqb-true, arith}
 use Rattle.std.proofs.lemmas.Bool.{eqb-false}
-use Rattle.std.specs.List.{list_all}
-use Rattle.lists.specs.All.{every_of}
 use Rattle.lists.specs.Bools.{by_cases}
 use Rattle.integers.specs.Range.{within}
 use Rattle.integers.specs.Words.{back32}
 use Rattle.graph.specs.Limits.{max_multiplier}
 use Rattle.tree_theory.specs.Inputs.{multiplier, multipliers_fit}
 use Rattle.tree_theory.specs.Multipliers.{empty_fit, first_wrong}
+use Rattle.greedy.specs.AllWithin.{all_every}
 use Rattle.greedy.proofs.refusals.multipliers_fit.Goals as goal
-
-every : (f : ℤ → Bool) (d : List ℤ) → list_all f d ≡ every_of f d
-unfolding every_of
-every f [] = refl
-every f (x ∷ d) = rw (every f d)
 
 pub returns-then-is_empty : goal.returns-then-is_empty
 returns-then-is_empty c =
@@ -24,7 +18,7 @@ pub returns-else-is_empty : goal.returns-else-is_empty
 unfolding multiplier multipliers_fit within
 returns-else-is_empty c =
     let d = c.args.multipliers.now in
-    let all = sym (every (within max_multiplier) d) ∙ sym c.all_fit.ensures ∙ c.if-all_fit.true in
+    let all = sym (all_every max_multiplier d) ∙ sym c.all_fit.ensures ∙ c.if-all_fit.true in
     let back = back32 (get_or d 0 (pos 0)) (omega arith) in
     by_cases (eqb (of_z w32 (get_or d 0 (pos 0))) 0)
     (λ t. t ∙ rw (all, sym back ∙ ap (to_z w32) (eqb-true _ 0 t)))
@@ -33,4 +27,4 @@ returns-else-is_empty c =
 pub returns-else-all_fit : goal.returns-else-all_fit
 unfolding multipliers_fit
 returns-else-all_fit c =
-    c.if-all_fit.false ∙ rw (sym (every (within max_multiplier) c.args.multipliers.now) ∙ sym c.all_fit.ensures ∙ c.if-all_fit.false)
+    c.if-all_fit.false ∙ rw (sym (all_every max_multiplier c.args.multipliers.now) ∙ sym c.all_fit.ensures ∙ c.if-all_fit.false)

@@ -23,6 +23,7 @@ use Rattle.greedy.specs.Hinting.{keyed_hinted}
 use Rattle.greedy.specs.Kruskal.{Whole, found, missing, weighs, bit_at, past_none}
 use Rattle.greedy.specs.Chosen.{ChosenIs, SumOf}
 use Rattle.greedy.specs.Least.{blank_lists, Weighed, TreeFound}
+use Rattle.greedy.proofs.Sorted.{refilled}
 use Rattle.greedy.proofs.checked.Checked.find.Goals as goal
 
 module _ (q : ℕ) (g : Graph) (d : List ℤ) (after : Lists) (r : Chosen) (k : ChosenIs g after.charges after.tree after.labels r)
@@ -67,9 +68,10 @@ returns-in_default c =
     let q = c.args.q.q in
     let g = c.args.self.now.graph.now in
     let chosen = c.choose-chosen in
-    let weighed = weighed_of q g c.args.self.now.multipliers.now c.args.lists.now _ c.requires c.charge.ensures chosen.ensures.merges in
-    let none : SumOf g chosen.ensures.made None = rw c.in_default.is at chosen.ensures.sum in
-    ((weighed, missing g chosen.ensures.made q none), chosen.ensures.looked q _ weighed.charged)
+    let is = chosen.ensures.0 in
+    let weighed = weighed_of q g c.args.self.now.multipliers.now c.args.lists.now _ c.requires c.charge.ensures is.merges in
+    let none : SumOf g is.made None = rw c.in_default.is at is.sum in
+    ((weighed, missing g is.made q none), is.looked q _ weighed.charged)
 
 pub returns : goal.returns
 returns c =
@@ -77,17 +79,21 @@ returns c =
     let me = c.args.self.now in
     let g = me.graph.now in
     let d = me.multipliers.now in
-    let keys = c.order.new.meeting.keys.items in
     let chosen = c.choose-chosen in
+    let is = chosen.ensures.0 in
+    let olds : List ℕ = c.order-front.new.meeting.keys.items in
+    let keys : List ℕ = chosen.new.keys in
+    let size : length keys ≡ length olds = chosen.auto.keys ∙ ap length c.as_mut_slice.ensures.value in
+    let slice : List ℕ = c.as_slice-keys.result.now in
+    let same : slice ≡ keys = c.as_slice-keys.ensures.value ∙ refilled olds keys size in
     let low = c.bound in
     let after : Lists = record { tree = chosen.new.tree; charges = c.charge.new.charges; order = c.places.new.order; labels = chosen.new.labels } in
-    let weighed : Weighed q g d after = weighed_of q g d c.args.lists.now after c.requires c.charge.ensures chosen.ensures.merges in
+    let weighed : Weighed q g d after = weighed_of q g d c.args.lists.now after c.requires c.charge.ensures is.merges in
     let hinted : Hinted g.mark g.m after.order (length keys) =
-    keyed_hinted g after.charges keys (length keys) after.order me.valid.few c.order.ensures.0
-    (rw c.as_slice-keys.ensures.value at c.places.ensures.0) c.places.ensures.1 in
-    let whole : SumOf g chosen.ensures.made (Some c.in-Some.sum) = rw c.in-Some.is at chosen.ensures.sum in
+    keyed_hinted g after.charges keys (length keys) after.order me.valid.few chosen.ensures.1 (rw same at c.places.ensures.0) c.places.ensures.1 in
+    let whole : SumOf g is.made (Some c.in-Some.sum) = rw c.in-Some.is at is.sum in
     rw (back64 low.result low.type_inv) (
-      tree_found q g d after chosen.result chosen.ensures me.valid weighed (length keys) hinted (record { bound = low.result; live = length c.as_slice-keys.result.now }) (ap length c.as_slice-keys.ensures.value)
+      tree_found q g d after chosen.result is me.valid weighed (length keys) hinted (record { bound = low.result; live = length slice }) (ap length same)
           c.in-Some.sum whole low.ensures low.type_inv,
-      chosen.ensures.looked q d weighed.charged,
+      is.looked q d weighed.charged,
     )

@@ -1,4 +1,4 @@
-"""Document 01's four-buoy sea from Python: its least 1-tree, its rulings, its cheapest round. Run with PYTHONPATH=python."""
+"""Document 01's four-buoy sea from Python: its least 1-tree, its rulings, its cheapest round, one with a buoy ashore. Run with PYTHONPATH=python."""
 import planner
 
 graph = planner.Graph(4, [(1, 2, 4), (1, 3, 3), (1, 4, 5), (2, 3, 2), (2, 4, 6), (3, 4, 1)])
@@ -6,6 +6,8 @@ print(planner.tree(graph))
 print(planner.rule(graph, 12))
 answer = planner.solve(graph)  # or planner.solve("examples/four.txt")
 print(answer.cost, planner.order(graph, answer.tour))
+ashore = [0, 0, 0, 1]  # a byte a buoy: buoy 4 is ashore
+print(planner.solve(graph, ashore=ashore).tour, planner.tree(graph, ashore=ashore))
 
 search = planner.Search()  # the calls on a record, as methods
 search.open(graph, ceiling=12)

@@ -1,4 +1,4 @@
-//! Document 01's four-vertex sea: its least 1-tree, its rulings and its cheapest tour. Build and run: see README.
+//! Document 01's four-vertex sea: its least 1-tree, its rulings, its cheapest tour, and the same tree with vertex 4 ashore. Build and run: see README.
 
 use planner::{rule, tree, Edge, Graph, Refusal, Ruled, Search, Settings, Told, Tree, Verdict};
 
@@ -17,11 +17,12 @@ fn main() -> Result<(), Refusal> {
     ];
     let graph = Graph::from_edges(4, &edges.map(|(a, b, cost)| Edge::free(a, b, cost)));
     let (multipliers, denominator) = ([0; 4], 1);
+    let afloat = [0; 4]; // a byte for each vertex: 0 afloat, 1 ashore
 
-    if let Tree::Found { bound, edges } = tree(&graph, &multipliers, denominator)? {
+    if let Tree::Found { bound, edges } = tree(&graph, &multipliers, &afloat, denominator)? {
         println!("tree {bound}:{}", line(edges.iter().map(|x| *x as u8)));
     }
-    if let Ruled::Within { rulings, .. } = rule(&graph, &multipliers, 12, denominator)? {
+    if let Ruled::Within { rulings, .. } = rule(&graph, &multipliers, &afloat, 12, denominator)? {
         println!("rulings at 12:{}", line(rulings.iter().map(|x| *x as u8)));
     }
 
@@ -33,7 +34,7 @@ fn main() -> Result<(), Refusal> {
         lifting: 0,
     };
     let mut search = Search::fresh();
-    search.open(&graph, &multipliers, settings)?;
+    search.open(&graph, &multipliers, &afloat, settings)?;
     search.run(1_000_000)?;
     if let Told {
         verdict: Verdict::Best(cost),
@@ -46,5 +47,12 @@ fn main() -> Result<(), Refusal> {
             line(tour.iter().map(|x| *x as u8))
         );
     }
-    search.close()
+    search.close()?;
+
+    let ashore = [0, 0, 0, 1];
+    if let Tree::Found { bound, edges } = tree(&graph, &multipliers, &ashore, denominator)? {
+        let tree = line(edges.iter().map(|x| *x as u8));
+        println!("with 4 ashore tree {bound}:{tree}");
+    }
+    Ok(())
 }

@@ -1,22 +1,27 @@
 /* The route planner for C and C++. `make` builds build/libplanner.a and build/libplanner.so; installed, `pkg-config --cflags --libs planner`
  * says how to compile and link.
  *
- * Every call takes any values, answers and ends. It answers a planner_reply (planner_simulate a planner_sailed): `number` is 0 where the call is accepted, a code from 1000 on, or
- * the number of a refusal with its `place`; `value` and `nodes` are what the call says they are. A field without a value is 0. A refusal
- * leaves everything lent as it was. What each call promises is proved: see crates/ffi/specs. The proofs take for granted what C cannot check:
- * no pointer is null, not even with length 0, each leads to as much memory as the call is told, and no two parts that are lent overlap.
+ * Every call takes any values, answers and ends. It answers a planner_reply (planner_simulate a planner_sailed): `number` is 0 where the call is
+ * accepted, a code from 1000 on, or the number of a refusal with its `place`; `value` and `nodes` are what the call says they are. A field without
+ * a value is 0. A refusal leaves everything lent as it was. What each call promises is proved: see crates/ffi/specs. The proofs take for granted
+ * what C cannot check: no pointer is null, not even with length 0, each leads to as much memory as the call is told, and no two parts that are
+ * lent overlap.
  *
  * Refusals. Reading: 1 under 8 bytes; 2 n not 3 to 20; 3 a header zero byte not zero; 4 r over 1,000 or a wrong length; 5 head or next above
  * r; 6 record met before; 7 not 1 <= a < b <= n; 8 mark above 2 or a zero byte not zero; 9 cost not -100,000,000 to 100,000,000; 10 pair met
  * before.
  * Other calls: 15 a graph that breaks the rules, those of costs as in 9; 11 a list of wrong length; 12 a multiplier not -1,000,000 to 1,000,000,
  * or the first not 0; 13 ceiling not -5,000,000,000 to 5,000,000,000; 14 sweeps not 0 to 15, or step not 0 to 10,000; 32 the denominator is not
- * 1 to 1,000; 30 a preview of no edge, or of a mark that is not 1 or 2; 31 of an edge that is not free; 36 edges that are not a tour of all
- * vertices in sailing order from vertex 1; 37 a student number not 0 to 65,535, or a spread not 0 to 1,000; 38 a window that is not 1 to 32; 39 a
- * log entry that names no edge or a time that is no cost as in 9, with its place from 1. Of a record: 24 it fails its check; 20 no search is open;
- * 21 one is open; 22 show while going on; 23 show after 'none'. Of a shelf: 24 a place fails its check; 33 a name that
- * is not 1 to 8; 34 nothing stands under the name. Of a dispatcher: 24 it fails its check; 40 a turn of 0 nodes; 41 a ninth search; 42 a place
- * that is not 1 to 8; 20 a place that holds no search.
+ * 1 to 1,000; 35 a byte of the list ashore above 1, vertex 1 ashore, or fewer than three vertices afloat; 30 a preview of no edge, or of a mark
+ * that is not 1 or 2; 31 of an edge that is not free; 36 edges that are not a tour of all vertices in sailing order from vertex 1; 37 a student
+ * number not 0 to 65,535, or a spread not 0 to 1,000; 38 a window that is not 1 to 32; 39 a log entry that names no edge or a time that is no cost
+ * as in 9, with its place from 1. Of a record: 24 it fails its check; 20 no search is open; 21 one is open; 22 show while going on; 23 show after
+ * 'none'. Of a shelf: 24 a place fails its check; 33 a name that is not 1 to 8; 34 nothing stands under the name. Of a dispatcher: 24 it fails its
+ * check; 40 a turn of 0 nodes; 41 a ninth search; 42 a place that is not 1 to 8; 20 a place that holds no search.
+ *
+ * The list ashore, where a call takes one, has a byte for each vertex, 1 ashore and 0 afloat. Tours and 1-trees are over the vertices afloat alone
+ * and have as many edges; an edge that touches a vertex ashore counts as excluded, whatever its mark, and the vertex's multiplier as 0 (it must be
+ * one that 12 allows all the same). With n zeros no vertex is ashore.
  */
 #ifndef PLANNER_H
 #define PLANNER_H
@@ -91,17 +96,19 @@ typedef struct {
 } planner_terms;
 
 /* A search record (docs/RECORD.md). Begin with planner_fresh; write nothing in it. A node of the stack is two rows of bits, that of its required
- * edges and then that of its excluded ones: edge k is bit (k - 1) % 64 of a row's word (k - 1) / 64. */
+ * edges and then that of its excluded ones: edge k is bit (k - 1) % 64 of a row's word (k - 1) / 64. A node's multipliers are those of the vertices
+ * afloat alone, in their order: the node at place p has them from carried[20 * p] on. */
 typedef struct {
     planner_settings settings;
     int64_t upper;
     uint64_t count;
     uint64_t stack[PLANNER_NODES * 2 * PLANNER_ROW];
-    uint32_t depth;
+    uint64_t depth;
     planner_graph graph;
     int32_t multipliers[PLANNER_VERTICES];
     int32_t carried[PLANNER_NODES * PLANNER_VERTICES];
     uint8_t best[PLANNER_EDGES];
+    uint8_t ashore[PLANNER_VERTICES];
     uint8_t open, has_best;
 } planner_search;
 
@@ -128,19 +135,19 @@ planner_reply planner_read(planner_graph *g, const uint8_t *bytes, size_t length
 planner_reply planner_write(planner_graph g, uint8_t *out, size_t length);
 
 /* The least 1-tree: 0 with its bound as value, in parts as the denominator says, and in out a byte for each edge, 1 in, 0 out; or PLANNER_NONE,
- * which leaves out as it was; 15, 11, 12 or 32. */
-planner_reply planner_tree(planner_graph g, const int32_t *multipliers, size_t multipliers_length, uint64_t denominator, uint8_t *out,
-                          size_t length);
+ * which leaves out as it was; 15, 11, 12, 32 or 35. */
+planner_reply planner_tree(planner_graph g, const int32_t *multipliers, size_t multipliers_length, const uint8_t *ashore, size_t ashore_length,
+                          uint64_t denominator, uint8_t *out, size_t length);
 
-/* The least 1-tree of a copy of the graph in which the free edge (1 to m) has the mark 1 or 2, as planner_tree answers; 15, 11, 12, 32, 30 or
- * 31. */
-planner_reply planner_preview(planner_graph g, const int32_t *multipliers, size_t multipliers_length, uint64_t denominator, size_t edge,
-                             uint32_t mark, uint8_t *out, size_t length);
+/* The least 1-tree of a copy of the graph in which the free edge (1 to m) has the mark 1 or 2, as planner_tree answers; 15, 11, 12, 32, 35,
+ * 30 or 31. The edge is free by its mark in the graph, even where it touches a vertex ashore. */
+planner_reply planner_preview(planner_graph g, const int32_t *multipliers, size_t multipliers_length, const uint8_t *ashore, size_t ashore_length,
+                             uint64_t denominator, size_t edge, uint32_t mark, uint8_t *out, size_t length);
 
 /* The rulings: 0 with the bound as value, in parts as the denominator says, and in out a byte for each edge, 0 keep, 1 force, 2 bar, 3 already
- * required, 4 already excluded; or PLANNER_NONE, which leaves out as it was; 15, 11, 12, 13 or 32. */
-planner_reply planner_rule(planner_graph g, const int32_t *multipliers, size_t multipliers_length, int64_t ceiling, uint64_t denominator,
-                          uint8_t *out, size_t length);
+ * required, 4 already excluded or touching a vertex ashore; or PLANNER_NONE, which leaves out as it was; 15, 11, 12, 13, 32 or 35. */
+planner_reply planner_rule(planner_graph g, const int32_t *multipliers, size_t multipliers_length, const uint8_t *ashore, size_t ashore_length,
+                          int64_t ceiling, uint64_t denominator, uint8_t *out, size_t length);
 
 /* Each edge's cost becomes the greatest of its last w times (1 to PLANNER_WINDOW) in a log, entry i of which is edges[i] (1 to m) with times[i]; an
  * edge with fewer times uses those it has, one with none keeps its cost. Nothing else in *g changes; 0, or 15, 11, 38, or 39 with the place of the
@@ -153,17 +160,17 @@ planner_sailed planner_simulate(planner_graph g, const size_t *edges, size_t edg
                                 size_t length);
 
 /* A search without a record for each pair of sweeps and step, of 1 to 16 pairs, each with the whole budget: into report, of one number a pair, the
- * count with which it finishes, or 0 if it is still going on; 0, 15, 11, 12, 13, 14 or 32. */
-planner_reply planner_compare(planner_graph g, const int32_t *multipliers, size_t multipliers_length, planner_terms terms,
-                             const uint32_t *sweeps, size_t sweeps_length, const uint32_t *steps, size_t steps_length, uint64_t *report,
-                             size_t length);
+ * count with which it finishes, or 0 if it is still going on; 0, 15, 11, 12, 13, 14, 32 or 35. */
+planner_reply planner_compare(planner_graph g, const int32_t *multipliers, size_t multipliers_length, const uint8_t *ashore, size_t ashore_length,
+                             planner_terms terms, const uint32_t *sweeps, size_t sweeps_length, const uint32_t *steps, size_t steps_length,
+                             uint64_t *report, size_t length);
 
 /* A fresh record. */
 planner_search planner_fresh(void);
 
-/* Opens a search; 0, 24, 21, 15, 11, 12, 13, 14 or 32. */
-planner_reply planner_open(planner_search *s, planner_graph g, const int32_t *multipliers, size_t multipliers_length,
-                          planner_settings settings);
+/* Opens a search; 0, 24, 21, 15, 11, 12, 13, 14, 32 or 35. */
+planner_reply planner_open(planner_search *s, planner_graph g, const int32_t *multipliers, size_t multipliers_length, const uint8_t *ashore,
+                          size_t ashore_length, planner_settings settings);
 
 /* Opens at most budget nodes; PLANNER_GOING_ON or PLANNER_FINISHED with the count as nodes; 24 or 20. */
 planner_reply planner_run(planner_search *s, uint64_t budget);
@@ -190,9 +197,9 @@ planner_reply planner_back(planner_search *s, const planner_shelf *shelf, size_t
 /* A dispatcher that holds no search. */
 planner_dispatcher planner_fresh_dispatcher(void);
 
-/* Opens a search at the free place with the smallest number; 0 with that place; 24, 41, 15, 11, 12, 13, 14 or 32. */
-planner_reply planner_add(planner_dispatcher *d, planner_graph g, const int32_t *multipliers, size_t multipliers_length,
-                         planner_settings settings);
+/* Opens a search at the free place with the smallest number; 0 with that place; 24, 41, 15, 11, 12, 13, 14, 32 or 35. */
+planner_reply planner_add(planner_dispatcher *d, planner_graph g, const int32_t *multipliers, size_t multipliers_length, const uint8_t *ashore,
+                         size_t ashore_length, planner_settings settings);
 
 /* Opens at most p nodes of the next unfinished search after the place last served, in cyclic order; 0 with its place, or PLANNER_IDLE where
  * there is none and nothing changes; 24 or 40. */
@@ -221,12 +228,12 @@ PLANNER_ASSERT(sizeof(planner_settings) == 32);
 PLANNER_ASSERT(offsetof(planner_settings, ceiling) == 0 && offsetof(planner_settings, sweeps) == 8);
 PLANNER_ASSERT(offsetof(planner_settings, step) == 12 && offsetof(planner_settings, denominator) == 16);
 PLANNER_ASSERT(offsetof(planner_settings, lifting) == 24);
-PLANNER_ASSERT(sizeof(planner_search) == 4472);
+PLANNER_ASSERT(sizeof(planner_search) == 4496);
 PLANNER_ASSERT(offsetof(planner_search, settings) == 0 && offsetof(planner_search, upper) == 32 && offsetof(planner_search, count) == 40);
-PLANNER_ASSERT(offsetof(planner_search, stack) == 48 && offsetof(planner_search, depth) == 1104 && offsetof(planner_search, graph) == 1108);
-PLANNER_ASSERT(offsetof(planner_search, multipliers) == 2440 && offsetof(planner_search, carried) == 2520);
-PLANNER_ASSERT(offsetof(planner_search, best) == 4280);
-PLANNER_ASSERT(offsetof(planner_search, open) == 4470 && offsetof(planner_search, has_best) == 4471);
+PLANNER_ASSERT(offsetof(planner_search, stack) == 48 && offsetof(planner_search, depth) == 1104 && offsetof(planner_search, graph) == 1112);
+PLANNER_ASSERT(offsetof(planner_search, multipliers) == 2444 && offsetof(planner_search, carried) == 2524);
+PLANNER_ASSERT(offsetof(planner_search, best) == 4284 && offsetof(planner_search, ashore) == 4474);
+PLANNER_ASSERT(offsetof(planner_search, open) == 4494 && offsetof(planner_search, has_best) == 4495);
 PLANNER_ASSERT(sizeof(planner_shelf) == PLANNER_PLACES * sizeof(planner_search));
 PLANNER_ASSERT(sizeof(planner_dispatcher) == sizeof(size_t) + PLANNER_PLACES * sizeof(planner_search));
 PLANNER_ASSERT(offsetof(planner_dispatcher, last) == 0 && offsetof(planner_dispatcher, places) == sizeof(size_t));

@@ -8,6 +8,9 @@ use ::planner::Settings;
 
 pub struct Ours(Box<raw::Record>);
 
+/// No vertex is ashore, for up to 20 (document 02, C-20): the references know no such list.
+pub const AFLOAT: [u8; VERTICES] = [0; VERTICES];
+
 impl Ours {
     pub fn new() -> Ours {
         // SAFETY: the call takes nothing.
@@ -35,8 +38,9 @@ impl Planner for Ours {
             denominator: 1,
             lifting: job.lifting,
         };
-        let record = &mut *self.0;
-        let said = unsafe { raw::planner_open(record, job.graph.0, d.as_ptr(), d.len(), settings) };
+        let (record, g, n) = (&mut *self.0, job.graph.0, d.len());
+        let (d, a) = (d.as_ptr(), AFLOAT.as_ptr());
+        let said = unsafe { raw::planner_open(record, g, d, n, a, n, settings) };
         assert_eq!(said.number, raw::ACCEPTED, "open refused");
     }
 
@@ -87,11 +91,13 @@ impl Planner for Ours {
 
     fn tree(&mut self, graph: &Graph, d: &[i32], out: &mut [u8]) -> Option<i64> {
         let (list, length) = (out.as_mut_ptr(), out.len());
-        bound(unsafe { raw::planner_tree(graph.0, d.as_ptr(), d.len(), 1, list, length) })
+        let (g, n, d, a) = (graph.0, d.len(), d.as_ptr(), AFLOAT.as_ptr());
+        bound(unsafe { raw::planner_tree(g, d, n, a, n, 1, list, length) })
     }
 
     fn rule(&mut self, graph: &Graph, d: &[i32], ceiling: i64, out: &mut [u8]) -> Option<i64> {
         let (list, length) = (out.as_mut_ptr(), out.len());
-        bound(unsafe { raw::planner_rule(graph.0, d.as_ptr(), d.len(), ceiling, 1, list, length) })
+        let (g, n, d, a) = (graph.0, d.len(), d.as_ptr(), AFLOAT.as_ptr());
+        bound(unsafe { raw::planner_rule(g, d, n, a, n, ceiling, 1, list, length) })
     }
 }

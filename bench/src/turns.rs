@@ -3,6 +3,7 @@
 use crate::clock::time;
 use crate::inputs::{self, Kind};
 use crate::lines::{Ceiling, Options};
+use crate::ours::AFLOAT;
 use crate::table::number;
 use ::planner::raw::PLACES;
 use ::planner::{Dispatcher, Search, Settings};
@@ -22,10 +23,10 @@ fn eight(kind: Kind) -> (Dispatcher, Vec<Search>) {
             denominator: 1,
             lifting: 0,
         };
-        let place = class.add(&graph.0, &[0; 20], settings);
+        let place = class.add(&graph.0, &[0; 20], &AFLOAT, settings);
         assert_eq!(place, Ok(number as usize), "add refused");
         let mut alone = Search::fresh();
-        let opened = alone.open(&graph.0, &[0; 20], settings);
+        let opened = alone.open(&graph.0, &[0; 20], &AFLOAT, settings);
         assert_eq!(opened, Ok(()), "open refused");
         alone
     };

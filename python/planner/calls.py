@@ -1,8 +1,8 @@
 """A script of calls, one answer a line: what a line says is sent to the library as it is, and the library judges it.
 
 One search record, one shelf of saved searches and one dispatcher serve the whole script. Settings print nothing: the current chart ('sea',
-'chart'), the dues, the length of the next list that is lent ('list'), the denominator, lifting. Calls print one line: tree, preview, rule,
-recent, simulate, compare, open, run, tell, show, close, save, back, add, turn, tellat, showat, closeat.
+'chart'), the dues, the length of the next list that is lent ('list'), the denominator, lifting, who is ashore. Calls print one line: tree, preview,
+rule, recent, simulate, compare, open, run, tell, show, close, save, back, add, turn, tellat, showat, closeat.
 """
 from __future__ import annotations
 
@@ -51,7 +51,7 @@ class Script:
         self.use(Graph(0))
         self.settings: dict[str, Callable[[list[str]], None]] = {
             "sea": self.sea, "dues": self.set_dues, "list": self.set_list, "denominator": self.set_denominator,
-            "lifting": self.set_lifting,
+            "lifting": self.set_lifting, "ashore": self.set_ashore,
         }  # fmt: skip
         self.calls: dict[str, Callable[..., Answer]] = {name: getattr(self, name) for name in FORMS}
 
@@ -59,7 +59,7 @@ class Script:
 
     def use(self, graph: Graph) -> None:
         """A chart becomes the current one, and every other setting what it is at first."""
-        self.graph, self.dues = graph, [0] * graph.n
+        self.graph, self.dues, self.ashore = graph, [0] * graph.n, [0] * graph.n
         self.length: int | None = None
         self.denominator, self.lifting = 1, False
 
@@ -103,6 +103,10 @@ class Script:
         (word,) = taken(words, "lifting yes|no")
         self.lifting = yes_or_no(word, "lifting")
 
+    def set_ashore(self, words: list[str]) -> None:
+        """Who is ashore: bytes, any number of them."""
+        self.ashore = [whole_number(word, "byte", BYTE) for word in words]
+
     def next_length(self) -> int:
         """The length of the list for this call; a length said serves one call."""
         length = self.graph.m if self.length is None else self.length
@@ -113,17 +117,17 @@ class Script:
 
     def tree(self) -> Answer:
         """The least 1-tree."""
-        return said_tree(tree(self.graph, self.dues, self.next_length(), self.denominator))
+        return said_tree(tree(self.graph, self.dues, self.next_length(), self.denominator, self.ashore))
 
     def preview(self, leg: str, mark: str) -> Answer:
         """The least 1-tree if a leg had a mark."""
         number, byte = whole_number(leg, "leg", UINT64), whole_number(mark, "mark", UINT32)
-        return said_tree(preview(self.graph, number, byte, self.dues, self.next_length(), self.denominator))
+        return said_tree(preview(self.graph, number, byte, self.dues, self.next_length(), self.denominator, self.ashore))
 
     def rule(self, ceiling: str) -> Answer:
         """The rulings under a ceiling."""
         number = whole_number(ceiling, "ceiling", INT64)
-        found = rule(self.graph, number, self.dues, self.next_length(), self.denominator)
+        found = rule(self.graph, number, self.dues, self.next_length(), self.denominator, self.ashore)
         if found is None:
             return "dead", {"verdict": "dead"}
         return f"bound {found.bound} rulings {listed(found.rulings)}", {"bound": found.bound, "rulings": found.rulings}
@@ -147,13 +151,13 @@ class Script:
         """A hunt for each pair of sweeps and step."""
         read = [pair(word) for word in pairs]
         top, allowance = whole_number(ceiling, "ceiling", INT64), whole_number(budget, "budget", UINT64)
-        counts = compare(self.graph, top, allowance, read, self.dues, self.denominator, self.lifting)
+        counts = compare(self.graph, top, allowance, read, self.dues, self.denominator, self.lifting, self.ashore)
         return f"nodes {listed(counts)}", {"nodes": counts}
 
     def open(self, ceiling: str, sweeps: str, step: str) -> Answer:
         """An opening."""
         number, passes, gain = whole_number(ceiling, "ceiling", INT64), whole_number(sweeps, "sweeps", UINT32), whole_number(step, "step", UINT32)
-        self.search.open(self.graph, number, passes, gain, self.dues, self.denominator, self.lifting)
+        self.search.open(self.graph, number, passes, gain, self.dues, self.denominator, self.lifting, self.ashore)
         return "accepted", {"verdict": "accepted"}
 
     def run(self, budget: str) -> Answer:
@@ -193,7 +197,7 @@ class Script:
     def add(self, ceiling: str, sweeps: str, step: str) -> Answer:
         """A hunt more for the dispatcher."""
         numbers = whole_number(ceiling, "ceiling", INT64), whole_number(sweeps, "sweeps", UINT32), whole_number(step, "step", UINT32)
-        place = self.dispatcher.add(self.graph, *numbers, self.dues, self.denominator, self.lifting)
+        place = self.dispatcher.add(self.graph, *numbers, self.dues, self.denominator, self.lifting, self.ashore)
         return f"place {place}", {"place": place}
 
     def turn(self, nodes: str) -> Answer:
@@ -230,7 +234,7 @@ class Script:
             self.settings[name](rest)
             return None
         if name not in self.calls:
-            raise Faults(f"'{shown(name)}' is unknown; allowed are sea, chart, dues, list, denominator, lifting, {', '.join(FORMS)}")
+            raise Faults(f"'{shown(name)}' is unknown; allowed are sea, chart, dues, list, denominator, lifting, ashore, {', '.join(FORMS)}")
         try:
             return self.calls[name](*taken(rest, FORMS[name]))
         except Refused as refused:

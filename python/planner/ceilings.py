@@ -4,6 +4,7 @@ from __future__ import annotations
 from collections.abc import Callable, Iterator, Sequence
 from typing import NamedTuple, TypeVar
 
+from .ashore import Ashore
 from .library import Graph, Rulings, rule
 
 T = TypeVar("T")
@@ -41,12 +42,14 @@ def changes(answer: Callable[[int], T], high: int, low: int) -> Iterator[tuple[i
         yield above, here
 
 
-def falling(graph: Graph, high: int, low: int, multipliers: Sequence[int] | None = None, denominator: int = 1) -> Falling | None:
+def falling(
+    graph: Graph, high: int, low: int, multipliers: Sequence[int] | None = None, denominator: int = 1, ashore: Ashore = None
+) -> Falling | None:
     """What the rule call says from the ceiling `high` down to `low`; None where the sea is dead at `high`."""
 
     def answer(ceiling: int) -> Rulings | None:
         """The call at one ceiling."""
-        return rule(graph, ceiling, multipliers, denominator=denominator)
+        return rule(graph, ceiling, multipliers, denominator=denominator, ashore=ashore)
 
     before = answer(high)
     if before is None:

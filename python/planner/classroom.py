@@ -7,26 +7,29 @@ from __future__ import annotations
 from collections.abc import Callable, Iterator, Sequence
 from typing import NamedTuple
 
+from .ashore import Ashore
 from .library import HIGHEST_TOUR, STEPS, SWEEPS, Dispatcher, Graph
-from .search import SWEEP_SHARE, Answer, ascent_of, guessed_cost, lifts, spread, within
+from .search import SWEEP_SHARE, Answer, ascent_of, between_afloat, guessed_cost, lifts, spread, within
 
 TURN = 1_000  # nodes of a turn: some hundredths of a second at 20 vertices
 
 
 class Hunt(NamedTuple):
-    """A sea of the class: its number among the files, the sea, and the ceiling that is asked about."""
+    """A sea of the class: its number among the files, the sea, the ceiling that is asked about, and who is ashore."""
 
     number: int
     graph: Graph
     ceiling: int
+    ashore: Ashore = None
 
 
 def add(dispatcher: Dispatcher, hunt: Hunt) -> int:
     """A hunt with dues, sweeps, step, denominator and lifting that fit its sea; its place."""
-    ascent = ascent_of(hunt.graph)
-    step = within(spread(hunt.graph, ascent.denominator) // SWEEP_SHARE, STEPS[1:])
+    graph, ashore = between_afloat(hunt.graph, hunt.ashore), hunt.ashore
+    ascent = ascent_of(graph, ashore)
+    step = within(spread(graph, ascent.denominator) // SWEEP_SHARE, STEPS[1:])
     dues = ascent.reach(hunt.ceiling)
-    return dispatcher.add(hunt.graph, hunt.ceiling, SWEEPS[-1], step, dues, ascent.denominator, lifts(hunt.graph))
+    return dispatcher.add(hunt.graph, hunt.ceiling, SWEEPS[-1], step, dues, ascent.denominator, lifts(graph, ashore), ashore)
 
 
 class Class:
@@ -36,10 +39,10 @@ class Class:
         self.dispatcher = Dispatcher()
         self.hunts: dict[int, Hunt] = {}
 
-    def join(self, number: int, graph: Graph, ceiling: int | None) -> None:
+    def join(self, number: int, graph: Graph, ceiling: int | None, ashore: Ashore = None) -> None:
         """One more sea. Without a ceiling a round found by guesswork gives the first one."""
-        guess = guessed_cost(graph) if ceiling is None else ceiling
-        hunt = Hunt(number, graph, HIGHEST_TOUR if guess is None else guess)
+        guess = guessed_cost(graph, ashore) if ceiling is None else ceiling
+        hunt = Hunt(number, graph, HIGHEST_TOUR if guess is None else guess, ashore)
         self.hunts[add(self.dispatcher, hunt)] = hunt
 
     def answers(self, turn: int, nodes: int, only: bool, progress: Callable[[int, int], None]) -> Iterator[tuple[int, Answer]]:

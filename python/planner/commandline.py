@@ -13,7 +13,7 @@ from . import formats
 from .calls import pair
 from .classroom import TURN
 from .faults import Faults, shown, span, whole_number, yes_or_no
-from .library import DENOMINATORS, HIGHEST_TOUR, INT32, INT64, UINT32, UINT64, WINDOWS
+from .library import BYTE, DENOMINATORS, HIGHEST_TOUR, INT32, INT64, MOST_VERTICES, UINT32, UINT64, WINDOWS
 from .output import OutputLost, complain, say, silence
 from .search import LONG
 from .subcommands import (
@@ -89,6 +89,16 @@ def dues(text: str) -> list[int]:
     return [read(word) for word in text.replace(",", " ").split()]
 
 
+def ashore(text: str) -> tuple[int, ...]:
+    """Buoys of the command line: 4,7. Which of them there are in a sea is known when it is read."""
+    read = number_of("buoy", BYTE, range(2, MOST_VERTICES + 1))
+    buoys = sorted(read(word) for word in text.replace(",", " ").split())
+    for buoy, following in zip(buoys, buoys[1:]):
+        if buoy == following:
+            raise argparse.ArgumentTypeError(f"buoy {buoy} stands twice; allowed is each buoy once")
+    return tuple(buoys)
+
+
 class Command(NamedTuple):
     """A subcommand: its name, what it does, in code and in words, its arguments, and an example."""
 
@@ -109,6 +119,12 @@ DUES = {
         "help": f"dues, step and bounds count in Q-ths of a minute, Q {DENOMINATORS[0]} to {DENOMINATORS[-1]:,} (1)",
     },
 }  # fmt: skip
+ASHORE = {
+    "--ashore": {
+        "metavar": "B,B,..", "type": ashore, "default": (),
+        "help": "buoys that are ashore, not buoy 1: rounds call at the others, and legs that touch these count as struck",
+    },
+}  # fmt: skip
 JSON = {"--json": {"action": "store_true", "help": "print one JSON object a line"}}
 
 PAIRS_SAID = "0/0,1/1,2/1,5/2,15/1,15/10"
@@ -117,7 +133,7 @@ PAIRS = pairs(PAIRS_SAID)
 COMMANDS = (
     Command(
         "solve", on_graph(run_solve), "the cheapest round, its cost and its legs",
-        {**FILE, "--ceiling": {**CEILING, "help": "only rounds that cost at most this"}, "--nodes": MOST, **JSON},
+        {**FILE, "--ceiling": {**CEILING, "help": "only rounds that cost at most this"}, **ASHORE, "--nodes": MOST, **JSON},
         "solve examples/sea.txt",
     ),
     Command(
@@ -125,20 +141,21 @@ COMMANDS = (
         {
             **FILE, "--ceiling": {**CEILING, "help": "the highest cost of interest"},
             "--ceilings": {**CEILING, "nargs": 2, "metavar": ("HIGH", "LOW"), "help": "instead: which rulings appear where as the ceiling falls"},
-            **DUES, **JSON,
+            **DUES, **ASHORE, **JSON,
         },
         "rule examples/four.txt --ceiling 12",
     ),
     Command(
         "tree", on_graph(run_tree), "the cheapest 1-tree, its bound and its legs",
-        {**FILE, **DUES, **JSON},
+        {**FILE, **DUES, **ASHORE, **JSON},
         "tree examples/four.txt --dues 0,0,1,-1",
     ),
     Command(
         "preview", on_graph(run_preview), "what requiring or striking a free leg would do to the bound",
         {
             **FILE, "leg": {"metavar": "LEG", "nargs": "?", "type": number_of("leg", UINT64), "help": "its number; every free leg if not said"},
-            "mark": {"metavar": "MARK", "nargs": "?", "type": mark, "help": "required or struck, 1 or 2"}, **DUES, **JSON,
+            "mark": {"metavar": "MARK", "nargs": "?", "type": mark, "help": "required or struck, 1 or 2"}, **DUES, **ASHORE,
+            **JSON,
         },
         "preview examples/four.txt 1 struck",
     ),
@@ -171,7 +188,7 @@ COMMANDS = (
             **FILE, "--pairs": {"metavar": "S/P,..", "type": pairs, "default": PAIRS, "help": f"sweeps and step, 1 to 16 pairs ({PAIRS_SAID})"},
             "--ceiling": {**CEILING, "default": HIGHEST_TOUR, "help": "only rounds that cost at most this"},
             "--allowance": {"metavar": "N", "type": number_of("allowance", UINT64), "default": 10_000, "help": "nodes for each pair (10,000)"},
-            **DUES,
+            **DUES, **ASHORE,
             "--lifting": {
                 "metavar": "yes|no", "type": lifting, "default": False,
                 "help": "yes: try each leg that a pass keeps again under dues lifted for it alone; as a rule fewer nodes, each takes longer (no)",
@@ -185,7 +202,9 @@ COMMANDS = (
         {
             "files": {"metavar": "FILE", "nargs": "+", "help": FILE["file"]["help"]},
             "--turn": {"metavar": "P", "type": number_of("nodes of a turn", UINT64), "default": TURN, "help": f"nodes of a turn ({TURN:,})"},
-            "--ceiling": {**CEILING, "help": "only rounds that cost at most this"}, "--nodes": MOST, **JSON,
+            "--ceiling": {**CEILING, "help": "only rounds that cost at most this"},
+            "--ashore": {**ASHORE["--ashore"], "help": "buoys that are ashore in every sea, not buoy 1: rounds call at the others"},
+            "--nodes": MOST, **JSON,
         },
         "class examples/four.txt examples/sea.txt",
     ),
@@ -193,6 +212,7 @@ COMMANDS = (
         "regrade", run_regrade, "hold the recorded costs of a folder of charts to the library",
         {
             "folder": {"metavar": "FOLDER", "help": "charts, and costs.txt (lines 'NAME COST' or 'NAME none') or costs.csv (name,cost)"},
+            "--ashore": {**ASHORE["--ashore"], "help": "buoys that are ashore in every chart, not buoy 1: rounds call at the others"},
             "--csv": {"action": "store_true", "help": "print CSV"}, "--nodes": MOST, **JSON,
         },
         "regrade examples/regrade",
@@ -209,7 +229,7 @@ COMMANDS = (
         "draw", on_graph(run_draw), "draw a sea with its cheapest round, as SVG",
         {
             **FILE, "out": {"metavar": "OUT", "nargs": "?", "default": "-", "help": "the file to write; standard output if not said"},
-            "--ceiling": {**CEILING, "help": "also show what this ceiling forces and bars"},
+            "--ceiling": {**CEILING, "help": "also show what this ceiling forces and bars"}, **ASHORE,
             "--no-round": {"action": "store_true", "help": "leave the round out"}, "--nodes": MOST,
         },
         "draw examples/sea.txt sea.svg --ceiling 350",
@@ -220,7 +240,7 @@ COMMANDS = (
             **FILE, "-o": {"dest": "out", "metavar": "OUT", "default": "-", "help": "the file to write, .html; standard output if not said"},
             "--high": {**CEILING, "help": "the highest ceiling to show; just above the first that rules something if not said"},
             "--low": {**CEILING, "help": "the lowest; the first at which the sea is dead if not said"},
-            **DUES, "--no-round": {"action": "store_true", "help": "leave the round out"}, "--nodes": MOST,
+            **DUES, **ASHORE, "--no-round": {"action": "store_true", "help": "leave the round out"}, "--nodes": MOST,
         },
         "page examples/sea.txt -o sea.html",
     ),

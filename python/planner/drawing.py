@@ -1,12 +1,13 @@
-"""A sea as SVG: its legs and costs, what a ceiling rules, the cheapest round."""
+"""A sea as SVG: its legs and costs, what a ceiling rules, the cheapest round, buoys that are ashore."""
 from __future__ import annotations
 
 import textwrap
 from html import escape
 
+from .ashore import KINDS, Ashore, afloat, marked, touching
 from .faults import shown
 from .layout import HEIGHT, MARGIN, RADIUS, Box, Line, Point, circle, cost_boxes, lines, scaled, separated, together
-from .library import MARKS, RULINGS, Graph, Rulings
+from .library import MARKS, Graph, Rulings
 from .search import Answer, order
 
 HEADING, LEGEND = 44, 262
@@ -16,6 +17,7 @@ MOST_COSTS = 60  # beyond so many edges only the costs of the tour and of requir
 # What an edge is, in the order drawn: words for the legend, and how it looks. Dash and width say it too, and blue and orange are told apart by
 # whoever cannot tell red from green.
 STYLES = {
+    "ashore": ("to a buoy ashore", 'stroke="#7b8896" stroke-width="1.2" stroke-dasharray="9 3 1.5 3"'),
     "struck": ("struck", 'stroke="#6f7c8b" stroke-width="1.3" stroke-dasharray="1.5 4" stroke-linecap="round"'),
     "bar": ("barred", 'stroke="#b8430a" stroke-width="1.8" stroke-dasharray="8 5"'),
     "free": ("free", 'stroke="#5f7890" stroke-width="1.8"'),
@@ -24,8 +26,16 @@ STYLES = {
     "required": ("required", 'stroke="#14213d" stroke-width="6"'),
 }
 TOUR = 'stroke="#fbcb5b" stroke-width="15" stroke-linecap="round"'
-FAINT = ("struck", "bar", "free", "keep")
+BUOY = 'fill="#fff" stroke="#14213d" stroke-width="2.5"'
+HAULED_OUT = 'fill="#e8f2f9" stroke="#7b8896" stroke-width="1.8" stroke-dasharray="4 3"'  # hollow: as the water is
+FAINT = ("ashore", "struck", "bar", "free", "keep")
 THIN = ' stroke-opacity="0.3"'  # of faint edges where there are many
+
+
+def buoys(graph: Graph, ashore: Ashore) -> str:
+    """How many vertices there are, and how many of them are ashore."""
+    out = graph.n - len(afloat(graph, ashore))
+    return f"{graph.n} buoys" + (f", {out} ashore" if out else "")
 
 
 def text(x: float, y: float, words: object, look: str) -> str:
@@ -48,9 +58,15 @@ class Drawing:
     with_positions = (720, 560)  # the field, without heading and legend
     on_a_circle = (560, 42)  # the field's side: at least so much, and so much for each vertex
 
-    def __init__(self, name: str, graph: Graph, answer: Answer | None, rulings: Rulings | None, ceiling: int | None):
-        self.name, self.graph = shown(name), graph
-        self.kinds = [RULINGS[byte] for byte in rulings.rulings] if rulings else [MARKS[edge.mark] for edge in graph.edges]
+    def __init__(
+        self, name: str, graph: Graph, answer: Answer | None, rulings: Rulings | None, ceiling: int | None, ashore: Ashore = None
+    ):
+        self.name, self.graph, self.ashore = shown(name), graph, ashore
+        self.out, touched = set(range(1, graph.n + 1)).difference(afloat(graph, ashore)), touching(graph, ashore)
+        ruled = marked(rulings, touched)
+        self.kinds = [KINDS[byte] for byte in ruled.rulings] if ruled else [
+            "ashore" if number in touched else MARKS[edge.mark] for number, edge in enumerate(graph.edges, 1)
+        ]  # fmt: skip
         self.tour = {number - 1 for number in answer.tour} if answer else set()
         self.told = [f"rulings at ceiling {ceiling}", f"bound {rulings.bound}"] if rulings else []
         self.notes: list[str] = []  # on the drawing itself
@@ -67,11 +83,11 @@ class Drawing:
         self.boxes = self.costs()
 
     def placed(self, answer: Answer | None) -> dict[int, Point]:
-        """Where the vertices stand: as the positions say, or on a circle in the order of the tour. What was moved is noted."""
+        """Where the vertices stand: as the positions say, or on a circle in the order of the tour, those ashore last. What was moved is noted."""
         positions = self.positions
         if not positions:
-            along = order(self.graph, answer.tour)[:-1] if answer and answer.tour else range(1, self.graph.n + 1)
-            positions = circle(along)
+            tour = answer.tour if answer else ()
+            positions = circle([*order(self.graph, tour, self.ashore)[:-1], *sorted(self.out)] if tour else range(1, self.graph.n + 1))
         exact = scaled(positions, self.graph.n, self.field)
         moved = separated(exact, self.field)
         shared = together(self.positions)
@@ -102,7 +118,7 @@ class Drawing:
         legend, depth = self.legend()
         width, height = self.field[0] + LEGEND, max(self.field[1] + HEADING, depth + 24)
         name = self.name if len(self.name) <= LONGEST_NAME else self.name[: LONGEST_NAME - 2] + ".."
-        heading = f"{name}: {self.graph.n} buoys, {self.graph.m} legs"
+        heading = f"{name}: {buoys(self.graph, self.ashore)}, {self.graph.m} legs"
         parts = [
             f'<svg xmlns="http://www.w3.org/2000/svg" width="{width}" height="{height}" viewBox="0 0 {width} {height}" '
             'font-family="DejaVu Sans, Verdana, Helvetica, Arial, sans-serif">',
@@ -132,8 +148,9 @@ class Drawing:
         """The vertices with their numbers."""
         drawn = []
         for vertex, (x, y) in sorted(self.places.items()):
-            drawn.append(f'<circle cx="{x:.1f}" cy="{y:.1f}" r="{RADIUS}" fill="#fff" stroke="#14213d" stroke-width="2.5"/>')
-            drawn.append(text(x, y + 5, vertex, 'font-size="14" font-weight="bold" fill="#14213d" text-anchor="middle"'))
+            look, words = (HAULED_OUT, 'fill="#56697c"') if vertex in self.out else (BUOY, 'font-weight="bold" fill="#14213d"')
+            drawn.append(f'<circle cx="{x:.1f}" cy="{y:.1f}" r="{RADIUS}" {look}/>')
+            drawn.append(text(x, y + 5, vertex, f'font-size="14" {words} text-anchor="middle"'))
         return drawn
 
     def draw_costs(self) -> list[str]:
@@ -154,6 +171,10 @@ class Drawing:
             inset = 7 if look == TOUR else 0
             drawn.append(stroke(Line((x + inset, y), (x + 46 - inset, y)), look))
             drawn.append(text(x + 62, y + 4.5, words, 'font-size="14" fill="#14213d"'))
+            y += 30
+        if self.out:
+            drawn.append(f'<circle cx="{x + 23}" cy="{y}" r="{RADIUS - 4}" {HAULED_OUT}/>')
+            drawn.append(text(x + 62, y + 4.5, f"buoy ashore: {len(self.out)}", 'font-size="14" fill="#14213d"'))
             y += 30
         for note in self.told + self.notes:
             for words in textwrap.wrap(note, 32, break_on_hyphens=False):

@@ -65,6 +65,7 @@ MEANINGS = {
     32: "the denominator is not 1 to 1,000",
     33: "no such name; names are 1 to 8",
     34: "nothing is saved under the name",
+    35: "the list of buoys ashore; allowed is that each byte is 0 or 1, buoy 1 is afloat, and at least three buoys are",
     36: "the legs are not a round of all buoys in sailing order from buoy 1",
     37: "the student number or the spread is out of range",
     38: "the number of last times not 1 to 32",
@@ -120,11 +121,12 @@ class CSearch(ctypes.Structure):
         ("upper", c_int64),
         ("count", c_uint64),
         ("stack", c_uint64 * (MOST_NODES * 2 * ROW_WORDS)),
-        ("depth", c_uint32),
+        ("depth", c_uint64),
         ("graph", CGraph),
         ("multipliers", c_int32 * MOST_VERTICES),
         ("carried", c_int32 * (MOST_NODES * MOST_VERTICES)),
         ("best", c_uint8 * MOST_EDGES),
+        ("ashore", c_uint8 * MOST_VERTICES),
         ("open", c_uint8),
         ("has_best", c_uint8),
     ]
@@ -140,24 +142,24 @@ class CDispatcher(ctypes.Structure):
 
 Reply = TypeVar("Reply", CReply, CSailed)
 
-for struct, size in ((CReply, 32), (CGraph, 1_332), (CSettings, 32), (CSailed, 32), (CTerms, 32), (CSearch, 4_472)):
+for struct, size in ((CReply, 32), (CGraph, 1_332), (CSettings, 32), (CSailed, 32), (CTerms, 32), (CSearch, 4_496)):
     assert ctypes.sizeof(struct) == size, f"{struct.__name__} is not as the library has it"
 
 _BYTES, _RECORD, _SHELF, _DISPATCHER = POINTER(c_uint8), POINTER(CSearch), POINTER(CShelf), POINTER(CDispatcher)
-_DUES = (POINTER(c_int32), c_size_t)
+_LISTS = (POINTER(c_int32), c_size_t, _BYTES, c_size_t)  # the multipliers, and who is ashore
 _PAIR = (POINTER(c_uint32), c_size_t)
 _CALLS = {
     "planner_check": (CReply, (CGraph,)),
     "planner_read": (CReply, (POINTER(CGraph), _BYTES, c_size_t)),
     "planner_write": (CReply, (CGraph, _BYTES, c_size_t)),
-    "planner_tree": (CReply, (CGraph, *_DUES, c_uint64, _BYTES, c_size_t)),
-    "planner_preview": (CReply, (CGraph, *_DUES, c_uint64, c_size_t, c_uint32, _BYTES, c_size_t)),
-    "planner_rule": (CReply, (CGraph, *_DUES, c_int64, c_uint64, _BYTES, c_size_t)),
+    "planner_tree": (CReply, (CGraph, *_LISTS, c_uint64, _BYTES, c_size_t)),
+    "planner_preview": (CReply, (CGraph, *_LISTS, c_uint64, c_size_t, c_uint32, _BYTES, c_size_t)),
+    "planner_rule": (CReply, (CGraph, *_LISTS, c_int64, c_uint64, _BYTES, c_size_t)),
     "planner_recent": (CReply, (POINTER(CGraph), c_size_t, POINTER(c_size_t), c_size_t, POINTER(c_int32), c_size_t)),
     "planner_simulate": (CSailed, (CGraph, POINTER(c_size_t), c_size_t, c_uint64, c_uint64, POINTER(c_int64), c_size_t)),
-    "planner_compare": (CReply, (CGraph, *_DUES, CTerms, *_PAIR, *_PAIR, POINTER(c_uint64), c_size_t)),
+    "planner_compare": (CReply, (CGraph, *_LISTS, CTerms, *_PAIR, *_PAIR, POINTER(c_uint64), c_size_t)),
     "planner_fresh": (CSearch, ()),
-    "planner_open": (CReply, (_RECORD, CGraph, *_DUES, CSettings)),
+    "planner_open": (CReply, (_RECORD, CGraph, *_LISTS, CSettings)),
     "planner_run": (CReply, (_RECORD, c_uint64)),
     "planner_tell": (CReply, (_RECORD,)),
     "planner_show": (CReply, (_RECORD, _BYTES, c_size_t)),
@@ -166,7 +168,7 @@ _CALLS = {
     "planner_save": (CReply, (_SHELF, _RECORD, c_size_t)),
     "planner_back": (CReply, (_RECORD, _SHELF, c_size_t)),
     "planner_fresh_dispatcher": (CDispatcher, ()),
-    "planner_add": (CReply, (_DISPATCHER, CGraph, *_DUES, CSettings)),
+    "planner_add": (CReply, (_DISPATCHER, CGraph, *_LISTS, CSettings)),
     "planner_turn": (CReply, (_DISPATCHER, c_uint64)),
     "planner_tell_at": (CReply, (_DISPATCHER, c_size_t)),
     "planner_show_at": (CReply, (_DISPATCHER, c_size_t, _BYTES, c_size_t)),
@@ -233,10 +235,13 @@ def _list(right: int, length: int | None = None) -> tuple[ctypes.Array[c_uint8],
     return (c_uint8 * max(1, min(told, MOST_LENT)))(), told
 
 
-def _multipliers(graph: Graph, values: Sequence[int] | None) -> tuple[ctypes.Array[c_int32], int]:
-    """Multipliers to lend, any number of them, and how many there are; zeros if none are said."""
-    numbers = [0] * graph.n if values is None else [_fits(value, INT32, "due") for value in values]
-    return (c_int32 * max(1, len(numbers)))(*numbers), len(numbers)
+def _lists(
+    graph: Graph, multipliers: Sequence[int] | None, ashore: Sequence[int] | None
+) -> tuple[ctypes.Array[c_int32], int, ctypes.Array[c_uint8], int]:
+    """Multipliers and the list ashore to lend, each of any length, with their lengths; zeros where none are said."""
+    dues = [0] * graph.n if multipliers is None else [_fits(value, INT32, "due") for value in multipliers]
+    out = [0] * graph.n if ashore is None else [_fits(value, BYTE, "byte of the list ashore") for value in ashore]
+    return (c_int32 * max(1, len(dues)))(*dues), len(dues), (c_uint8 * max(1, len(out)))(*out), len(out)
 
 
 # Graphs
@@ -320,7 +325,8 @@ class Tree(NamedTuple):
 
 
 class Rulings(NamedTuple):
-    """The bound, in such parts too, and a ruling for each edge: 0 keep, 1 force, 2 bar, 3 already required, 4 already struck (RULINGS has the words)."""
+    """The bound, in such parts too, and a ruling for each edge: 0 keep, 1 force, 2 bar, 3 already required, 4 already struck or touching a vertex
+    ashore (RULINGS has the words)."""
 
     bound: int
     rulings: tuple[int, ...]
@@ -331,37 +337,41 @@ def _chosen(out: ctypes.Array[c_uint8], m: int) -> tuple[int, ...]:
     return tuple(number for number, byte in enumerate(out[:m], 1) if byte)
 
 
-def tree(graph: Graph, multipliers: Sequence[int] | None = None, length: int | None = None, denominator: int = 1) -> Tree | None:
+def tree(
+    graph: Graph, multipliers: Sequence[int] | None = None, length: int | None = None, denominator: int = 1, ashore: Sequence[int] | None = None
+) -> Tree | None:
     """The least 1-tree, or None for 'no tree'. The length is that of the list lent; the right one is m.
 
-    Multipliers and the bound count in parts of a minute, so many to the minute as the denominator says.
+    Multipliers and the bound count in parts of a minute, so many to the minute as the denominator says. The list ashore has a byte for each vertex,
+    1 ashore and 0 afloat; if it is not said, none is ashore. Trees and rounds are over the vertices afloat.
     """
     out, told = _list(graph.m, length)
-    lent, count = _multipliers(graph, multipliers)
-    q = _fits(denominator, UINT64, "denominator")
-    said = _accepted(library().planner_tree(graph.c, lent, count, q, out, told))
+    lent, q = _lists(graph, multipliers, ashore), _fits(denominator, UINT64, "denominator")
+    said = _accepted(library().planner_tree(graph.c, *lent, q, out, told))
     return None if said.number == NONE else Tree(said.value, _chosen(out, graph.m))
 
 
 def preview(
-    graph: Graph, edge: int, mark: int, multipliers: Sequence[int] | None = None, length: int | None = None, denominator: int = 1
-) -> Tree | None:
+    graph: Graph, edge: int, mark: int, multipliers: Sequence[int] | None = None, length: int | None = None, denominator: int = 1,
+    ashore: Sequence[int] | None = None,
+) -> Tree | None:  # fmt: skip
     """The least 1-tree of a copy in which this free edge has this mark (1 required, 2 struck), or None for 'no tree'."""
     out, told = _list(graph.m, length)
-    lent, count = _multipliers(graph, multipliers)
+    lent = _lists(graph, multipliers, ashore)
     edge, mark, q = _fits(edge, UINT64, "leg"), _fits(mark, UINT32, "mark"), _fits(denominator, UINT64, "denominator")
-    said = _accepted(library().planner_preview(graph.c, lent, count, q, edge, mark, out, told))
+    said = _accepted(library().planner_preview(graph.c, *lent, q, edge, mark, out, told))
     return None if said.number == NONE else Tree(said.value, _chosen(out, graph.m))
 
 
 def rule(
-    graph: Graph, ceiling: int, multipliers: Sequence[int] | None = None, length: int | None = None, denominator: int = 1
-) -> Rulings | None:
+    graph: Graph, ceiling: int, multipliers: Sequence[int] | None = None, length: int | None = None, denominator: int = 1,
+    ashore: Sequence[int] | None = None,
+) -> Rulings | None:  # fmt: skip
     """The rulings under a ceiling, in minutes, or None for 'dead'. The length is that of the list lent; the right one is m."""
     out, told = _list(graph.m, length)
-    lent, count = _multipliers(graph, multipliers)
+    lent = _lists(graph, multipliers, ashore)
     ceiling, q = _fits(ceiling, INT64, "ceiling"), _fits(denominator, UINT64, "denominator")
-    said = _accepted(library().planner_rule(graph.c, lent, count, ceiling, q, out, told))
+    said = _accepted(library().planner_rule(graph.c, *lent, ceiling, q, out, told))
     return None if said.number == NONE else Rulings(said.value, tuple(out[: graph.m]))
 
 
@@ -404,10 +414,10 @@ def simulate(graph: Graph, edges: Sequence[int], student: int, spread: int) -> S
 
 def compare(
     graph: Graph, ceiling: int, budget: int, pairs: Sequence[tuple[int, int]], multipliers: Sequence[int] | None = None, denominator: int = 1,
-    lifting: bool = False,
+    lifting: bool = False, ashore: Sequence[int] | None = None,
 ) -> tuple[int, ...]:  # fmt: skip
     """For each pair of sweeps and step the count with which a search finishes, or 0 if it is still going on after the whole budget."""
-    lent, count = _multipliers(graph, multipliers)
+    lent = _lists(graph, multipliers, ashore)
     size, room = len(pairs), max(1, len(pairs))
     sweeps = (c_uint32 * room)(*(_fits(pair[0], UINT32, "sweeps") for pair in pairs))
     steps = (c_uint32 * room)(*(_fits(pair[1], UINT32, "step") for pair in pairs))
@@ -415,7 +425,7 @@ def compare(
     terms = CTerms(
         _fits(ceiling, INT64, "ceiling"), _fits(budget, UINT64, "budget"), _fits(denominator, UINT64, "denominator"), _fits(lifting, UINT64, "lifting")
     )
-    _accepted(library().planner_compare(graph.c, lent, count, terms, sweeps, size, steps, size, report, size))
+    _accepted(library().planner_compare(graph.c, *lent, terms, sweeps, size, steps, size, report, size))
     return tuple(report[:size])
 
 
@@ -465,15 +475,15 @@ class Search:
 
     def open(
         self, graph: Graph, ceiling: int, sweeps: int = 0, step: int = 0, multipliers: Sequence[int] | None = None, denominator: int = 1,
-        lifting: bool = False,
+        lifting: bool = False, ashore: Sequence[int] | None = None,
     ) -> None:  # fmt: skip
         """Opens a search. Multipliers and step count in parts of a minute, as the denominator says; the ceiling in minutes.
 
         With lifting each edge that a pass keeps is tried again under multipliers lifted for it alone: as a rule the search opens fewer nodes,
-        and each takes longer; the verdict and the cost are the same.
+        and each takes longer; the verdict and the cost are the same. Tours are over the vertices afloat, those whose byte of the list is 0.
         """
-        lent, count = _multipliers(graph, multipliers)
-        _accepted(library().planner_open(self.record, graph.c, lent, count, _settings(ceiling, sweeps, step, denominator, lifting)))
+        lent = _lists(graph, multipliers, ashore)
+        _accepted(library().planner_open(self.record, graph.c, *lent, _settings(ceiling, sweeps, step, denominator, lifting)))
 
     def run(self, budget: int, progress: Callable[[Search], None] | None = None) -> Ran:
         """Opens at most so many nodes, in pieces, so that a program can be interrupted and see how far it is.
@@ -543,11 +553,11 @@ class Dispatcher:
 
     def add(
         self, graph: Graph, ceiling: int, sweeps: int = 0, step: int = 0, multipliers: Sequence[int] | None = None, denominator: int = 1,
-        lifting: bool = False,
+        lifting: bool = False, ashore: Sequence[int] | None = None,
     ) -> int:  # fmt: skip
         """Opens a search, as that of Search does, at the free place with the smallest number, which is answered."""
-        lent, count = _multipliers(graph, multipliers)
-        return _accepted(library().planner_add(self.record, graph.c, lent, count, _settings(ceiling, sweeps, step, denominator, lifting))).place
+        lent = _lists(graph, multipliers, ashore)
+        return _accepted(library().planner_add(self.record, graph.c, *lent, _settings(ceiling, sweeps, step, denominator, lifting))).place
 
     def turn(self, nodes: int) -> int | None:
         """At most so many nodes for the next unfinished search after the one last served; its place, or None where there is none."""

@@ -9,7 +9,8 @@ from collections.abc import Iterable, Sequence
 from fractions import Fraction
 from html import escape
 
-from .drawing import STYLES
+from .ashore import KINDS
+from .drawing import STYLES, buoys
 from .faults import shown
 from .library import CEILINGS, MARKS, RULINGS
 from .page_picture import RANKS, Picture, kinds_of
@@ -18,7 +19,7 @@ from .page_style import style
 from .search import Answer
 from .showing import BAR, FORCE, Showing, Stop
 
-WORDS = {**{kind: words for kind, (words, _) in STYLES.items()}, "dead": "dead"}
+WORDS = {**{kind: words for kind, (words, _) in STYLES.items()}, "ashore": "ashore", "dead": "dead"}
 MOST_NEW = 12  # legs named of those that become forced or barred at one ceiling
 NOTHING = "\N{EN DASH}"
 COLUMNS = (
@@ -31,6 +32,7 @@ MEANINGS = {
     "barred": "no round within the ceiling has it",
     "kept": "the 1-trees show neither",
     "required, struck": "as the chart has it",
+    "ashore": "a buoy that is hauled out: rounds leave it out, and a leg that touches it has no part in any",
     "dead": "no round is within the ceiling",
     "no tree": "with that mark there would be no 1-tree, so no round",
 }
@@ -85,7 +87,7 @@ class Page:
         self.graph, self.stops = showing.graph, stops
         self.round = answer if answer and answer.verdict == "cost" else None  # that can be laid
         # At the lowest living ceiling everything is ruled that any ceiling rules, so that each cost that is ever wanted has its room.
-        self.picture = Picture(name, self.graph, answer, showing.fullest, None)
+        self.picture = Picture(name, self.graph, answer, showing.fullest, None, showing.ashore)
         self.names = [f"{edge.a}-{edge.b}" for edge in self.graph.edges]
         self.costs = [str(edge.cost) for edge in self.graph.edges]
 
@@ -121,6 +123,8 @@ class Page:
     def ruled(self, number: int) -> str:
         """At which ceilings an edge is ruled, in words."""
         mark = MARKS[self.graph.edges[number - 1].mark]
+        if number in self.showing.touched:
+            return "buoy ashore"
         if mark != "free":
             return "in the chart"
         if number not in self.showing.ruled:
@@ -149,8 +153,8 @@ class Page:
     def facts(self) -> dict[str, object]:
         """All of it."""
         return {
-            "kinds": RULINGS,
-            "words": [WORDS[kind] for kind in RULINGS],
+            "kinds": KINDS,
+            "words": [WORDS[kind] for kind in KINDS],
             "ranks": RANKS,
             "stops": [self.stop_facts(stop) for stop in self.stops],
             "legs": [self.leg_facts(number) for number in range(1, self.graph.m + 1)],
@@ -159,11 +163,11 @@ class Page:
         }
 
     def stop_facts(self, stop: Stop) -> dict[str, object]:
-        """A ceiling: a digit for each leg, as the rule call has them, or null for 'dead'."""
+        """A ceiling: a digit for each leg, as the rule call has them, one of its own where a buoy is ashore; or null for 'dead'."""
         return {
             "ceiling": stop.ceiling,
             "rulings": "".join(map(str, stop.found.rulings)) if stop.found else None,
-            "counts": self.counted(stop, range(len(RULINGS))) if stop.found else None,
+            "counts": self.counted(stop, range(len(KINDS))) if stop.found else None,
             "new": stop.new,
             "says": self.says(stop),
             "news": self.news(stop),
@@ -196,7 +200,7 @@ class Page:
 
     def strip(self) -> str:
         """The heading and the controls."""
-        heading = element("h1", escape(self.name)) + element("p", f"{self.graph.n} buoys, {self.graph.m} leg{'' if self.graph.m == 1 else 's'}")
+        heading = element("h1", escape(self.name)) + element("p", f"{buoys(self.graph, self.showing.ashore)}, {self.graph.m} leg{'' if self.graph.m == 1 else 's'}")
         last = len(self.stops) - 1
         mover = "".join([
             element("button", "&#9664;", type="button", id="higher", aria_label="higher ceiling", title="higher ceiling"),
@@ -214,7 +218,9 @@ class Page:
         first = self.stops[0]
         says = f"The sea at ceiling {first.ceiling}. The table has the same facts."
         met = [kind for kind in reversed(STYLES) if any(kind in kinds_of(stop.found, self.graph.m) for stop in self.stops)]
-        rows = [self.sample(kind, f'{WORDS[kind]} <b id="count-{kind}">{self.count(first, kind)}</b>') for kind in met]
+        rows = [self.sample(kind, f'{STYLES[kind][0]} <b id="count-{kind}">{self.count(first, kind)}</b>') for kind in met]
+        if self.picture.out:
+            rows.append(self.hauled_out())
         if self.round:
             rows.append(self.sample("round", f'{escape(self.round_words())}<span id="above"></span>', "in-round"))
         notes = [*([self.round_words()] if self.answer and not self.round else []), *self.picture.notes]
@@ -223,7 +229,7 @@ class Page:
 
     def count(self, stop: Stop, kind: str) -> object:
         """How many edges are of a kind."""
-        return self.counted(stop, [RULINGS.index(kind)])[0] if stop.found else NOTHING
+        return self.counted(stop, [KINDS.index(kind)])[0] if stop.found else NOTHING
 
     def sample(self, kind: str, words: str, class_: str | None = None) -> str:
         """A line of the legend."""
@@ -231,6 +237,11 @@ class Page:
         line = f'<path class="sample {kind}" d="{"M10 10H50" if kind == "round" else "M4 10H56"}"/>'
         drawn = element("svg", line + core, viewBox="0 0 60 20", aria_hidden="true")
         return element("li", drawn + element("span", words), class_=class_)
+
+    def hauled_out(self) -> str:
+        """A line of the legend for the buoys ashore."""
+        drawn = element("svg", '<circle class="buoy out" cx="30" cy="10" r="8"/>', viewBox="0 0 60 20", aria_hidden="true")
+        return element("li", drawn + element("span", f"buoy ashore <b>{len(self.picture.out)}</b>"))
 
     def aside(self) -> str:
         """Beside the picture: the ceiling in words, the leg that is pointed at, the table."""
@@ -281,5 +292,6 @@ class Page:
         keys = element("h2", "Keys") + defined({key: does for key, does in KEYS.items() if self.round or key != "R"}) + element("p", switch)
         low, high = self.stops[-1].ceiling, self.stops[0].ceiling
         reach = f"Ceilings {low} to {high} can be shown. What is ruled stays ruled under every lower ceiling, until the sea is dead."
-        words = element("h2", "Words") + defined(MEANINGS)
+        meanings = {word: meaning for word, meaning in MEANINGS.items() if self.picture.out or word != "ashore"}
+        words = element("h2", "Words") + defined(meanings)
         return element("footer", words + element("div", keys, class_="keys") + element("p", escape(reach)) + element("p", escape(source)), class_="about")

@@ -3,9 +3,10 @@ from __future__ import annotations
 
 from collections.abc import Callable, Iterable, Sequence
 
+from .ashore import KINDS
 from .drawing import MOST_COSTS, STYLES, Drawing, stroke, text
 from .layout import HEIGHT, RADIUS
-from .library import REQUIRED, RULINGS, Rulings
+from .library import Rulings
 
 AROUND = 38  # between what is drawn and the picture's edge
 RANKS = ("dead", *STYLES)  # what lies on top of what
@@ -13,7 +14,7 @@ RANKS = ("dead", *STYLES)  # what lies on top of what
 
 def kinds_of(found: Rulings | None, m: int) -> list[str]:
     """What each edge is under these rulings, None being 'dead'."""
-    return [RULINGS[ruling] for ruling in found.rulings] if found else ["dead"] * m
+    return [KINDS[ruling] for ruling in found.rulings] if found else ["dead"] * m
 
 
 class Picture(Drawing):
@@ -33,7 +34,7 @@ class Picture(Drawing):
             *self.layer("bands", sorted(self.tour), lambda k: f'id="band-{k + 1}" class="band"'),
             *self.layer("halos", range(self.graph.m), lambda k: f'id="halo-{k + 1}" class="halo"'),
             *self.layer("lines", self.ranked(kinds), lambda k: f'id="line-{k + 1}" class="line {kinds[k]}"'),
-            *self.layer("cores", [k for k, edge in enumerate(self.graph.edges) if edge.mark == REQUIRED], lambda k: 'class="core"'),
+            *self.layer("cores", [k for k, kind in enumerate(self.kinds) if kind == "required"], lambda k: 'class="core"'),
             *self.layer("hits", range(self.graph.m), lambda k: f'id="leg-{k + 1}" class="hit" data-leg="{k + 1}"'),
             '<g class="buoys" aria-hidden="true">', *self.draw_vertices(), "</g>",
             '<g class="costs" aria-hidden="true">', *self.draw_costs(), "</g>",
@@ -62,8 +63,9 @@ class Picture(Drawing):
         """The vertices with their numbers."""
         drawn = []
         for vertex, (x, y) in sorted(self.places.items()):
-            drawn.append(f'<circle class="buoy" cx="{x:.1f}" cy="{y:.1f}" r="{RADIUS}"/>')
-            drawn.append(text(x, y + 5, vertex, 'class="number" text-anchor="middle"'))
+            out = " out" if vertex in self.out else ""
+            drawn.append(f'<circle class="buoy{out}" cx="{x:.1f}" cy="{y:.1f}" r="{RADIUS}"/>')
+            drawn.append(text(x, y + 5, vertex, f'class="number{out}" text-anchor="middle"'))
         return drawn
 
     def draw_costs(self) -> list[str]:

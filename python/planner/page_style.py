@@ -3,7 +3,7 @@ from __future__ import annotations
 
 import re
 
-from .drawing import FAINT, STYLES, THIN, TOUR
+from .drawing import BUOY, FAINT, HAULED_OUT, STYLES, THIN, TOUR
 
 
 def declared(look: str) -> str:
@@ -15,7 +15,8 @@ def strokes() -> str:
     """The looks of `draw`, as styles."""
     looks = [f".line.{kind}, .sample.{kind} {{ {declared(look)} }}" for kind, (_, look) in STYLES.items()]
     faint = ", ".join(f".many .line.{kind}" for kind in FAINT)
-    return "\n".join([*looks, f".band, .sample.round {{ {declared(TOUR)} }}", f"{faint} {{ {declared(THIN)} }}"])
+    buoys = f".buoy {{ {declared(BUOY)} }}\n.buoy.out {{ {declared(HAULED_OUT)} }}"
+    return "\n".join([*looks, f".band, .sample.round {{ {declared(TOUR)} }}", buoys, f"{faint} {{ {declared(THIN)} }}"])
 
 
 STYLE = """
@@ -59,8 +60,8 @@ figure { display: flex; flex-direction: column; gap: 0.3rem; min-width: 0; }
 .halo.pointed, .halo.chosen { stroke: #14213d; stroke-opacity: 0.6; stroke-width: 14; }
 .hit { stroke: #000; stroke-opacity: 0; stroke-width: 16; pointer-events: stroke; outline: none; }
 .live .hit, .live .cost { cursor: pointer; }
-.buoy { fill: #fff; stroke: #14213d; stroke-width: 2.5; }
 .number { font: bold 15px "DejaVu Sans", Verdana, Arial, sans-serif; fill: #14213d; pointer-events: none; }
+.number.out { font-weight: normal; fill: #56697c; }
 .cost rect { fill: #fff; fill-opacity: 0.94; }
 .cost text { font: 12.5px "DejaVu Sans", Verdana, Arial, sans-serif; fill: #14213d; }
 .cost.force text, .cost.required text { font-weight: bold; }
@@ -95,7 +96,7 @@ th, td { padding: 0.12rem 0.24rem; text-align: right; white-space: nowrap; borde
 thead th { position: sticky; top: 0; background: #14213d; color: #fff; font-size: 0.78rem; vertical-align: bottom; white-space: normal; line-height: 1.15; }
 td.ruling, td.from, th.ruling, th.from { text-align: left; }
 tr.force td.ruling, tr.required td.ruling { font-weight: bold; }
-tr.bar td.ruling, tr.struck td.ruling { font-style: italic; }
+tr.bar td.ruling, tr.struck td.ruling, tr.ashore td.ruling { font-style: italic; }
 tr.new td.ruling::after { content: " \\2022"; color: #c2308c; }
 tr.shown > * { background: #fff0c8; box-shadow: inset 0 2px 0 #14213d, inset 0 -2px 0 #14213d; }
 .about { padding: 0.6rem 0.8rem 1.5rem; max-width: 60rem; }

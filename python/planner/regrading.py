@@ -15,6 +15,7 @@ from collections.abc import Callable, Collection, Iterable, Iterator
 from dataclasses import asdict, dataclass
 from pathlib import Path
 
+from .ashore import ashore_list
 from .faults import Faults, whole_number
 from .formats import ENDINGS, contents, load, shown_path, text_of
 from .formats.commas import rows
@@ -127,8 +128,8 @@ def list_of(folder: Path) -> Path:
 class Judge:
     """Judges the record of one chart."""
 
-    def __init__(self, name: str, graph: Graph, nodes: int = LONG, progress: Progress | None = None):
-        self.name, self.cheapest = name, Climb(graph, nodes, progress).cheapest
+    def __init__(self, name: str, graph: Graph, nodes: int = LONG, progress: Progress | None = None, ashore: Collection[int] = ()):
+        self.name, self.cheapest = name, Climb(graph, nodes, progress, ashore_list(graph, ashore)).cheapest
 
     def judge(self, recorded: int | None) -> Grade:
         """The grade of a record."""
@@ -203,8 +204,8 @@ def under_names_of_files(records: Records, names: Collection[str]) -> Records:
     return {name_of_file(name): cost for name, cost in records.items()}
 
 
-def regrade(folder: Path, nodes: int = LONG, progress: Progress | None = None) -> Iterator[Grade]:
-    """The grade of every chart in a folder and of every name in its record."""
+def regrade(folder: Path, nodes: int = LONG, progress: Progress | None = None, ashore: Collection[int] = ()) -> Iterator[Grade]:
+    """The grade of every chart in a folder and of every name in its record; rounds leave out the buoys ashore, in all charts the same."""
     source = list_of(folder)
     records = read_records(source)
     try:
@@ -213,7 +214,7 @@ def regrade(folder: Path, nodes: int = LONG, progress: Progress | None = None) -
         raise Faults(f"{shown_path(folder)}: {error.strerror}") from None
     records = under_names_of_files(records, names)
     for name in sorted(names | records.keys()):
-        yield grade(folder, name, records, lambda name, graph: Judge(name, graph, nodes, progress), source.name)
+        yield grade(folder, name, records, lambda name, graph: Judge(name, graph, nodes, progress, ashore), source.name)
 
 
 def summary(grades: Iterable[Grade]) -> str:

@@ -4,6 +4,7 @@ What is chosen here, ceilings, multipliers, sweeps, step and lifting, decides ho
 least, that a tour is the first of those that cost it, or that there is no tour, is proved for every choice. Where many tours cost the same a search
 that has met a cheapest one goes on to the first, often for long; a ceiling one below its cost settles the cost sooner. Where costs lie further apart than
 multipliers reach, it is asked about the same graph with levelled costs (`levelled`), and about the graph itself what the tour found costs.
+Where vertices are ashore, all that is chosen looks at those afloat and the edges between them; the library is sent the list too.
 """
 from __future__ import annotations
 
@@ -11,9 +12,10 @@ from collections.abc import Callable, Iterable
 from dataclasses import dataclass, replace
 from functools import cached_property
 
+from .ashore import Ashore, afloat, touching
 from .guess import cheap_tour_weight
 from .library import (
-    CEILINGS, COSTS, EXCLUDED, HIGHEST_TOUR, MOST_VERTICES, MULTIPLIERS, REQUIRED, STEPS, SWEEPS, Graph, Search, rule, tree,
+    CEILINGS, COSTS, EXCLUDED, HIGHEST_TOUR, MOST_VERTICES, MULTIPLIERS, REQUIRED, STEPS, SWEEPS, VERTICES, Graph, Search, rule, tree,
 )  # fmt: skip
 
 LONG = 1_000_000  # nodes that a search opens at most
@@ -76,10 +78,17 @@ def spread(graph: Graph, denominator: int = 1) -> int:
     return sum(abs(cost - mean) for cost in costs) // len(costs)
 
 
-def lifts(graph: Graph) -> bool:
+def lifts(graph: Graph, ashore: Ashore = None) -> bool:
     """Whether searches of such graphs are sooner finished with lifting: many vertices and few edges."""
-    present = sum(edge.mark != EXCLUDED for edge in graph.edges)
-    return graph.n in LIFTED and 2 * present <= FEW * graph.n
+    present, n = sum(edge.mark != EXCLUDED for edge in graph.edges), len(afloat(graph, ashore))
+    return n in LIFTED and 2 * present <= FEW * n
+
+
+def between_afloat(graph: Graph, ashore: Ashore) -> Graph:
+    """The graph with the edges that touch a vertex ashore excluded, as the calls count them."""
+    touched = touching(graph, ashore)
+    edges = (edge._replace(mark=EXCLUDED) if number in touched else edge for number, edge in enumerate(graph.edges, 1))
+    return Graph(graph.n, edges, graph.positions) if touched else graph
 
 
 class Ascent:
@@ -90,8 +99,9 @@ class Ascent:
     count in parts of a minute, as the denominator says; ceilings in minutes.
     """
 
-    def __init__(self, graph: Graph, step: int, denominator: int = 1):
-        self.graph, self.step, self.denominator = graph, step, denominator
+    def __init__(self, graph: Graph, step: int, denominator: int = 1, ashore: Ashore = None):
+        self.graph, self.step, self.denominator, self.ashore = graph, step, denominator, ashore
+        self.vertices = afloat(graph, ashore)
         self.present, self.best = [0] * graph.n, [0] * graph.n
         self.highest: int | None = None
         self.trees = self.worse = 0
@@ -99,7 +109,7 @@ class Ascent:
     def reach(self, ceiling: int) -> list[int]:
         """The best multipliers. At a bound above the ceiling the ascent stops: one node will do."""
         while self.trees < TREES and self.step > 0 and (self.highest is None or self.highest <= self.denominator * ceiling):
-            found = tree(self.graph, self.present, denominator=self.denominator)
+            found = tree(self.graph, self.present, denominator=self.denominator, ashore=self.ashore)
             if found is None:
                 self.step = 0
                 break
@@ -112,32 +122,32 @@ class Ascent:
         """Keeps the multipliers where the bound is higher than before."""
         if self.highest is None or bound > self.highest:
             self.highest, self.best, self.worse = bound, list(self.present), 0
-        elif self.worse + 1 == self.graph.n:
+        elif self.worse + 1 == len(self.vertices):
             self.step, self.worse = self.step // 2, 0
         else:
             self.worse += 1
 
     def move(self, edges: Iterable[int]) -> None:
-        """The multipliers for the next tree; the first stays 0."""
+        """The multipliers for the next tree; the first stays 0, and so do those ashore."""
         degrees = [0] * (self.graph.n + 1)
         for number in edges:
             a, b, *_ = self.graph.edges[number - 1]
             degrees[a] += 1
             degrees[b] += 1
-        for vertex in range(2, self.graph.n + 1):
+        for vertex in self.vertices[1:]:
             if degrees[vertex] != 2:
                 moved = self.present[vertex - 1] + self.step * (degrees[vertex] - 2)
                 self.present[vertex - 1] = within(moved, MULTIPLIERS)
 
 
-def ascent_of(graph: Graph) -> Ascent:
-    """An ascent with a denominator and a first step that fit the graph."""
+def ascent_of(graph: Graph, ashore: Ashore = None) -> Ascent:
+    """An ascent with a denominator and a first step that fit the graph between those afloat."""
     denominator = FINE if spread(graph) < NEAR else 1
     first = spread(graph, denominator) // FIRST_SHARE
-    return Ascent(graph, within(first, MULTIPLIERS[MULTIPLIERS.index(LEAST_FIRST) :]), denominator)
+    return Ascent(graph, within(first, MULTIPLIERS[MULTIPLIERS.index(LEAST_FIRST) :]), denominator, ashore)
 
 
-def levelled(graph: Graph) -> tuple[Graph, int]:
+def levelled(graph: Graph, ashore: Ashore = None) -> tuple[Graph, int]:
     """The graph with costs that lie nearer together, and how much more every tour costs there; itself where they are near enough.
 
     An edge costs more by what both its ends are charged, and less by one number for all. A tour has two edges at each vertex, so that all
@@ -148,23 +158,28 @@ def levelled(graph: Graph) -> tuple[Graph, int]:
     if divisor == 0:
         return graph, 0
     divided = graph.recosted(edge.cost // divisor for edge in graph.edges)
-    charges = [divisor * multiplier for multiplier in ascent_of(divided).reach(HIGHEST_TOUR)]
+    charges = [divisor * multiplier for multiplier in ascent_of(divided, ashore).reach(HIGHEST_TOUR)]
     costs = [edge.cost + charges[edge.a - 1] + charges[edge.b - 1] for edge in graph.edges]
     less = min(cost for cost, edge in zip(costs, graph.edges) if edge.mark != EXCLUDED) - COSTS[0]
-    return graph.recosted(within(cost - less, COSTS) for cost in costs), 2 * sum(charges) - graph.n * less
+    return graph.recosted(within(cost - less, COSTS) for cost in costs), 2 * sum(charges) - len(afloat(graph, ashore)) * less
 
 
 class Solver:
     """Searches one graph at any ceiling, with sweeps and multipliers that fit it, lifted where that pays."""
 
-    def __init__(self, graph: Graph, progress: Progress | None = None):
-        self.graph, self.progress = graph, progress
+    def __init__(self, graph: Graph, progress: Progress | None = None, ashore: Ashore = None):
+        self.whole, self.progress, self.ashore = graph, progress, ashore
+
+    @cached_property
+    def graph(self) -> Graph:
+        """The graph with the edges excluded that the calls count so. Made, as all else here, when it is known to be fit."""
+        return between_afloat(self.whole, self.ashore)
 
     @cached_property
     def asked(self) -> tuple[Ascent, int]:
-        """An ascent on the graph that the library is asked about, and how much more tours cost there. Made when the graph is known to be fit."""
-        graph, more = levelled(self.graph)
-        return ascent_of(graph), more
+        """An ascent on the graph that the library is asked about, and how much more tours cost there."""
+        graph, more = levelled(self.graph, self.ashore)
+        return ascent_of(graph, self.ashore), more
 
     def ask(self, ceiling: int, limit: int) -> Answer:
         """What a search answers after at most so many nodes; while it is going on, the best tour that it has met and its cost, if any."""
@@ -172,45 +187,49 @@ class Solver:
         search = Search(more)
         there = within(ceiling + more, CEILINGS)  # beyond them no tour has its cost
         step = within(spread(self.graph, ascent.denominator) // SWEEP_SHARE, STEPS[1:])
-        search.open(ascent.graph, there, SWEEPS[-1], step, ascent.reach(there), ascent.denominator, lifts(ascent.graph))
+        lifting = lifts(ascent.graph, self.ashore)
+        search.open(ascent.graph, there, SWEEPS[-1], step, ascent.reach(there), ascent.denominator, lifting, self.ashore)
         search.run(limit, self.progress)
         told = search.tell()
         if told.verdict != "cost":
             met = search.tour_so_far()
-            return Answer(told.verdict, told.nodes, cost_of(self.graph, met) if met else None, met)
+            return Answer(told.verdict, told.nodes, cost_of(self.graph, met, self.ashore) if met else None, met)
         tour = search.show()
-        cost = told.cost if ascent.graph is self.graph else cost_of(self.graph, tour)
+        cost = told.cost if ascent.graph is self.graph else cost_of(self.graph, tour, self.ashore)
         if cost + more != told.cost:
             # It only seemed so cheap. The graph itself is asked about from now on.
-            self.asked = ascent_of(self.graph), 0
+            self.asked = ascent_of(self.graph, self.ashore), 0
             return self.ask(ceiling, limit)
         return Answer(told.verdict, told.nodes, cost, tour, first=True)
 
 
-def cost_of(graph: Graph, tour: Iterable[int]) -> int:
+def cost_of(graph: Graph, tour: Iterable[int], ashore: Ashore = None) -> int:
     """What a tour costs, by the library: where all its edges are required, the least 1-tree is the tour."""
     chosen = set(tour)
     edges = (edge._replace(mark=REQUIRED) if number in chosen else edge for number, edge in enumerate(graph.edges, 1))
-    return tree(Graph(graph.n, edges)).bound
+    return tree(Graph(graph.n, edges), ashore=ashore).bound
 
 
 NOTHING = Answer("none", 0)  # where nothing need be asked
 
 
-def guessed_cost(graph: Graph) -> int | None:
+def guessed_cost(graph: Graph, ashore: Ashore = None) -> int | None:
     """The cost of an allowed tour found by guesswork, or None."""
     heavy = 10**12  # beyond every tour
-    table = [[heavy] * graph.n for _ in range(graph.n)]
-    for a, b, cost, mark in graph.edges:
-        if mark != EXCLUDED:
-            table[a - 1][b - 1] = table[b - 1][a - 1] = cost - heavy if mark == REQUIRED else cost
-    cost = cheap_tour_weight(table) + heavy * sum(edge.mark == REQUIRED for edge in graph.edges)
+    place = {vertex: at for at, vertex in enumerate(afloat(graph, ashore))}
+    if len(place) < VERTICES[0]:
+        return None
+    edges = [edge for edge in between_afloat(graph, ashore).edges if edge.mark != EXCLUDED]
+    table = [[heavy] * len(place) for _ in place]
+    for a, b, cost, mark in edges:
+        table[place[a]][place[b]] = table[place[b]][place[a]] = cost - heavy if mark == REQUIRED else cost
+    cost = cheap_tour_weight(table) + heavy * sum(edge.mark == REQUIRED for edge in edges)
     return cost if cost <= HIGHEST_TOUR else None
 
 
-def some_tour(graph: Graph, progress: Progress | None = None) -> Answer:
+def some_tour(graph: Graph, progress: Progress | None = None, ashore: Ashore = None) -> Answer:
     """A tour and its cost, or 'none' where there is no tour: the same graph has one of cost 0 when all costs are 0."""
-    solver = Solver(graph.recosted([0] * graph.m), progress)
+    solver = Solver(graph.recosted([0] * graph.m), progress, ashore)
     answer = solver.ask(0, SHORT // 100)
     if answer.verdict == "going on" and not answer.tour:
         answer = solver.ask(0, SHORT)
@@ -225,21 +244,21 @@ class Climb:
     Searches open at most `long` nodes, and `short` ones where another ceiling may be quicker.
     """
 
-    def __init__(self, graph: Graph, long: int = LONG, progress: Progress | None = None):
-        self.graph, self.progress = graph, progress
+    def __init__(self, graph: Graph, long: int = LONG, progress: Progress | None = None, ashore: Ashore = None):
+        self.graph, self.progress, self.ashore = graph, progress, ashore
         self.long, self.short = long, min(long, SHORT)
-        self.ask = Solver(graph, progress).ask
+        self.ask = Solver(graph, progress, ashore).ask
 
     def cheapest(self, high: int, low: int | None = None) -> Answer:
         """The cheapest tour of at most high. None costs low or less, or else less than the bound."""
-        found = rule(self.graph, high)
+        found = rule(self.graph, high, ashore=self.ashore)
         if low is None:
             low = high if found is None else found.bound - 1
         if low >= high:
             return NOTHING
-        first = guessed_cost(self.graph)
+        first = guessed_cost(self.graph, self.ashore)
         if first is None:
-            tour = some_tour(self.graph, self.progress)
+            tour = some_tour(self.graph, self.progress, self.ashore)
             if tour.verdict == "none":
                 return tour
             first = low + 1 if tour.cost is None else tour.cost
@@ -301,19 +320,21 @@ def settled(best: Answer | None, answer: Answer) -> Answer:
     return answer if best is None else replace(best, verdict="cost")
 
 
-def solve(graph: Graph, ceiling: int | None = None, nodes: int = LONG, progress: Progress | None = None) -> Answer:
+def solve(graph: Graph, ceiling: int | None = None, nodes: int = LONG, progress: Progress | None = None, ashore: Ashore = None) -> Answer:
     """The first of the cheapest tours, or that there is none (with a ceiling: none of at most so much), or that so many nodes did not decide it."""
-    climb = Climb(graph, nodes, progress)
+    climb = Climb(graph, nodes, progress, ashore)
     return climb.first(climb.cheapest(HIGHEST_TOUR if ceiling is None else ceiling))
 
 
-def order(graph: Graph, tour: Iterable[int]) -> list[int]:
-    """The vertices along a tour, from vertex 1 towards the lower of its neighbours and back to 1; ValueError where it is no tour."""
-    beside: dict[int, list[int]] = {vertex: [] for vertex in range(1, graph.n + 1)}
+def order(graph: Graph, tour: Iterable[int], ashore: Ashore = None) -> list[int]:
+    """The vertices along a tour, from vertex 1 towards the lower of its neighbours and back to 1; ValueError where it is no tour of those afloat."""
+    beside: dict[int, list[int]] = {vertex: [] for vertex in afloat(graph, ashore)}
     for number in tour:
         if number not in range(1, graph.m + 1):
             raise ValueError(f"there is no edge {number}")
         a, b, *_ = graph.edges[number - 1]
+        if a not in beside or b not in beside:
+            raise ValueError(f"edge {number} touches a vertex ashore")
         beside[a].append(b)
         beside[b].append(a)
     if any(len(neighbours) != 2 for neighbours in beside.values()):
@@ -322,6 +343,6 @@ def order(graph: Graph, tour: Iterable[int]) -> list[int]:
     while way[-1] != 1:
         following, other = beside[way[-1]]
         way.append(other if following == way[-2] else following)
-    if len(way) != graph.n + 1:
+    if len(way) != len(beside) + 1:
         raise ValueError("these edges are several circles and no tour")
     return way

@@ -6,6 +6,7 @@ from dataclasses import dataclass
 from functools import cached_property
 from typing import NamedTuple
 
+from .ashore import Ashore, marked, touching
 from .ceilings import changes
 from .library import CEILINGS, FREE, Graph, Rulings, preview, rule, tree
 
@@ -29,31 +30,37 @@ class Previews(NamedTuple):
 
 @dataclass(frozen=True)
 class Showing:
-    """What there is to show of a graph, for one set of multipliers. Bounds count in parts of a minute, as the denominator says."""
+    """What there is to show of a graph, for one set of multipliers and of vertices ashore. Bounds count in parts of a minute, as the denominator says."""
 
     graph: Graph
     multipliers: Sequence[int] | None = None
     denominator: int = 1
+    ashore: Ashore = None
 
     def rule(self, ceiling: int) -> Rulings | None:
-        """The rule call."""
-        return rule(self.graph, ceiling, self.multipliers, denominator=self.denominator)
+        """The rule call, edges that touch a vertex ashore told apart."""
+        return marked(rule(self.graph, ceiling, self.multipliers, denominator=self.denominator, ashore=self.ashore), self.touched)
+
+    @cached_property
+    def touched(self) -> set[int]:
+        """The edges that touch a vertex ashore."""
+        return touching(self.graph, self.ashore)
 
     @cached_property
     def bound(self) -> int | None:
         """The bound, or None for 'no tree'."""
-        found = tree(self.graph, self.multipliers, denominator=self.denominator)
+        found = tree(self.graph, self.multipliers, denominator=self.denominator, ashore=self.ashore)
         return found.bound if found else None
 
     @cached_property
     def previews(self) -> dict[int, Previews]:
-        """Both previews of every free edge."""
-        free = (number for number, edge in enumerate(self.graph.edges, 1) if edge.mark == FREE)
+        """Both previews of every free edge that a mark could change anything about."""
+        free = (number for number, edge in enumerate(self.graph.edges, 1) if edge.mark == FREE and number not in self.touched)
         return {number: Previews(*self.both(number)) for number in free}
 
     def both(self, number: int) -> Iterator[int | None]:
         """The bounds with this edge required and with it struck."""
-        found = (preview(self.graph, number, mark, self.multipliers, denominator=self.denominator) for mark in (1, 2))
+        found = (preview(self.graph, number, mark, self.multipliers, denominator=self.denominator, ashore=self.ashore) for mark in (1, 2))
         return (each.bound if each else None for each in found)
 
     @cached_property

@@ -9,6 +9,7 @@ from contextlib import contextmanager
 from pathlib import Path
 
 from . import formats
+from .ashore import KINDS, Ashore, ashore_list, marked, touching
 from .calls import run_script
 from .ceilings import falling
 from .classroom import Class
@@ -70,63 +71,77 @@ def faults_of(name: str) -> Iterator[None]:
         raise Faults(*(f"{name}: {line}" for line in faults.lines)) from None
 
 
-def solved(graph: Graph, ceiling: int | None, nodes: int) -> Answer:
+def ashore_of(arguments: argparse.Namespace, name: str, graph: Graph) -> Ashore:
+    """Who is ashore, as a list for the calls on this sea; None where nobody is."""
+    with faults_of(name):
+        return ashore_list(graph, arguments.ashore) if arguments.ashore else None
+
+
+def solved(graph: Graph, ceiling: int | None, nodes: int, ashore: Ashore) -> Answer:
     """The cheapest round, with progress on a terminal."""
     progress = Progress()
     try:
-        return solve(graph, ceiling, nodes, progress)
+        return solve(graph, ceiling, nodes, progress, ashore)
     finally:
         progress.end()
 
 
 def run_solve(arguments: argparse.Namespace, name: str, graph: Graph) -> int:
     """planner solve"""
-    answer = solved(graph, arguments.ceiling, arguments.nodes)
+    ashore = ashore_of(arguments, name, graph)
+    answer = solved(graph, arguments.ceiling, arguments.nodes, ashore)
     fields: dict[str, object] = {"verdict": answer.verdict}
     if answer.verdict == "cost":
-        fields |= {"cost": answer.cost, "round": order(graph, answer.tour), "legs": answer.tour, "first": answer.first}
+        fields |= {"cost": answer.cost, "round": order(graph, answer.tour, ashore), "legs": answer.tour, "first": answer.first}
     elif answer.verdict == "going on":
         fields |= {"above": answer.above}
     if arguments.json:
-        say_json(file=name, **fields, nodes=answer.nodes)
+        say_json(file=name, **out_of(arguments), **fields, nodes=answer.nodes)
     else:
-        say_answer(graph, answer)
+        say_answer(graph, answer, ashore)
     return {"cost": ANSWERED, "none": NEGATIVE, "going on": UNDECIDED}[answer.verdict]
 
 
-def say_answer(graph: Graph, answer: Answer) -> None:
+def say_answer(graph: Graph, answer: Answer, ashore: Ashore) -> None:
     """The cheapest round in lines."""
     lines = [answer.verdict]
     if answer.verdict == "cost":
-        lines = [f"cost {answer.cost}", f"round {listed(order(graph, answer.tour), '-')}", f"legs {listed(answer.tour)}"]
+        lines = [f"cost {answer.cost}", f"round {listed(order(graph, answer.tour, ashore), '-')}", f"legs {listed(answer.tour)}"]
         lines += [] if answer.first else ["another round of this cost may come first"]
     elif answer.verdict == "going on":
         lines.append(f"no round costs {answer.above} or less")
     say("\n".join([*lines, f"nodes {answer.nodes}"]))
 
 
-def fraction(arguments: argparse.Namespace) -> dict[str, int]:
-    """What is said beside a bound that does not count in minutes."""
-    return {} if arguments.denominator == 1 else {"denominator": arguments.denominator}
+def out_of(arguments: argparse.Namespace) -> dict[str, tuple[int, ...]]:
+    """What is said beside an answer where buoys are ashore."""
+    return {"ashore": arguments.ashore} if arguments.ashore else {}
+
+
+def terms(arguments: argparse.Namespace) -> dict[str, object]:
+    """What is said beside a bound: that it does not count in minutes, that buoys are ashore."""
+    return {**({} if arguments.denominator == 1 else {"denominator": arguments.denominator}), **out_of(arguments)}
 
 
 def bound_line(bound: int, **beside: object) -> str:
     """The first line of an answer: the bound, and what is said beside it."""
-    return " ".join([f"bound {bound}", *(f"{name} {value}" for name, value in beside.items())])
+    words = ((name, listed(value, ",") if isinstance(value, tuple) else value) for name, value in beside.items())
+    return " ".join([f"bound {bound}", *(f"{name} {value}" for name, value in words)])
 
 
 def run_tree(arguments: argparse.Namespace, name: str, graph: Graph) -> int:
     """planner tree"""
-    return say_tree(arguments, graph, tree(graph, arguments.dues, denominator=arguments.denominator), {"file": name})
+    found = tree(graph, arguments.dues, denominator=arguments.denominator, ashore=ashore_of(arguments, name, graph))
+    return say_tree(arguments, graph, found, {"file": name})
 
 
 def say_tree(arguments: argparse.Namespace, graph: Graph, found: Tree | None, fields: dict[str, object]) -> int:
     """A 1-tree in lines, or as one object that has these fields too."""
     if arguments.json:
-        say_json(**fields, **fraction(arguments), **({"bound": found.bound, "legs": found.edges} if found else {"verdict": "no tree"}))
+        say_json(**fields, **terms(arguments), **({"bound": found.bound, "legs": found.edges} if found else {"verdict": "no tree"}))
     elif found:
         legs = ((number, graph.edges[number - 1]) for number in found.edges)
-        say("\n".join([bound_line(found.bound, **fraction(arguments)), *(f"{number} {leg.a}-{leg.b} {leg.cost}" for number, leg in legs)]))
+        say("\n".join([bound_line(found.bound, **terms(arguments)), *(f"{number} {leg.a}-{leg.b} {leg.cost}" for number, leg in legs)]))
     else:
         say("no tree")
     return ANSWERED if found else NEGATIVE
@@ -138,24 +153,25 @@ def run_preview(arguments: argparse.Namespace, name: str, graph: Graph) -> int:
         return preview_all(arguments, name, graph)
     if arguments.mark is None:
         raise Faults("planner preview: allowed is FILE, or FILE LEG MARK; see planner preview --help")
-    found = preview(graph, arguments.leg, arguments.mark, arguments.dues, denominator=arguments.denominator)
+    ashore = ashore_of(arguments, name, graph)
+    found = preview(graph, arguments.leg, arguments.mark, arguments.dues, denominator=arguments.denominator, ashore=ashore)
     return say_tree(arguments, graph, found, {"file": name, "leg": arguments.leg, "mark": arguments.mark})
 
 
 def preview_all(arguments: argparse.Namespace, name: str, graph: Graph) -> int:
-    """planner preview without a leg: both bounds for every free leg"""
-    dues, q = arguments.dues, arguments.denominator
-    now = tree(graph, dues, denominator=q)
-    free = [(number, leg) for number, leg in enumerate(graph.edges, 1) if leg.mark == FREE]
-    both = ([preview(graph, number, mark, dues, denominator=q) for mark in (1, 2)] for number, _ in free)
+    """planner preview without a leg: both bounds for every free leg, those left out that touch a buoy ashore and change nothing"""
+    dues, q, ashore = arguments.dues, arguments.denominator, ashore_of(arguments, name, graph)
+    now, touched = tree(graph, dues, denominator=q, ashore=ashore), touching(graph, ashore)
+    free = [(number, leg) for number, leg in enumerate(graph.edges, 1) if leg.mark == FREE and number not in touched]
+    both = ([preview(graph, number, mark, dues, denominator=q, ashore=ashore) for mark in (1, 2)] for number, _ in free)
     bounds = [[found.bound if found else None for found in pair] for pair in both]
     if arguments.json:
         rows = [{"leg": number, "required": one, "struck": two} for (number, _), (one, two) in zip(free, bounds)]
-        say_json(file=name, **fraction(arguments), **({"bound": now.bound} if now else {"verdict": "no tree"}), previews=rows)
+        say_json(file=name, **terms(arguments), **({"bound": now.bound} if now else {"verdict": "no tree"}), previews=rows)
     else:
         words = [["no tree" if bound is None else str(bound) for bound in pair] for pair in bounds]
         lines = [f"{number} {leg.a}-{leg.b} required {one} struck {two}" for (number, leg), (one, two) in zip(free, words)]
-        say("\n".join([bound_line(now.bound, **fraction(arguments)) if now else "no tree", *lines]))
+        say("\n".join([bound_line(now.bound, **terms(arguments)) if now else "no tree", *lines]))
     return ANSWERED if now else NEGATIVE
 
 
@@ -171,15 +187,15 @@ def rule_falling(arguments: argparse.Namespace, name: str, graph: Graph) -> int:
     high, low = arguments.ceilings
     if high < low:
         raise Faults(f"--ceilings {high} {low}: the higher ceiling comes first")
-    found = falling(graph, high, low, arguments.dues, arguments.denominator)
+    found = falling(graph, high, low, arguments.dues, arguments.denominator, ashore_of(arguments, name, graph))
     if arguments.json:
         new = [{"ceiling": at, "leg": leg, "ruling": RULINGS[ruling]} for at, leg, ruling in found.appear] if found else []
         answer = {"bound": found.bound, "appear": new, "dead": found.dead} if found else {"verdict": "dead"}
-        say_json(file=name, ceilings=[high, low], **fraction(arguments), **answer)
+        say_json(file=name, ceilings=[high, low], **terms(arguments), **answer)
     elif found:
         legs = ((at, number, graph.edges[number - 1], RULINGS[ruling]) for at, number, ruling in found.appear)
         lines = [f"{at}: {number} {leg.a}-{leg.b} {word}" for at, number, leg, word in legs]
-        first = bound_line(found.bound, ceilings=f"{high} {low}", **fraction(arguments))
+        first = bound_line(found.bound, ceilings=f"{high} {low}", **terms(arguments))
         say("\n".join([first, *lines, *([] if found.dead is None else [f"{found.dead}: dead"])]))
     else:
         say("dead")
@@ -188,15 +204,17 @@ def rule_falling(arguments: argparse.Namespace, name: str, graph: Graph) -> int:
 
 def rule_at(arguments: argparse.Namespace, name: str, graph: Graph) -> int:
     """planner rule --ceiling"""
-    found = rule(graph, arguments.ceiling, arguments.dues, denominator=arguments.denominator)
+    ashore = ashore_of(arguments, name, graph)
+    found = rule(graph, arguments.ceiling, arguments.dues, denominator=arguments.denominator, ashore=ashore)
+    found = marked(found, touching(graph, ashore))
     if arguments.json:
-        rulings = [RULINGS[ruling] for ruling in found.rulings] if found else []
+        rulings = [KINDS[ruling] for ruling in found.rulings] if found else []
         answer = {"bound": found.bound, "rulings": rulings} if found else {"verdict": "dead"}
-        say_json(file=name, ceiling=arguments.ceiling, **fraction(arguments), **answer)
+        say_json(file=name, ceiling=arguments.ceiling, **terms(arguments), **answer)
     elif found:
         legs = zip(graph.edges, found.rulings)
-        lines = (f"{number} {leg.a}-{leg.b} {RULINGS[ruling]}" for number, (leg, ruling) in enumerate(legs, 1))
-        say("\n".join([bound_line(found.bound, ceiling=arguments.ceiling, **fraction(arguments)), *lines]))
+        lines = (f"{number} {leg.a}-{leg.b} {KINDS[ruling]}" for number, (leg, ruling) in enumerate(legs, 1))
+        say("\n".join([bound_line(found.bound, ceiling=arguments.ceiling, **terms(arguments)), *lines]))
     else:
         say("dead")
     return ANSWERED if found else NEGATIVE
@@ -216,12 +234,12 @@ def run_simulate(arguments: argparse.Namespace, name: str, graph: Graph) -> int:
 
 def run_compare(arguments: argparse.Namespace, name: str, graph: Graph) -> int:
     """planner compare"""
-    lifting = {"lifting": True} if arguments.lifting else {}
-    counts = compare(graph, arguments.ceiling, arguments.allowance, arguments.pairs, arguments.dues, arguments.denominator, **lifting)
+    lifting, ashore = {"lifting": True} if arguments.lifting else {}, ashore_of(arguments, name, graph)
+    counts = compare(graph, arguments.ceiling, arguments.allowance, arguments.pairs, arguments.dues, arguments.denominator, ashore=ashore, **lifting)
     rows = [(sweeps, step, count) for (sweeps, step), count in zip(arguments.pairs, counts)]
     if arguments.json:
         told = [{"sweeps": sweeps, "step": step, "nodes": count} for sweeps, step, count in rows]
-        say_json(file=name, **fraction(arguments), **lifting, pairs=told)
+        say_json(file=name, **terms(arguments), **lifting, pairs=told)
     else:
         say("\n".join(["sweeps  step  nodes", *(f"{sweeps:6} {step:5}  {count or 'going on'}" for sweeps, step, count in rows)]))
     return ANSWERED if all(counts) else UNDECIDED
@@ -234,10 +252,11 @@ def run_class(arguments: argparse.Namespace) -> int:
         name = formats.shown_path(file)
         try:
             graph = formats.load(file)
-            hunts.join(number, graph, arguments.ceiling)
+            ashore = ashore_of(arguments, name, graph)
+            hunts.join(number, graph, arguments.ceiling, ashore)
         except Refused as refused:
             return refuse(name, refused, arguments.json)
-        seas.append((name, graph))
+        seas.append((name, graph, ashore))
     progress, statuses = Progress(), []
     try:
         told = hunts.answers(
@@ -246,7 +265,7 @@ def run_class(arguments: argparse.Namespace) -> int:
         )  # fmt: skip
         for number, answer in told:
             progress.end()
-            statuses.append(say_hunt(*seas[number], answer, arguments.json))
+            statuses.append(say_hunt(arguments, *seas[number], answer))
     except Refused as refused:
         progress.end()
         return refuse("planner class", refused, arguments.json)
@@ -254,14 +273,14 @@ def run_class(arguments: argparse.Namespace) -> int:
     return max(statuses, key=(ANSWERED, UNDECIDED, NEGATIVE).index)
 
 
-def say_hunt(name: str, graph: Graph, answer: Answer, as_json: bool) -> int:
+def say_hunt(arguments: argparse.Namespace, name: str, graph: Graph, ashore: Ashore, answer: Answer) -> int:
     """One hunt of a class, on one line; its status."""
     found = answer.verdict == "cost"
-    if as_json:
-        round_found = {"cost": answer.cost, "round": order(graph, answer.tour), "legs": answer.tour} if found else {}
-        say_json(file=name, verdict=answer.verdict, **round_found, nodes=answer.nodes)
+    if arguments.json:
+        round_found = {"cost": answer.cost, "round": order(graph, answer.tour, ashore), "legs": answer.tour} if found else {}
+        say_json(file=name, **out_of(arguments), verdict=answer.verdict, **round_found, nodes=answer.nodes)
     else:
-        words = f"cost {answer.cost} round {listed(order(graph, answer.tour), '-')}" if found else answer.verdict
+        words = f"cost {answer.cost} round {listed(order(graph, answer.tour, ashore), '-')}" if found else answer.verdict
         say(f"{name}: {words} nodes {answer.nodes}")
     return {"cost": ANSWERED, "none": NEGATIVE, "going on": UNDECIDED}[answer.verdict]
 
@@ -323,13 +342,16 @@ def run_draw(arguments: argparse.Namespace, name: str, graph: Graph) -> int:
     """planner draw"""
     not_over_input(arguments.out, arguments.file)
     not_named(arguments.out, NO_SVG, "a drawing is SVG, named .svg")
-    found = rule(graph, arguments.ceiling) if arguments.ceiling is not None else None
+    ashore = ashore_of(arguments, name, graph)
+    if ashore:
+        tree(graph, ashore=ashore)  # refuses the list where no other call is made
+    found = rule(graph, arguments.ceiling, ashore=ashore) if arguments.ceiling is not None else None
     if arguments.ceiling is not None and found is None:
         complain(f"{name}: dead: no 1-tree is within ceiling {arguments.ceiling}, so no round is")
         return NEGATIVE
-    answer = None if arguments.no_round else solved(graph, None, arguments.nodes)
+    answer = None if arguments.no_round else solved(graph, None, arguments.nodes, ashore)
     with faults_of(name):
-        drawing = Drawing(Path(name).name, graph, answer, found, arguments.ceiling)
+        drawing = Drawing(Path(name).name, graph, answer, found, arguments.ceiling, ashore)
     write_file(arguments.out, drawing.svg().encode("utf-8", "replace"))
     return without_round(name, answer, "drawn")
 
@@ -348,10 +370,10 @@ def run_page(arguments: argparse.Namespace, name: str, graph: Graph) -> int:
     not_named(arguments.out, NO_PAGE, "a page is HTML, named .html")
     if None not in (arguments.high, arguments.low) and arguments.high < arguments.low:
         raise Faults(f"--high {arguments.high} --low {arguments.low}: allowed is a lowest ceiling that is not above the highest")
-    showing = Showing(graph, arguments.dues, arguments.denominator)
+    showing = Showing(graph, arguments.dues, arguments.denominator, ashore_of(arguments, name, graph))
     high, low = showing.ends(arguments.high, arguments.low)
     stops = showing.stops(high, low)
-    answer = None if arguments.no_round else solved(graph, None, arguments.nodes)
+    answer = None if arguments.no_round else solved(graph, None, arguments.nodes, showing.ashore)
     with faults_of(name):
         page = Page(Path(name).name, showing, answer, stops)
     write_file(arguments.out, page.html().encode("utf-8", "replace"))
@@ -368,7 +390,7 @@ def run_regrade(arguments: argparse.Namespace) -> int:
         raise Faults("--json and --csv: allowed is one of them")
     progress = Progress()
     grades: list[Grade] = []
-    for grade in regrade(Path(arguments.folder), arguments.nodes, progress):
+    for grade in regrade(Path(arguments.folder), arguments.nodes, progress, arguments.ashore):
         progress.end()
         if arguments.csv and not grades:
             say(row(COLUMNS), end="")

@@ -174,6 +174,36 @@ lifting yes
 {FOUR}
 compare 12 5 0/0 > nodes 5
 
+# Document 02, C-20: a byte a buoy, 1 ashore: rounds and 1-trees are over the others. 'sea' makes all afloat again.
+ashore 0 0 0 1
+tree > bound 9 legs 1 2 4
+rule 9 > bound 9 rulings 1 1 4 1 4 4
+rule 8 > dead
+dues 0 0 0 7
+tree > bound 9 legs 1 2 4
+rule 9 > bound 9 rulings 1 1 4 1 4 4
+preview 3 1 > bound 9 legs 1 2 4
+preview 3 2 > bound 9 legs 1 2 4
+preview 1 1 > bound 9 legs 1 2 4
+preview 1 2 > no tree
+compare 9 5 0/0 15/10 > nodes 1 1
+open 9 0 0 > accepted
+ashore 0 0 0 0
+run 9 > finished nodes 1
+tell > cost 9 nodes 1
+show > legs 1 2 4
+close > accepted
+tree > bound 3 legs 1 2 4 6
+ashore 0 1 0 0
+tree > bound 9 legs 2 3 6
+sea 4 1-2:4 1-3:3 1-4:5r 2-3:2 2-4:6 3-4:1
+ashore 0 0 0 1
+tree > bound 9 legs 1 2 4
+rule 9 > bound 9 rulings 1 1 4 1 4 4
+preview 3 1 > refused 31 at 0
+{FOUR}
+tree > bound 10 legs 1 2 4 6
+
 # A dispatcher: turns go round, a closed place is free again, and the search record is another.
 turn 3 > idle
 add 12 0 0 > place 1
@@ -205,6 +235,11 @@ turn 9 > place 5
 turn 9 > place 6
 tellat 5 > cost 12 nodes 3
 tellat 6 > cost 12 nodes 5
+ashore 0 0 0 1
+add 9 0 0 > place 7
+turn 9 > place 7
+tellat 7 > cost 9 nodes 1
+showat 7 > legs 1 2 4
 
 # Marks as letters and as bytes.
 sea 4 1-2:4m0 1-3:3s 1-4:5m1 2-3:-2r 2-4:6 3-4:1m2
@@ -322,7 +357,56 @@ preview 1 1 > refused 15 at 0
 open 12 0 0 > refused 15 at 0
 {FOUR}
 
-# Of a preview: 15, 11, 12, then 30, then 31.
+# 35 after 32 and, of a preview, before 30; the list's length comes under 11. Whatever fits a byte is sent.
+ashore 0 0 0 2
+tree > refused 35 at 0
+rule 12 > refused 35 at 0
+preview 0 3 > refused 35 at 0
+open 12 0 0 > refused 35 at 0
+add 12 0 0 > refused 35 at 0
+compare 12 5 0/0 > refused 35 at 0
+rule 5000000001 > refused 13 at 0
+open 12 16 0 > refused 14 at 0
+add 12 0 10001 > refused 14 at 0
+compare 12 5 0/0 0/10001 > refused 14 at 0
+denominator 0
+tree > refused 32 at 0
+preview 0 3 > refused 32 at 0
+open 12 0 0 > refused 32 at 0
+compare 12 5 0/0 > refused 32 at 0
+denominator 1
+ashore 1 0 0 0
+tree > refused 35 at 0
+ashore 0 1 0 1
+rule 12 > refused 35 at 0
+ashore 255 255 255 255
+open 12 0 0 > refused 35 at 0
+ashore
+tree > refused 11 at 0
+ashore 0 0 0
+open 5000000001 16 0 > refused 11 at 0
+ashore 0 0 0 0 0
+rule 5000000001 > refused 11 at 0
+dues 1 0 0 0
+compare 5000000001 5 0/0 > refused 11 at 0
+preview 0 3 > refused 11 at 0
+ashore 0 0 0 2
+tree > refused 12 at 0
+dues 0 0 0 1000001
+ashore 0 0 0 1
+tree > refused 12 at 0
+preview 0 3 > refused 12 at 0
+sea 4 2-1:5
+ashore 0 0 0 2
+tree > refused 15 at 0
+open 12 0 0 > refused 15 at 0
+{FOUR}
+ashore 0 0 0 1
+preview 0 3 > refused 30 at 0
+preview 7 1 > refused 30 at 0
+{FOUR}
+
+# Of a preview: 15, 11, 12, 32, 35, then 30, then 31.
 preview 0 3 > refused 30 at 0
 preview 7 1 > refused 30 at 0
 preview 18446744073709551615 1 > refused 30 at 0
@@ -518,8 +602,8 @@ class Scripts(unittest.TestCase):
 
     def test_lines_that_cannot_be_read(self):
         """Each says its line on standard error; the script goes on, settings as they were; the status is 2."""
-        names = "allowed are sea, chart, dues, list, denominator, lifting, tree, preview, rule, recent, simulate, compare, open, run, tell, show, close"
-        names += ", save, back, add, turn, tellat, showat, closeat"
+        names = "allowed are sea, chart, dues, list, denominator, lifting, ashore, tree, preview, rule, recent, simulate, compare, open, run, tell, show"
+        names += ", close, save, back, add, turn, tellat, showat, closeat"
         wide = "allowed is -9223372036854775808 to 9223372036854775807"
         no_leg = "is no leg; allowed is A-B:COST, with r, s or mK behind it"
         wrong = (
@@ -549,7 +633,10 @@ class Scripts(unittest.TestCase):
             ("denominator -1", "denominator -1 is out of range; allowed is 0 to 18446744073709551615"),
             ("denominator 18446744073709551616", "denominator 18446744073709551616 is out of range; allowed is 0 to 18446744073709551615"),
             ("TREE", f"'TREE' is unknown; {names}"),
-            ("ashore 0 0 0 1", f"'ashore' is unknown; {names}"),
+            ("ashore 0 0 0 x", "byte 'x' is not a whole number; allowed is 0 to 255"),
+            ("ashore 256", "byte 256 is out of range; allowed is 0 to 255"),
+            ("ashore -1", "byte -1 is out of range; allowed is 0 to 255"),
+            ("set_ashore 0 0 0 1", f"'set_ashore' is unknown; {names}"),
             ("simulate 0", "too few words; allowed is simulate STUDENT E LEG .."),
             ("compare 12", "too few words; allowed is compare CEILING BUDGET SWEEPS/STEP .."),
             ("compare 12 5 3", "'3' is no pair; allowed is SWEEPS/STEP"),
@@ -677,7 +764,7 @@ class Scripts(unittest.TestCase):
         for _ in range(12):
             script, answers, search = [], [], planner.Search()
             self.shelf = planner.Shelf()
-            graph, self.q, self.lifting = planner.Graph(0), 1, False
+            graph, self.q, self.lifting, self.ashore = planner.Graph(0), 1, False, None
             for _ in range(60):
                 graph, line, call = self.step(source, graph, search)
                 script.append(line)
@@ -692,7 +779,8 @@ class Scripts(unittest.TestCase):
     def step(self, source, graph, search):
         """A random line, the chart after it, and what the line should print."""
         kinds = (
-            "sea", "denominator", "lifting", "tree", "preview", "rule", "recent", "open", "run", "run", "tell", "show", "show", "close", "save", "back",
+            "sea", "denominator", "lifting", "ashore", "tree", "preview", "rule", "recent", "open", "run", "run", "tell", "show", "show", "close", "save",
+            "back",
         )  # fmt: skip
         kind = source.choice(kinds)
         if kind in ("save", "back"):
@@ -701,7 +789,7 @@ class Scripts(unittest.TestCase):
             return graph, f"{kind} {name}", lambda: call(search if kind == "save" else self.shelf, name) or "accepted"
         ceiling = source.choice((-20, 40, 90, 5_000_000_001))
         if kind == "sea":
-            graph, self.q, self.lifting = random_graph(source, most=6), 1, False
+            graph, self.q, self.lifting, self.ashore = random_graph(source, most=6), 1, False, None
             legs = (f"{edge.a}-{edge.b}:{edge.cost}{source.choice(('', 'm0')) if edge.mark == 0 else ' rs'[edge.mark]}" for edge in graph.edges)
             return graph, f"sea {graph.n} {' '.join(legs)}", None
         if kind == "denominator":
@@ -710,11 +798,15 @@ class Scripts(unittest.TestCase):
         if kind == "lifting":
             self.lifting = source.choice((False, True, True))
             return graph, f"lifting {'yes' if self.lifting else 'no'}", None
+        if kind == "ashore":
+            self.ashore = [source.choice((0, 0, 0, 0, 1, 1, 2)) if buoy else 0 for buoy in range(graph.n + source.choice((0, 0, 0, 0, 0, 1)))]
+            return graph, f"ashore {' '.join(map(str, self.ashore))}", None
+        chosen = {"denominator": self.q, "ashore": self.ashore}
         if kind == "tree":
-            return graph, kind, lambda: bound_and(library.tree(graph, denominator=self.q), "legs", "no tree")
+            return graph, kind, lambda: bound_and(library.tree(graph, **chosen), "legs", "no tree")
         if kind == "preview":
             edge, mark = source.randint(0, graph.m + 1), source.choice((0, 1, 1, 2, 2, 3))
-            return graph, f"preview {edge} {mark}", lambda: bound_and(library.preview(graph, edge, mark, denominator=self.q), "legs", "no tree")
+            return graph, f"preview {edge} {mark}", lambda: bound_and(library.preview(graph, edge, mark, **chosen), "legs", "no tree")
         if kind == "recent":
             last, log = source.choice((0, 1, 2, 32, 33)), [(source.randint(1, graph.m + 1), source.randint(-60, 60)) for _ in range(3)]
             words = " ".join(f"{leg}:{time}" for leg, time in log)
@@ -725,10 +817,10 @@ class Scripts(unittest.TestCase):
                 return graph, f"recent {last} {words}", lambda: line
             return made, f"recent {last} {words}", lambda: f"costs {' '.join(str(edge.cost) for edge in made.edges)}"
         if kind == "rule":
-            return graph, f"rule {ceiling}", lambda: bound_and(library.rule(graph, ceiling, denominator=self.q), "rulings", "dead")
+            return graph, f"rule {ceiling}", lambda: bound_and(library.rule(graph, ceiling, **chosen), "rulings", "dead")
         if kind == "open":
             sweeps, step = source.choice((0, 3, 16)), source.choice((0, 7, 10_001))
-            chosen = {"denominator": self.q, "lifting": self.lifting}
+            chosen["lifting"] = self.lifting
             return graph, f"open {ceiling} {sweeps} {step}", lambda: search.open(graph, ceiling, sweeps, step, **chosen) or "accepted"
         if kind == "run":
             budget = source.choice((0, 1, 3, 2**40))

@@ -36,8 +36,8 @@ class Pictures(unittest.TestCase):
         expected = (ROOT / "docs/sea.svg").read_text("utf-8")
         self.assertEqual(self.drawn("examples/sea.txt", "--ceiling", 350), expected)
         self.assertEqual(command("draw", "examples/sea.txt", "--ceiling", 350), (expected, "", 0))
-        # One line a leg and one in the legend for each kind: 8 barred, 3 forced, 14 kept, 1 required, 1 struck; 11 in the round.
-        self.assertEqual([expected.count(look) - 1 for _, look in STYLES.values()], [1, 8, 14, 14, 3, 1])
+        # One line a leg and one in the legend for each kind: 8 barred, 3 forced, 14 kept, 1 required, 1 struck, none to a buoy ashore; 11 in the round.
+        self.assertEqual([expected.count(look) - 1 for _, look in STYLES.values()], [-1, 1, 8, 14, 14, 3, 1])
         self.assertEqual(expected.count(TOUR) - 1, 11)
 
     def test_names_of_other_forms(self):

@@ -16,6 +16,7 @@ from unittest import mock
 
 import planner
 from browser import Browser, chromium
+from planner.ashore import KINDS
 from planner.drawing import STYLES
 from planner.library import CEILINGS, MEANINGS
 from planner.page import NOTHING, WORDS, Page, embedded
@@ -108,7 +109,7 @@ class Facts(unittest.TestCase):
                 if stop["ceiling"] == ceiling:
                     new = [k for k in range(graph.m) if before and found and before.rulings[k] != found.rulings[k]]
                     self.assertEqual(list(stop["new"]), [k + 1 for k in new])
-                    self.assertEqual(stop["counts"], [found.rulings.count(kind) for kind in range(5)] if found else None)
+                    self.assertEqual(stop["counts"], [found.rulings.count(kind) for kind in range(len(KINDS))] if found else None)
                 before = found
             seen["dead"] += stops[-1]["rulings"] is None
             for ruling, kind in enumerate(planner.RULINGS[:3]):
@@ -425,6 +426,26 @@ class InABrowser(unittest.TestCase):
         """190 legs, some 150 changes."""
         graph = distances(random.Random(36), 20, 999)
         self.over_every_change(page_of(graph), lambda ceiling: words_at(graph, ceiling))
+
+    def test_buoys_ashore(self):
+        """Their legs look and are said so at every ceiling; they are hollow, and their legs have no previews."""
+        for buoys in ([4], [4, 7, 9]):
+            showing = Showing(SEA, None, 1, planner.ashore_list(SEA, buoys))
+            page = Page("t.txt", showing, planner.solve(SEA, ashore=showing.ashore), showing.stops(*showing.ends(None, None)))
+
+            def said(ceiling):
+                found = showing.rule(ceiling)
+                return [WORDS[KINDS[ruling]] for ruling in found.rulings] if found else ["dead"] * SEA.m
+
+            self.over_every_change(page, said)
+            self.assertEqual(self.browser.run("document.querySelectorAll('#sea .buoy.out').length"), len(buoys))
+            self.browser.key("Home")
+            number = min(showing.touched)
+            self.browser.run(f"document.getElementById('leg-{number}').focus()")
+            told = [self.text(f"shown-{what}") for what in ("ruling", "from", "required", "struck")]
+            self.assertEqual(told, ["ashore", "buoy ashore", NOTHING, NOTHING])
+            dash = self.browser.run("getComputedStyle(document.querySelector('#sea .buoy.out')).strokeDasharray")
+            self.assertEqual(dash, "4px, 3px")
 
     def test_looks(self):
         """Each ruling has its dash, its width and its colour, and what is ruled in lies on top."""

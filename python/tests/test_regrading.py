@@ -52,7 +52,7 @@ class Judging(unittest.TestCase):
             return Answer("cost", 1, least) if least is not None and ceiling >= least else Answer("none", 1)
 
         unknown = mock.patch.object(search, "some_tour", lambda *_: Answer("going on", SHORT))
-        with unknown, mock.patch.object(search.Solver, "ask", ask), mock.patch.object(search, "rule", lambda *_: planner.Rulings(10, ())):
+        with unknown, mock.patch.object(search.Solver, "ask", ask), mock.patch.object(search, "rule", lambda *_, **__: planner.Rulings(10, ())):
             grade = Judge("x", planner.Graph(3)).judge(recorded)
         return grade.grade, grade.says
 

@@ -93,9 +93,9 @@ class Solve(unittest.TestCase):
         plain = planner.Search.open
         for graph, lifting in ((full, False), (few[0], False), *((graph, True) for graph in few[1:]), (struck, True), (FOUR, False)):
             self.assertEqual(search.lifts(graph), lifting)
-            with mock.patch.object(planner.Search, "open", lambda *words: opened.append(words[-1]) or plain(*words)):
+            with mock.patch.object(planner.Search, "open", lambda *words: opened.append(words[-2]) or plain(*words)):
                 answer = self.solved(graph)
-            with mock.patch.object(search, "lifts", lambda graph, lifting=lifting: not lifting):
+            with mock.patch.object(search, "lifts", lambda *_, lifting=lifting: not lifting):
                 self.assertEqual(self.solved(graph).cost, answer.cost)
             self.assertEqual(set(opened), {lifting})
             opened.clear()

@@ -42,18 +42,19 @@ AT(planner_terms, budget, 8);
 AT(planner_terms, denominator, 16);
 AT(planner_terms, lifting, 24);
 
-CLAIM(sizeof(planner_search) == 4472);
+CLAIM(sizeof(planner_search) == 4496);
 AT(planner_search, settings, 0);
 AT(planner_search, upper, 32);
 AT(planner_search, count, 40);
 AT(planner_search, stack, 48);
 AT(planner_search, depth, 1104);
-AT(planner_search, graph, 1108);
-AT(planner_search, multipliers, 2440);
-AT(planner_search, carried, 2520);
-AT(planner_search, best, 4280);
-AT(planner_search, open, 4470);
-AT(planner_search, has_best, 4471);
+AT(planner_search, graph, 1112);
+AT(planner_search, multipliers, 2444);
+AT(planner_search, carried, 2524);
+AT(planner_search, best, 4284);
+AT(planner_search, ashore, 4474);
+AT(planner_search, open, 4494);
+AT(planner_search, has_best, 4495);
 
 CLAIM(sizeof(planner_dispatcher) == sizeof(size_t) + 8 * sizeof(planner_search));
 AT(planner_dispatcher, last, 0);
@@ -122,50 +123,79 @@ static int rows_fit(const uint64_t *node, size_t used, size_t *required) {
     return fit;
 }
 
-/* Whether a node's rows are the marks of a graph. */
-static int rows_are(const uint64_t *node, const planner_graph *g) {
+/* Whether edge k + 1 touches a vertex ashore. */
+static int touches(const planner_graph *g, const uint8_t *ashore, size_t k) { return ashore[g->a[k] - 1] || ashore[g->b[k] - 1]; }
+
+/* Whether a node's rows are the marks of a graph, the edges that touch a vertex ashore being excluded. */
+static int rows_are(const uint64_t *node, const planner_graph *g, const uint8_t *ashore) {
     int same = 1;
     for (size_t k = 0; k < M; k++) {
-        if (bit(node, k) != (g->mark[k] == 1) || bit(node + PLANNER_ROW, k) != (g->mark[k] == 2)) same = 0;
+        int mark = touches(g, ashore, k) ? 2 : g->mark[k];
+        if (bit(node, k) != (mark == 1) || bit(node + PLANNER_ROW, k) != (mark == 2)) same = 0;
     }
     return same;
 }
 
+/* Puts the multipliers of the vertices afloat into a list, in their order, and tells how many they are. */
+static size_t of_afloat(int32_t *list, const int32_t *multipliers, const uint8_t *ashore) {
+    size_t afloat = 0;
+    for (size_t v = 0; v < N; v++) {
+        if (!ashore[v]) list[afloat++] = multipliers[v];
+    }
+    return afloat;
+}
+
+/* What an opening takes beside its settings. */
+typedef struct {
+    planner_graph g;
+    const int32_t *multipliers;
+    const uint8_t *ashore;
+} given;
+
 /* Each field of a record of an open search, by name and at its offset; the marks of the waiting nodes are the caller's to judge. */
-static void record(const planner_search *s, const planner_graph *g, const int32_t *multipliers, planner_settings settings, int64_t upper,
-                   uint64_t count) {
-    int32_t padded[PLANNER_VERTICES] = {0};
-    uint8_t zeros[PLANNER_EDGES] = {0};
-    uint32_t depth = s->depth;
-    memcpy(padded, multipliers, N * sizeof *multipliers);
+static void record(const planner_search *s, const given *of, planner_settings settings, int64_t upper, uint64_t count) {
+    int32_t padded[PLANNER_VERTICES] = {0}, own[N];
+    uint8_t zeros[PLANNER_EDGES] = {0}, list[PLANNER_VERTICES] = {0};
+    uint64_t depth = s->depth;
+    size_t afloat = of_afloat(own, of->multipliers, of->ashore);
+    memcpy(padded, of->multipliers, N * sizeof *of->multipliers);
+    memcpy(list, of->ashore, N);
     expect("settings", stands(s, 0, &settings, sizeof settings) && s->settings.ceiling == settings.ceiling
                            && s->settings.sweeps == settings.sweeps && s->settings.step == settings.step
                            && s->settings.denominator == settings.denominator && s->settings.lifting == settings.lifting);
     expect("upper", stands(s, 32, &upper, 8) && s->upper == upper);
     expect("count", stands(s, 40, &count, 8) && s->count == count);
-    expect("depth", stands(s, 1104, &depth, 4) && 0 < depth && depth <= N + 2);
-    expect("graph", stands(s, 1108, g, sizeof *g));
-    expect("multipliers", stands(s, 2440, padded, sizeof padded));
-    expect("best past m", stands(s, 4280 + M, zeros, PLANNER_EDGES - M));
-    expect("open", stands(s, 4470, "\1", 1) && s->open == 1);
+    expect("depth", stands(s, 1104, &depth, 8) && 0 < depth && depth <= afloat + 2);
+    expect("graph", stands(s, 1112, &of->g, sizeof of->g));
+    expect("multipliers", stands(s, 2444, padded, sizeof padded));
+    expect("best past m", stands(s, 4284 + M, zeros, PLANNER_EDGES - M));
+    expect("ashore", stands(s, 4474, list, sizeof list) && memcmp(s->ashore, list, sizeof list) == 0);
+    expect("open", stands(s, 4494, "\1", 1) && s->open == 1);
     for (size_t p = 0; p < PLANNER_NODES; p++) {
         const uint64_t *node = s->stack + 2 * PLANNER_ROW * p;
         size_t required = 0;
         expect("a node", stands(s, 48 + 16 * PLANNER_ROW * p, node, 16 * PLANNER_ROW));
         expect("a node's rows", rows_fit(node, p < depth ? M : 0, &required) && (p >= depth || required >= p));
         const int32_t *carried = s->carried + PLANNER_VERTICES * p;
-        size_t vertices = p < depth ? N : 0;
-        expect("what a node carries", stands(s, 2520 + 4 * PLANNER_VERTICES * p, carried, 4 * PLANNER_VERTICES) && carried[0] == 0);
-        expect("carried past n", memcmp(carried + vertices, zeros, 4 * (PLANNER_VERTICES - vertices)) == 0);
+        size_t vertices = p < depth ? afloat : 0;
+        int struck = 1;
+        expect("what a node carries", stands(s, 2524 + 4 * PLANNER_VERTICES * p, carried, 4 * PLANNER_VERTICES) && carried[0] == 0);
+        expect("carried past those afloat", memcmp(carried + vertices, zeros, 4 * (PLANNER_VERTICES - vertices)) == 0);
+        for (size_t k = 0; k < M && p < depth; k++) {
+            if (touches(&of->g, of->ashore, k) && !bit(node + PLANNER_ROW, k)) struck = 0;
+        }
+        expect("what touches a vertex ashore", struck);
     }
 }
 
 int main(void) {
     static planner_search s, fresh;
     static uint8_t bytes[FILE_LENGTH], out[FILE_LENGTH];
-    int32_t multipliers[N] = {0, 10, -20, 30, -40, 50, 60};
+    int32_t multipliers[N] = {0, 10, -20, 30, -40, 50, 60}, own[N];
+    const uint8_t afloat[N] = {0}, ashore[N] = {0, 0, 0, 1, 0, 0, 0};
     planner_settings settings = {INT64_C(4900000000), 4, 370, 7, 0}; /* a ceiling wider than 4 bytes */
     planner_graph g = sample(bytes), read;
+    given with = {g, multipliers, ashore}, without = {g, multipliers, afloat};
     planner_reply said;
     uint64_t nodes = 0;
     int64_t cost = 0;
@@ -203,19 +233,49 @@ int main(void) {
         uint64_t report[1] = {9};
         uint8_t one[M], ten[M];
         const int32_t zeros[N] = {0};
-        int64_t bound = planner_tree(g, zeros, N, 1, one, M).value;
-        said_so("a bound in tenths", planner_tree(g, zeros, N, 10, ten, M), 0, 0, 10 * bound, 0);
+        int64_t bound = planner_tree(g, zeros, N, afloat, N, 1, one, M).value;
+        said_so("a bound in tenths", planner_tree(g, zeros, N, afloat, N, 10, ten, M), 0, 0, 10 * bound, 0);
         expect("the same tree", memcmp(one, ten, M) == 0);
-        said_so("rulings in tenths", planner_rule(g, zeros, N, settings.ceiling, 10, ten, M), 0, 0, 10 * bound, 0);
-        expect("a preview in tenths", planner_preview(g, zeros, N, 10, 1, 2, ten, M).value
-                                          == 10 * planner_preview(g, zeros, N, 1, 1, 2, one, M).value);
-        said_so("a tree's denominator", planner_tree(g, zeros, N, 1001, ten, M), 32, 0, 0, 0);
-        said_so("rulings' denominator", planner_rule(g, zeros, N, settings.ceiling, 0, ten, M), 32, 0, 0, 0);
-        said_so("a preview's denominator", planner_preview(g, zeros, N, 0, 0, 0, ten, M), 32, 0, 0, 0);
-        said_so("a comparison's denominator", planner_compare(g, zeros, N, terms, pair, 1, pair, 1, report, 1), 32, 0, 0, 0);
+        said_so("rulings in tenths", planner_rule(g, zeros, N, afloat, N, settings.ceiling, 10, ten, M), 0, 0, 10 * bound, 0);
+        expect("a preview in tenths", planner_preview(g, zeros, N, afloat, N, 10, 1, 2, ten, M).value
+                                          == 10 * planner_preview(g, zeros, N, afloat, N, 1, 1, 2, one, M).value);
+        said_so("a tree's denominator", planner_tree(g, zeros, N, afloat, N, 1001, ten, M), 32, 0, 0, 0);
+        said_so("rulings' denominator", planner_rule(g, zeros, N, afloat, N, settings.ceiling, 0, ten, M), 32, 0, 0, 0);
+        said_so("a preview's denominator", planner_preview(g, zeros, N, afloat, N, 0, 0, 0, ten, M), 32, 0, 0, 0);
+        said_so("a comparison's denominator", planner_compare(g, zeros, N, afloat, N, terms, pair, 1, pair, 1, report, 1), 32, 0, 0, 0);
         terms.denominator = PLANNER_DENOMINATOR;
-        said_so("a comparison", planner_compare(g, zeros, N, terms, pair, 1, pair, 1, report, 1), 0, 0, 0, 0);
+        said_so("a comparison", planner_compare(g, zeros, N, afloat, N, terms, pair, 1, pair, 1, report, 1), 0, 0, 0, 0);
         expect("a report of 'going on'", report[0] == 0);
+    }
+
+    {
+        /* The list ashore, where each call looks for it: document 01's sea with buoy 4 ashore has the legs 1 2 4, bound 9, and no others. */
+        const planner_graph four = {{4, 3, 5, 2, 6, 1}, {1, 1, 1, 2, 2, 3}, {2, 3, 4, 3, 4, 4}, {0, 0, 1, 0, 0, 0}, 4, 6};
+        const uint8_t list[4] = {0, 0, 0, 1}, two[4] = {0, 0, 1, 1}, tree[6] = {1, 1, 0, 1, 0, 0}, rulings[6] = {1, 1, 4, 1, 4, 4};
+        const int32_t dues[4] = {0, 0, 0, 7};
+        const uint32_t pair[1] = {0};
+        uint8_t got[6];
+        uint64_t report[1] = {9};
+        planner_terms terms = {9, 9, 1, 0};
+        planner_settings opened = {9, 0, 0, 1, 0};
+        said_so("a tree ashore", planner_tree(four, dues, 4, list, 4, 1, got, 6), 0, 0, 9, 0);
+        expect("its legs", memcmp(got, tree, 6) == 0);
+        said_so("rulings ashore", planner_rule(four, dues, 4, list, 4, 9, 1, got, 6), 0, 0, 9, 0);
+        expect("each of them", memcmp(got, rulings, 6) == 0);
+        said_so("a preview ashore", planner_preview(four, dues, 4, list, 4, 1, 5, 1, got, 6), 0, 0, 9, 0);
+        said_so("a preview of a required leg", planner_preview(four, dues, 4, list, 4, 1, 3, 1, got, 6), 31, 0, 0, 0);
+        said_so("a comparison ashore", planner_compare(four, dues, 4, list, 4, terms, pair, 1, pair, 1, report, 1), 0, 0, 0, 0);
+        expect("one node", report[0] == 1);
+        said_so("two afloat", planner_tree(four, dues, 4, two, 4, 1, got, 6), 35, 0, 0, 0);
+        said_so("two afloat, rulings", planner_rule(four, dues, 4, two, 4, 9, 1, got, 6), 35, 0, 0, 0);
+        said_so("two afloat, a preview", planner_preview(four, dues, 4, two, 4, 1, 0, 0, got, 6), 35, 0, 0, 0);
+        said_so("two afloat, a comparison", planner_compare(four, dues, 4, two, 4, terms, pair, 1, pair, 1, report, 1), 35, 0, 0, 0);
+        said_so("a short list", planner_tree(four, dues, 4, list, 3, 1, got, 6), 11, 0, 0, 0);
+        s = planner_fresh();
+        said_so("two afloat, an opening", planner_open(&s, four, dues, 4, two, 4, opened), 35, 0, 0, 0);
+        said_so("an opening ashore", planner_open(&s, four, dues, 4, list, 4, opened), 0, 0, 0, 0);
+        said_so("a run ashore", planner_run(&s, 5), PLANNER_FINISHED, 0, 0, 1);
+        said_so("the cost ashore", planner_tell(&s), PLANNER_BEST, 0, 9, 1);
     }
 
     {
@@ -228,16 +288,16 @@ int main(void) {
         uint64_t report[1] = {9};
         planner_terms terms = {12, 9, 1, 0};
         planner_settings lifted = {settings.ceiling, 4, 370, 7, 1};
-        said_so("compare without lifting", planner_compare(four, zeros, 4, terms, pair, 1, pair, 1, report, 1), 0, 0, 0, 0);
+        said_so("compare without lifting", planner_compare(four, zeros, 4, afloat, 4, terms, pair, 1, pair, 1, report, 1), 0, 0, 0, 0);
         expect("nodes without lifting", report[0] == 5);
         for (int k = 0; k < 3; k++) {
             planner_settings opened = lifted;
             opened.lifting = terms.lifting = yes[k];
-            said_so("compare with lifting", planner_compare(four, zeros, 4, terms, pair, 1, pair, 1, report, 1), 0, 0, 0, 0);
+            said_so("compare with lifting", planner_compare(four, zeros, 4, afloat, 4, terms, pair, 1, pair, 1, report, 1), 0, 0, 0, 0);
             expect("nodes with lifting", report[0] == 3);
             s = planner_fresh();
-            said_so("open with lifting", planner_open(&s, g, multipliers, N, opened), 0, 0, 0, 0);
-            record(&s, &g, multipliers, lifted, lifted.ceiling, 0);
+            said_so("open with lifting", planner_open(&s, g, multipliers, N, afloat, N, opened), 0, 0, 0, 0);
+            record(&s, &without, lifted, lifted.ceiling, 0);
             s.settings.lifting = UINT64_C(1) << 32;
             said_so("a record's lifting", planner_tell(&s), 24, 0, 0, 0);
         }
@@ -247,12 +307,12 @@ int main(void) {
     s = planner_fresh();
     expect("a fresh record is zero", memcmp(&s, &fresh, sizeof s) == 0);
     settings.denominator = 1001;
-    said_so("an opening's denominator", planner_open(&s, g, multipliers, N, settings), 32, 0, 0, 0);
+    said_so("an opening's denominator", planner_open(&s, g, multipliers, N, ashore, N, settings), 32, 0, 0, 0);
     settings.denominator = 7;
-    said_so("open", planner_open(&s, g, multipliers, N, settings), 0, 0, 0, 0);
-    record(&s, &g, multipliers, settings, settings.ceiling, 0);
-    expect("the opening's node", s.depth == 1 && rows_are(s.stack, &g)
-                                     && memcmp(s.carried, multipliers, sizeof multipliers) == 0);
+    said_so("open", planner_open(&s, g, multipliers, N, ashore, N, settings), 0, 0, 0, 0);
+    record(&s, &with, settings, settings.ceiling, 0);
+    expect("the opening's node", s.depth == 1 && rows_are(s.stack, &g, ashore)
+                                     && memcmp(s.carried, own, of_afloat(own, multipliers, ashore) * sizeof *own) == 0);
     while (s.depth > 0 && s.has_best == 0 && failed == 0) {
         said = planner_run(&s, 1);
         nodes++;
@@ -260,14 +320,14 @@ int main(void) {
     }
 
     for (int k = 0; k < M; k++) cost += s.best[k] * g.cost[k];
-    record(&s, &g, multipliers, settings, cost, nodes);
-    expect("an incumbent while nodes wait", s.depth > 0 && s.has_best == 1 && stands(&s, 4471, "\1", 1) && nodes > 1);
+    record(&s, &with, settings, cost, nodes);
+    expect("an incumbent while nodes wait", s.depth > 0 && s.has_best == 1 && stands(&s, 4495, "\1", 1) && nodes > 1);
     said_so("tell", planner_tell(&s), PLANNER_GOING_ON, 0, 0, nodes);
     said = planner_run(&s, 1000000);
     said_so("finished", said, PLANNER_FINISHED, 0, 0, s.count);
     said_so("the best cost", planner_tell(&s), PLANNER_BEST, 0, s.upper, s.count);
     said_so("show", planner_show(&s, out, M), 0, 0, 0, 0);
-    expect("the tour", stands(&s, 4280, out, M) && s.depth == 0);
+    expect("the tour", stands(&s, 4284, out, M) && s.depth == 0);
     said_so("close", planner_close(&s), 0, 0, 0, 0);
     expect("closed, a record is fresh", memcmp(&s, &fresh, sizeof s) == 0);
 
@@ -277,9 +337,10 @@ int main(void) {
         d = planner_fresh_dispatcher();
         expect("a fresh dispatcher is zero", memcmp(&d, &empty, sizeof d) == 0);
         said_so("an empty dispatcher's turn", planner_turn(&d, 1), PLANNER_IDLE, 0, 0, 0);
-        said_so("add", planner_add(&d, g, multipliers, N, settings), 0, 1, 0, 0);
-        said_so("add another", planner_add(&d, g, multipliers, N, settings), 0, 2, 0, 0);
-        record(&d.places[1], &g, multipliers, settings, settings.ceiling, 0);
+        said_so("add", planner_add(&d, g, multipliers, N, afloat, N, settings), 0, 1, 0, 0);
+        said_so("add another", planner_add(&d, g, multipliers, N, ashore, N, settings), 0, 2, 0, 0);
+        record(&d.places[0], &without, settings, settings.ceiling, 0);
+        record(&d.places[1], &with, settings, settings.ceiling, 0);
         said_so("a turn", planner_turn(&d, 1), 0, 1, 0, 0);
         expect("the place last served", d.last == 1 && d.places[0].count == 1 && d.places[1].count == 0);
         said_so("another turn", planner_turn(&d, 1000000), 0, 2, 0, 0);

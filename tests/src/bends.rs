@@ -1,4 +1,5 @@
-//! Ways to make the reference wrong, each in one sentence of document 01, of document 02 or of docs/RECORD.md. The self-test bends the law so and expects a suite to notice.
+//! Ways to make the reference wrong, each in one sentence of document 01, of document 02 or of docs/RECORD.md. The self-test bends the law so and
+//! expects a suite to notice.
 
 use crate::report::Bend;
 
@@ -263,7 +264,7 @@ pub const DEEPER_STACK: Bend = Bend {
 };
 
 pub const SHALLOWER_STACK: Bend = Bend {
-    what: "only n + 1 nodes may wait in a record",
+    what: "only one node more than vertices are afloat may wait in a record",
     bend: |law| law.nodes_above_vertices = 1,
 };
 
@@ -806,3 +807,201 @@ pub const STORED_BYTE: Bend = Bend {
     what: "the last byte of a list that was lent was another",
     bend: |law| law.stored_byte = 1,
 };
+
+pub const ASHORE_BYTE_OF_TWO: Bend = Bend {
+    what: "a byte of 2 says ashore",
+    bend: |law| law.max_ashore = 2,
+};
+
+pub const FIRST_ASHORE: Bend = Bend {
+    what: "buoy 1 may be ashore",
+    bend: |law| law.first_afloat = false,
+};
+
+pub const TWO_AFLOAT: Bend = Bend {
+    what: "two buoys afloat are enough",
+    bend: |law| law.least_afloat = 2,
+};
+
+pub const ASHORE_OF_ANY_LENGTH: Bend = Bend {
+    what: "the list ashore may have any length",
+    bend: |law| law.ashore_length = false,
+};
+
+pub const ASHORE_BEFORE_MULTIPLIERS: Bend = Bend {
+    what: "35 comes before 12",
+    bend: |law| law.ashore_before = 12,
+};
+
+pub const ASHORE_BEFORE_CEILING: Bend = Bend {
+    what: "35 comes before 13",
+    bend: |law| law.ashore_before = 13,
+};
+
+pub const ASHORE_BEFORE_STEP: Bend = Bend {
+    what: "35 comes before 14",
+    bend: |law| law.ashore_before = 14,
+};
+
+pub const ASHORE_BEFORE_DENOMINATOR: Bend = Bend {
+    what: "35 comes before 32",
+    bend: |law| law.ashore_before = 32,
+};
+
+pub const LEG_BEFORE_ASHORE: Bend = Bend {
+    what: "30 and 31 come before 35",
+    bend: |law| law.ashore_before_leg = false,
+};
+
+pub const DUES_ASHORE_NOT_JUDGED: Bend = Bend {
+    what: "12 does not look at a due ashore",
+    bend: |law| law.dues_ashore_judged = false,
+};
+
+pub const TOUCHED_STAY: Bend = Bend {
+    what: "legs that touch a buoy ashore keep their marks",
+    bend: |law| law.touched_struck = false,
+};
+
+pub const TOUCHED_REQUIRED_STAY: Bend = Bend {
+    what: "a required leg that touches a buoy ashore stays required",
+    bend: |law| law.touched_required_struck = false,
+};
+
+pub const TOUCHED_RULED_BY_MARK: Bend = Bend {
+    what: "a leg that touches a buoy ashore is ruled by its mark",
+    bend: |law| law.touched_ruled_struck = false,
+};
+
+pub const TOUCHED_IN_TREE: Bend = Bend {
+    what: "the tree's list has a required leg that touches a buoy ashore",
+    bend: |law| law.touched_in_no_tree = false,
+};
+
+pub const FREE_BY_LIST: Bend = Bend {
+    what: "31 goes by the mark that counts",
+    bend: |law| law.free_by_chart = false,
+};
+
+pub const DUE_ASHORE_COUNTS: Bend = Bend {
+    what: "a due ashore counts",
+    bend: |law| law.due_ashore_zero = false,
+};
+
+pub const DUE_ASHORE_GAINS: Bend = Bend {
+    what: "a due ashore gains",
+    bend: |law| law.due_ashore_stays = false,
+};
+
+pub const LEGS_OF_ALL: Bend = Bend {
+    what: "a 1-tree has as many legs as there are buoys",
+    bend: |law| law.legs_of_afloat = false,
+};
+
+pub const ROUND_OF_ALL: Bend = Bend {
+    what: "a round has as many legs as there are buoys",
+    bend: |law| law.round_of_afloat = false,
+};
+
+pub const AGREE_WHATEVER_LIST: Bend = Bend {
+    what: "two hunts agree whatever their lists",
+    bend: |law| law.agree_by_list = false,
+};
+
+pub const BUDGET_OF_TOUCHED: Bend = Bend {
+    what: "the allowance counts free legs that touch a buoy ashore",
+    bend: |law| law.budget_of_untouched = false,
+};
+
+pub const SAVED_WITHOUT_LIST: Bend = Bend {
+    what: "back forgets the list ashore",
+    bend: |law| law.saved_with_list = false,
+};
+
+pub const ADDED_WITHOUT_LIST: Bend = Bend {
+    what: "a dispatcher forgets the list ashore",
+    bend: |law| law.added_with_list = false,
+};
+
+pub const COMPARED_WITHOUT_LIST: Bend = Bend {
+    what: "compare forgets the list ashore",
+    bend: |law| law.compared_with_list = false,
+};
+
+pub const LIFTED_WITHOUT_LIST: Bend = Bend {
+    what: "lifting forgets the list ashore",
+    bend: |law| law.lifted_with_list = false,
+};
+
+pub const CARRIED_OF_ALL: Bend = Bend {
+    what: "a node carries the multipliers of all vertices",
+    bend: |law| law.carried_of_afloat = false,
+};
+
+pub const CARRIED_PAST_AFLOAT: Bend = Bend {
+    what: "what a node carries past the vertices afloat counts for nothing",
+    bend: |law| law.carried_zero_past_afloat = false,
+};
+
+pub const TOUCHED_NOT_CHECKED: Bend = Bend {
+    what: "in a record's node an edge that touches a vertex ashore may have any mark",
+    bend: |law| law.touched_excluded = false,
+};
+
+pub const ASHORE_PAST_N: Bend = Bend {
+    what: "a record's list ashore past n counts for nothing",
+    bend: |law| law.ashore_zero_past_n = false,
+};
+
+pub const ASHORE_NOT_CHECKED: Bend = Bend {
+    what: "a record's list ashore may be any",
+    bend: |law| law.ashore_checked = false,
+};
+
+pub const DEPTH_OF_ALL: Bend = Bend {
+    what: "a record's depth may be two above all vertices, afloat or not",
+    bend: |law| law.depth_of_afloat = false,
+};
+
+/// Misreadings of C-13 that a hunt shows, on the reference and on the library.
+pub const OF_LIFTING: [Bend; 24] = [
+    FLAG_WITHOUT_EFFECT,
+    LIFTED_UNASKED,
+    RELAXED_POLICY,
+    FIRST_LIMIT_DROPPED,
+    SECOND_LIMIT_DROPPED,
+    RISES_FROM_THREE,
+    FALLS_TO_ONE,
+    ONE_END_MOVES,
+    SECOND_END_AFTER_FIRST,
+    REQUIRED_SUPPORT,
+    UNLIMITED_STAYS,
+    LIFTS_NOT_HELD,
+    LIFTED_AT_UPPER_RULED,
+    LIFTED_DEAD_KEEPS,
+    LIFTED_DEAD_CLOSES,
+    DEAD_FORCES,
+    OTHERS_RULED_TOO,
+    LIFTED_IN_TURN,
+    LIFTED_DUES_STAY,
+    HIGHER_MULTIPLIER,
+    CEILING_NOT_SCALED,
+    LIFTING_ONE_BIT,
+    LIFTING_ONE_BYTE,
+    LIFTING_HALF,
+];
+
+/// Two lists of bends as one; N is the sum of their lengths.
+pub const fn joined<const N: usize>(first: &[Bend], rest: &[Bend]) -> [Bend; N] {
+    assert!(first.len() + rest.len() == N);
+    let mut all = [first[0]; N];
+    let mut i = 0;
+    while i < N {
+        all[i] = match i < first.len() {
+            true => first[i],
+            false => rest[i - first.len()],
+        };
+        i += 1;
+    }
+    all
+}

@@ -175,6 +175,35 @@ pub fn denominator(random: &mut Random) -> u64 {
     }
 }
 
+/// A list of which of n buoys are ashore: none every second time, otherwise any but buoy 1, three at least being afloat.
+pub fn ashore(random: &mut Random, n: usize) -> Vec<u8> {
+    let mut list = vec![0; n];
+    if n > 3 && random.one_in(2) {
+        let mut others: Vec<usize> = (1..n).collect();
+        random.shuffle(&mut others);
+        let most = random.pick(&[1, 2, n - 3, n - 3]).min(n - 3);
+        let hauled = &others[..1 + random.below(most)];
+        hauled.iter().for_each(|place| list[*place] = 1);
+    }
+    list
+}
+
+/// Breaks a list ashore: a byte above 1, buoy 1 ashore, or fewer than three afloat.
+pub fn break_ashore(random: &mut Random, list: &mut [u8]) {
+    if list.is_empty() {
+        return;
+    }
+    let place = random.below(list.len());
+    match random.below(6) {
+        0 | 1 => list[0] = 1,
+        2 | 3 => list[place] = random.pick(&[2, 2, 2, 3, 128, 255]),
+        _ => {
+            let afloat = list.len().min(1 + random.below(2));
+            list[afloat..].fill(1);
+        }
+    }
+}
+
 /// Whether an opening lifts: no or yes, and every fourth yes as a number whose low bytes say no.
 pub fn lifting(random: &mut Random) -> u64 {
     match random.below(8) {
@@ -338,14 +367,17 @@ pub fn opening(random: &mut Random, max_vertices: usize, most: usize, wrong: boo
     };
     let mut step = random.pick(&[0, 1, 2, 10, 1_000, 10_000]);
     let mut denominator = denominator(random);
+    let mut ashore = ashore(random, graph.n);
     let faults = if wrong { random.pick(&[1, 1, 2, 3]) } else { 0 };
     for _ in 0..faults {
-        match random.below(6) {
+        match random.below(8) {
             0 => break_value(random, &mut graph),
             1 => multipliers.resize(random.below(24), 0),
             2 => break_multipliers(random, &mut multipliers),
             3 => ceiling = wrong_ceiling(random),
             4 => denominator = wrong_denominator(random),
+            5 => break_ashore(random, &mut ashore),
+            6 => ashore.resize(random.below(24), 0),
             _ if random.one_in(2) => sweeps = random.pick(&[16, 16, 17, u32::MAX]),
             _ => step = random.pick(&[10_001, u32::MAX]),
         }
@@ -353,6 +385,7 @@ pub fn opening(random: &mut Random, max_vertices: usize, most: usize, wrong: boo
     Call::Open {
         graph: Box::new(graph),
         multipliers,
+        ashore,
         ceiling,
         sweeps,
         step,

@@ -1,5 +1,6 @@
 //! The search record: its parts, the record of a state of the machine, and the record's own check as docs/RECORD.md states it.
 
+use crate::document::ashore;
 use crate::document::dispatcher::{self, Dispatcher};
 use crate::document::graph::{self, Graph, EXCLUDED, FREE, PLACES, REQUIRED};
 use crate::document::law::Law;
@@ -32,12 +33,13 @@ pub const GRAPH: usize = 7 * PLACES + 2;
 /// Bytes of a record before its stack: settings, upper bound and count.
 pub const BEFORE_STACK: usize = 32 + 2 * 8;
 
-/// Bytes of a record: behind the stack are the depth, the graph, the multipliers, what the nodes carry, the incumbent and two flags.
+/// Bytes of a record: behind the stack are the depth, the graph, the multipliers, what the nodes carry, the incumbent, the list ashore and two
+/// flags.
 pub const SIZE: usize =
-    BEFORE_STACK + 8 * STACK + 4 + GRAPH + 4 * VERTICES + 4 * CARRIED + PLACES + 2;
+    BEFORE_STACK + 8 * STACK + 8 + GRAPH + 4 * VERTICES + 4 * CARRIED + PLACES + VERTICES + 2;
 
-/// The record's parts, with any contents. Node p, counted from 0, has its two rows from word 6 · p of the stack on, and the multiplier of vertex v,
-/// counted from 0, at place 20 · p + v of what the nodes carry.
+/// The record's parts, with any contents. Node p, counted from 0, has its two rows from word 6 · p of the stack on, and the multipliers of the
+/// vertices afloat, in their order, from place 20 · p of what the nodes carry on.
 #[derive(Clone, PartialEq, Eq)]
 pub struct Record {
     pub ceiling: i64,
@@ -48,11 +50,12 @@ pub struct Record {
     pub upper: i64,
     pub count: u64,
     pub stack: Vec<u64>,
-    pub depth: u32,
+    pub depth: u64,
     pub graph: Graph,
     pub multipliers: [i32; VERTICES],
     pub carried: Vec<i32>,
     pub best: [u8; PLACES],
+    pub ashore: [u8; VERTICES],
     pub open: u8,
     pub has_best: u8,
 }
@@ -65,6 +68,11 @@ impl Record {
 
     /// The one record of a state.
     pub fn of(state: &Option<Search>) -> Record {
+        Record::of_state(&Law::AS_WRITTEN, state)
+    }
+
+    /// The same, as a bent law has it.
+    pub fn of_state(law: &Law, state: &Option<Search>) -> Record {
         let mut record = Record::fresh();
         let Some(search) = state else {
             return record;
@@ -72,17 +80,19 @@ impl Record {
         record.open = 1;
         record.graph = search.graph.clone();
         record.multipliers[..search.multipliers.len()].copy_from_slice(&search.multipliers);
+        let listed = record.ashore.iter_mut().zip(&search.ashore);
+        listed.for_each(|(place, byte)| *place = *byte);
         record.ceiling = search.ceiling;
         record.sweeps = search.sweeps;
         record.step = search.step;
         record.denominator = search.denominator;
         record.lifting = search.lifting;
         record.upper = search.upper;
-        record.depth = search.stack.len() as u32;
+        record.depth = search.stack.len() as u64;
         for (p, Node { marks, multipliers }) in search.stack.iter().enumerate() {
             record.stack[NODE * p..NODE * (p + 1)].copy_from_slice(&rows(&Law::AS_WRITTEN, marks));
-            record.carried[VERTICES * p..VERTICES * p + multipliers.len()]
-                .copy_from_slice(multipliers);
+            let carried = carried(law, multipliers, &search.ashore);
+            record.carried[VERTICES * p..VERTICES * (p + 1)].copy_from_slice(&carried);
         }
         if let Some(edges) = &search.incumbent {
             record.has_best = 1;
@@ -107,6 +117,7 @@ impl Record {
         bytes.extend(self.multipliers.iter().flat_map(|x| x.to_ne_bytes()));
         bytes.extend(self.carried.iter().flat_map(|x| x.to_ne_bytes()));
         bytes.extend(self.best);
+        bytes.extend(self.ashore);
         bytes.extend([self.open, self.has_best]);
         bytes
     }
@@ -125,13 +136,14 @@ impl Record {
             stack: (0..STACK)
                 .map(|_| u64::from_ne_bytes(next(&mut rest)))
                 .collect(),
-            depth: u32::from_ne_bytes(next(&mut rest)),
+            depth: u64::from_ne_bytes(next(&mut rest)),
             graph: graph_of(&next::<GRAPH>(&mut rest)),
             multipliers: std::array::from_fn(|_| i32::from_ne_bytes(next(&mut rest))),
             carried: (0..CARRIED)
                 .map(|_| i32::from_ne_bytes(next(&mut rest)))
                 .collect(),
             best: next(&mut rest),
+            ashore: next(&mut rest),
             open: next::<1>(&mut rest)[0],
             has_best: next::<1>(&mut rest)[0],
         };
@@ -152,6 +164,7 @@ impl Record {
         machine.call(&Call::Open {
             graph: Box::new(self.graph.clone()),
             multipliers: self.multipliers[..n].to_vec(),
+            ashore: self.ashore[..n].to_vec(),
             ceiling: self.ceiling,
             sweeps: self.sweeps,
             step: self.step,
@@ -163,7 +176,7 @@ impl Record {
         search.stack = (0..self.waiting())
             .map(|p| Node {
                 marks: (0..m).map(|k| self.mark(p, k)).collect(),
-                multipliers: self.carried_by(p)[..n].to_vec(),
+                multipliers: self.spread(p),
             })
             .collect();
         search.incumbent = (self.has_best != 0).then(|| self.best[..m].to_vec());
@@ -194,6 +207,8 @@ impl Record {
             && self.multipliers[graph.n.min(VERTICES)..]
                 .iter()
                 .all(|x| *x == 0)
+            && (!law.ashore_zero_past_n
+                || self.ashore[graph.n.min(VERTICES)..].iter().all(|x| *x == 0))
             && self.best[best..].iter().all(|x| *x == 0)
             && (0..NODES).all(|p| {
                 let used = match p < self.waiting() {
@@ -205,7 +220,9 @@ impl Record {
             })
             && (0..NODES).all(|p| {
                 let used = match p < self.waiting() {
-                    true if law.carried_zero_past_n => graph.n.min(VERTICES),
+                    true if !law.carried_zero_past_n => VERTICES,
+                    true if law.carried_zero_past_afloat => self.afloat(),
+                    true => graph.n.min(VERTICES),
                     false if law.zeros_past_depth => 0,
                     _ => VERTICES,
                 };
@@ -215,6 +232,23 @@ impl Record {
 
     pub fn waiting(&self) -> usize {
         self.depth as usize
+    }
+
+    /// How many vertices are afloat.
+    pub fn afloat(&self) -> usize {
+        let list = &self.ashore[..self.graph.n.min(VERTICES)];
+        list.iter().filter(|byte| **byte == 0).count()
+    }
+
+    /// The multipliers of a node by the vertices' own numbers: "the buoy's due counts as 0".
+    fn spread(&self, p: usize) -> Vec<i32> {
+        let mut carried = self.carried_by(p).iter();
+        let list = self.ashore[..self.graph.n].iter();
+        let due = |byte: &u8| match *byte {
+            0 => carried.next().copied(),
+            _ => None,
+        };
+        list.map(due).map(Option::unwrap_or_default).collect()
     }
 
     /// The two rows of node p, that of the required edges first.
@@ -275,44 +309,64 @@ impl Record {
             && self.count == 0
     }
 
-    /// A search is open: an opening accepts the arguments and keeps whether it lifts as 0 or 1, U is a ceiling, at most n + 2 nodes wait, node p has "no leg in both" rows and at least
-    /// p required ones, an opening accepts the multipliers that it carries, the incumbent is of 0 and 1, and the count is at most 2^63 - 1.
+    /// A search is open: an opening accepts the arguments and keeps whether it lifts as 0 or 1, U is a ceiling, at most two nodes more wait than
+    /// vertices are afloat, node p has "no leg in both" rows, at least p required ones and every edge that touches a vertex ashore in the row of
+    /// excluded ones, an opening of the vertices afloat accepts the multipliers that it carries, the incumbent is of 0 and 1, and the count is at
+    /// most 2^63 - 1.
     fn fits(&self, law: &Law) -> bool {
-        let m = self.graph.m;
+        let n = self.graph.n;
         graph::fits(law, &self.graph)
-            && tree::admit(
-                law,
-                &self.graph,
-                &self.multipliers[..self.graph.n],
-                self.denominator,
-                None,
-            )
-            .is_ok()
+            && tree::multipliers_fit(law, &self.multipliers[..n], self.denominator)
+            && (!law.ashore_checked || ashore::fits(law, &self.ashore[..n]))
             && ceiling_fits(law, self.ceiling)
             && self.sweeps <= law.max_sweeps
             && self.step <= law.max_step
             && (tree::denominator_fits(law, self.denominator) || !law.denominator_checked)
             && self.lifting <= law.max_lifting
             && ceiling_fits(law, self.upper)
-            && self.waiting() <= NODES.min(self.graph.n + law.nodes_above_vertices)
-            && (0..self.waiting()).all(|p| {
-                let both = |k: usize| self.required(p, k) && self.struck(p, k);
-                let required = (0..m).filter(|k| self.required(p, *k)).count();
-                (!law.rows_apart || !(0..m).any(both)) && p <= required + law.required_short
-            })
-            && (0..self.waiting()).all(|p| {
-                let carried = &self.carried_by(p)[..self.graph.n];
-                let q = self.denominator;
-                !law.carried_fit || tree::admit(law, &self.graph, carried, q, None).is_ok()
-            })
+            && self.depth <= self.most_waiting(law) as u64
+            && (0..self.waiting()).all(|p| self.node_fits(law, p))
             && self.best.iter().all(|x| *x <= 1)
             && self.count < 1 << 63
+    }
+
+    fn most_waiting(&self, law: &Law) -> usize {
+        let vertices = match law.depth_of_afloat {
+            true => self.afloat(),
+            false => self.graph.n,
+        };
+        NODES.min(vertices + law.nodes_above_vertices)
+    }
+
+    /// Node p, counted from 0.
+    fn node_fits(&self, law: &Law, p: usize) -> bool {
+        let m = self.graph.m;
+        let sea = ashore::haul(law, &self.graph, &self.ashore);
+        let both = |k: usize| self.required(p, k) && self.struck(p, k);
+        let required = (0..m).filter(|k| self.required(p, *k)).count();
+        let mut touched = (0..m).filter(|k| sea.touches_ashore(*k));
+        let carried = &self.carried_by(p)[..self.afloat()];
+        (!law.rows_apart || !(0..m).any(both))
+            && p <= required + law.required_short
+            && (!law.touched_excluded || touched.all(|k| self.struck(p, k)))
+            && (!law.carried_fit || tree::multipliers_fit(law, carried, self.denominator))
     }
 }
 
 /// Whether edge k, counted from 0, has its bit set in a row.
 fn bit(row: &[u64], k: usize) -> bool {
     row[k / 64] >> (k % 64) & 1 == 1
+}
+
+/// What a node carries, in 20 places: the multipliers of the vertices afloat, in their order.
+pub fn carried(law: &Law, multipliers: &[i32], ashore: &[u8]) -> [i32; VERTICES] {
+    let of = multipliers.iter().zip(ashore);
+    let afloat = of.filter(|(_, byte)| **byte == 0 || !law.carried_of_afloat);
+    let mut carried = [0; VERTICES];
+    for (place, (multiplier, _)) in carried.iter_mut().zip(afloat) {
+        *place = *multiplier;
+    }
+    carried
 }
 
 /// The rows of a node's marks: "a node's required legs in one row of 64-bit words and its struck legs in another".
@@ -403,6 +457,7 @@ pub fn graph_of(bytes: &[u8]) -> Graph {
         mark: next(&mut rest),
         n: next::<1>(&mut rest)[0].into(),
         m: next::<1>(&mut rest)[0].into(),
+        ashore: 0,
     }
 }
 
@@ -417,8 +472,8 @@ impl fmt::Debug for Record {
     fn fmt(&self, f: &mut fmt::Formatter) -> fmt::Result {
         write!(
             f,
-            "record open {} {:?} multipliers {:?}",
-            self.open, self.graph, self.multipliers
+            "record open {} {:?} multipliers {:?} ashore {:?}",
+            self.open, self.graph, self.multipliers, self.ashore
         )?;
         write!(
             f,

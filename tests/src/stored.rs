@@ -1,16 +1,18 @@
 //! Lists of calls written down with what was answered and lent, one call a line: `run 5 = 1001 0 0 5`. Document 02, C-19: "From fresh records
-//! that nobody else writes, answers on every call equal the former ones."
+//! that nobody else writes, answers on every call equal the former ones"; C-20: "with none ashore they read as before".
 //!
 //! `fresh` begins a list; `sea` and `dues` say what the openings behind them take, in the words of `planner calls`. Behind `=` stand the answer's
 //! number, place, value and nodes, then the bytes of the lent list in hex where one of them changed.
 
+use crate::document::ashore::none;
 use crate::document::dispatcher;
 use crate::document::graph::{Edge, Graph};
 use crate::document::machine::Call;
 use crate::document::sailing::Trial;
 use crate::document::shelf::AnyCall;
+use crate::document::tree::Given;
 use crate::ffi::sailings::compare;
-use crate::ffi::Reply;
+use crate::ffi::{trees, Reply};
 use crate::record::Dispatched;
 use crate::report::{hex, Hex};
 use crate::suites::shelves::Both;
@@ -68,6 +70,7 @@ impl Desk {
             "save" => return self.both.call(&AnyCall::Save(number() as usize)),
             "back" => return self.both.call(&AnyCall::Back(number() as usize)),
             "compare" => return self.comparison(words),
+            "tree" | "rule" | "preview" => return self.of_sea(name, words),
             _ => return self.dispatched(name, words),
         };
         self.both.call(&AnyCall::Plain(plain))
@@ -93,34 +96,50 @@ impl Desk {
         self.class.call(&call)
     }
 
-    /// `open CEILING SWEEPS STEP DENOMINATOR`, of the present sea and dues: former openings, without lifting.
+    /// `tree DENOMINATOR`, `rule CEILING DENOMINATOR`, `preview DENOMINATOR LEG MARK`, of the present sea and dues.
+    fn of_sea(&self, name: &str, words: &[&str]) -> Reply {
+        let given = |q: &str| Given::afloat(&self.graph, &self.dues, read(q) as u64);
+        let m = self.graph.m;
+        match name {
+            "tree" => trees::tree(&given(words[0]), m),
+            "rule" => trees::rule(&given(words[1]), read(words[0]) as i64, m),
+            _ => {
+                let asked = (read(words[1]) as usize, read(words[2]) as u32);
+                trees::preview(&given(words[0]), asked, m)
+            }
+        }
+    }
+
+    /// `open CEILING SWEEPS STEP DENOMINATOR`, of the present sea and dues, and behind it what lifting is asked for by: former openings, with no
+    /// buoy ashore.
     fn opening(&self, words: &[&str]) -> Call {
         Call::Open {
             graph: Box::new(self.graph.clone()),
             multipliers: self.dues.clone(),
+            ashore: none(&self.graph).to_vec(),
             ceiling: read(words[0]) as i64,
             sweeps: read(words[1]) as u32,
             step: read(words[2]) as u32,
             denominator: read(words[3]) as u64,
-            lifting: 0,
+            lifting: words.get(4).map_or(0, |word| read(word) as u64),
         }
     }
 
-    /// `compare CEILING BUDGET DENOMINATOR SWEEPS/STEP ..`
+    /// `compare CEILING BUDGET DENOMINATOR SWEEPS/STEP ..`, a word without `/` being what lifting is asked for by
     fn comparison(&self, words: &[&str]) -> Reply {
-        let pairs = words[3..]
-            .iter()
-            .map(|pair| pair.split_once('/').expect("a pair"));
+        let pairs = words[3..].iter().filter_map(|pair| pair.split_once('/'));
+        let lifting = words[3..].iter().find(|word| !word.contains('/'));
         let (sweeps, steps): (Vec<u32>, Vec<u32>) = pairs
             .map(|(sweeps, step)| (read(sweeps) as u32, read(step) as u32))
             .unzip();
         let compared = compare(&Trial {
             graph: self.graph.clone(),
             multipliers: self.dues.clone(),
+            ashore: none(&self.graph).to_vec(),
             ceiling: read(words[0]) as i64,
             budget: read(words[1]) as u64,
             denominator: read(words[2]) as u64,
-            lifting: 0,
+            lifting: lifting.map_or(0, |word| read(word) as u64),
             length: sweeps.len(),
             sweeps,
             steps,

@@ -126,4 +126,5 @@ fn unused(record: &Record) -> bool {
         && zero_words(record.stack[depth..].as_flattened())
         && zero_numbers(record.carried[depth..].as_flattened())
         && zero(&record.best[best..])
+        && zero(&record.ashore)
 }

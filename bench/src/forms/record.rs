@@ -21,11 +21,13 @@ pub struct Record {
     /// document 02's C-13: 1 where the opening turned lifting on, otherwise 0
     pub lifting: u64,
     pub upper: i64,
-    pub depth: u32,
+    pub depth: u64,
     pub stack: [Rows; NODES],
     pub carried: [Multipliers; NODES],
     pub has_best: u8,
     pub best: Marks,
+    /// zeros: the references know no list ashore (document 02, C-20)
+    pub ashore: [u8; VERTICES],
     pub count: u64,
 }
 
@@ -77,6 +79,7 @@ impl Record {
             carried: [[0; VERTICES]; NODES],
             has_best: 0,
             best: [0; PLACES],
+            ashore: [0; VERTICES],
             count: 0,
         }
     }

@@ -114,7 +114,8 @@ fn plain_check(r: &Record) -> bool {
         && (0..depth).all(|p| (m..64 * ROW).all(|k| !required(r, p, k) && !excluded(r, p, k)))
         && (depth..r.carried.len()).all(|p| r.carried[p].iter().all(|d| *d == 0))
         && (0..depth).all(|p| r.carried[p][n..].iter().all(|d| *d == 0))
-        && (r.has_best == 1 || r.best.iter().all(|byte| *byte == 0));
+        && (r.has_best == 1 || r.best.iter().all(|byte| *byte == 0))
+        && r.ashore == [0; VERTICES];
     if r.open > 1 || r.has_best > 1 {
         return false;
     }
@@ -159,7 +160,7 @@ fn bend(r: &mut Record, random: &mut Random) {
     let byte = [0, 1, 2, 3, 21, 255][random.below(6)];
     let past = MAX_CEILING + 1;
     let wide = [-1, 0, 1, MAX_CEILING, past, -past, i64::MIN][random.below(7)];
-    match random.below(22) {
+    match random.below(23) {
         0 => r.open = byte,
         1 => r.graph.n = byte,
         2 => r.graph.m = r.graph.m.wrapping_add(1),
@@ -179,6 +180,7 @@ fn bend(r: &mut Record, random: &mut Random) {
         17 => r.carried[p][k % VERTICES] = [0, 1, MAX_MULTIPLIER + 1, i32::MIN][random.below(4)],
         18 => r.carried[random.below(r.waiting() + 1) % 22][k % VERTICES] = [0, 1][random.below(2)],
         16 => r.best[k] = byte,
+        21 => r.ashore[k % VERTICES] = byte.min(2),
         20 => r.lifting = [0, 1, 2, u64::MAX][random.below(4)],
         19 => r.denominator = [0, 1, 2, 1_001][random.below(4)],
         _ => r.count = [0, (1 << 63) - 1, 1 << 63][random.below(3)],

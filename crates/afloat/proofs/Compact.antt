@@ -7,9 +7,9 @@ use Rattle.graph.specs.Network.{Network}
 use Rattle.tree_theory.specs.OneTree.{Edges, Least}
 use Rattle.tree_theory.specs.Enumeration.{least_tree, was_excluded, ruling}
 use Rattle.tree_theory.specs.Rulings.{rules_excluded}
-use Rattle.compaction.specs.Ranks.{rank, nth}
-use Rattle.compaction.specs.Thinned.{spread, RestExcluded, Spread, spread_least, least-thin}
-use Rattle.compaction.specs.Rulings.{ruling-thin}
+use Rattle.thinning.specs.Ranks.{rank, nth}
+use Rattle.thinning.specs.Thinned.{spread, RestExcluded, Spread, spread_least, least-thin}
+use Rattle.thinning.specs.Rulings.{ruling-thin}
 use Rattle.afloat.specs.Over.{Ashore, LeastOver}
 use Rattle.afloat.specs.Reduced.{reduced, reduced_multiplier, Fit}
 use Rattle.afloat.proofs.Trees.{least_iff}

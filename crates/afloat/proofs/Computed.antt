@@ -11,11 +11,11 @@ use Rattle.tree_theory.specs.OneTree.{Edges}
 use Rattle.tree_theory.specs.Inputs.{multiplier}
 use Rattle.tree_theory.specs.Enumeration.{Tree, least_tree, was_excluded, ruling}
 use Rattle.tree_theory.specs.Scaled.{scaled_by}
-use Rattle.compaction.specs.Ranks.{rank, nth}
+use Rattle.thinning.specs.Ranks.{rank, nth}
 use Rattle.afloat.specs.Over.{Ashore, ashore, ashore_fits}
 use Rattle.afloat.specs.Values.{tree_over, ruling_over}
 use Rattle.afloat.specs.Reduced.{reduced_multiplier, Fit}
-use Rattle.compaction.specs.Thinned.{Spread}
+use Rattle.thinning.specs.Thinned.{Spread}
 use Rattle.afloat.specs.Compact.{Keeping}
 use Rattle.afloat.proofs.Compact.{compact-tree, compact-ruling, compact_rest}
 use Rattle.afloat.specs.Graphs.{Renumbered}

@@ -14,7 +14,7 @@ use Rattle.graph.specs.Network.{Network}
 use Rattle.tree_theory.specs.OneTree.{Edges, bound}
 use Rattle.tree_theory.specs.Enumeration.{edge_sets, is_one_tree, one_trees, min_from, a_tree, least_of, least_tree, barred_b, forced_b, ruling}
 use Rattle.tree_theory.specs.Decide.{test_tree, tree_test}
-use Rattle.compaction.specs.Rulings.{same_test}
+use Rattle.thinning.specs.Rulings.{same_test}
 use Rattle.afloat.specs.Over.{Ashore, multiplier_over, OneTreeOver, bound_over}
 use Rattle.afloat.specs.Values.{is_one_tree_over, one_trees_over, tree_over, is_barred_over, is_forced_over, ruling_over}
 use Rattle.afloat.specs.Reduced.{reduced, reduced_multiplier, Fit}
@@ -61,7 +61,7 @@ every_same p q (t ∷ ts) h = rw (h t (inl refl), every_same p q ts (λ u i. h u
 module _ (s : Ashore) (g : Network) (f : Fit s g) where
   -- ---- value for value
 
-  test_reduced : (t : Edges) → is_one_tree_over s g t ≡ is_one_tree (reduced s g) t
+  pub test_reduced : (t : Edges) → is_one_tree_over s g t ≡ is_one_tree (reduced s g) t
   test_reduced t =
       same_test _ _
       (λ e. tree_test (reduced s g) t ((tree_iff s g f t).0 (test_tree_over s g t e)))
@@ -89,13 +89,13 @@ module _ (s : Ashore) (g : Network) (f : Fit s g) where
         least_same g (reduced s g) (multiplier_over s d) δ (one_trees_over s g) (λ t i. unfold bound_over in listed-bound t i)
         ∙ ap (least_of (reduced s g) δ) trees_reduced
 
-    barred_reduced : (ceiling : ℤ) (k : ℕ) → is_barred_over s g d ceiling k ≡ barred_b (reduced s g) δ ceiling k
+    pub barred_reduced : (ceiling : ℤ) (k : ℕ) → is_barred_over s g d ceiling k ≡ barred_b (reduced s g) δ ceiling k
     unfolding is_barred_over barred_b
     barred_reduced ceiling k =
         every_same _ _ (one_trees_over s g) (λ t i. ap (λ (z : ℤ). not (t k) || lt_z ceiling z) (listed-bound t i))
         ∙ ap (every_of (λ t. not (t k) || lt_z ceiling (bound (reduced s g) δ t))) trees_reduced
 
-    forced_reduced : (ceiling : ℤ) (k : ℕ) → is_forced_over s g d ceiling k ≡ forced_b (reduced s g) δ ceiling k
+    pub forced_reduced : (ceiling : ℤ) (k : ℕ) → is_forced_over s g d ceiling k ≡ forced_b (reduced s g) δ ceiling k
     unfolding is_forced_over forced_b
     forced_reduced ceiling k =
         every_same _ _ (one_trees_over s g) (λ t i. ap (λ (z : ℤ). t k || lt_z ceiling z) (listed-bound t i))

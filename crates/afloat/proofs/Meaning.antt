@@ -5,11 +5,11 @@ use Rattle.std.specs.Prelude.{◌≡◌, ◌↔◌, true, ℕ, ℤ}
 use Rattle.std.proofs.Common.{sym, ◌∙◌, subst}
 use Rattle.lists.specs.Members.{◌∈◌}
 use Rattle.lists.specs.Numbers.{up_to}
-use Rattle.graph.specs.Network.{Network, free, required}
+use Rattle.graph.specs.Network.{Network, free, required, excluded}
 use Rattle.tree_theory.specs.OneTree.{Edges}
-use Rattle.tree_theory.specs.Enumeration.{Tree, no_tree, a_tree, least_tree, forces, bars, was_required, was_excluded}
+use Rattle.tree_theory.specs.Enumeration.{Tree, no_tree, a_tree, least_tree, keeps, forces, bars, was_required, was_excluded}
 use Rattle.tree_theory.specs.LeastTree.{Right, tree_right, Above, infeasible_tree}
-use Rattle.tree_theory.specs.Rulings.{rules_exactly, rules_excluded, rules_required}
+use Rattle.tree_theory.specs.Rulings.{rules_exactly, rules_out, rules_in, rules_nothing, rules_excluded, rules_required}
 use Rattle.tours.specs.TourTree.{tour_tree}
 use Rattle.afloat.specs.Over.{Ashore, touched, mark_over, OneTreeOver, InfeasibleOver, BarredOver, ForcedOver, TourOver}
 use Rattle.afloat.specs.Over.{AllowedOver}
@@ -57,11 +57,32 @@ module _ (s : Ashore) (g : Network) (f : Fit s g) (d : ℕ → ℤ) where
           ((λ h. c.1 (r.1.0 (sym same ∙ h))), λ h. same ∙ r.1.1 (c.0 h)),
         )
 
+    -- of every edge, by the mark that counts
+    pub rules_out_over : mark_over s g k ≡ free → BarredOver s g d ceiling k → ruling_over s g d ceiling k ≡ bars
+    rules_out_over e b =
+        ruling-reduced s g f d ceiling k
+        ∙ rules_out (reduced s g) (reduced_multiplier s g.n d) ceiling k m e ((barred_iff s g f d ceiling k).0 b)
+
+    pub rules_in_over : mark_over s g k ≡ free → ¬ BarredOver s g d ceiling k → ForcedOver s g d ceiling k → ruling_over s g d ceiling k ≡ forces
+    rules_in_over e nb b =
+        ruling-reduced s g f d ceiling k
+        ∙ rules_in (reduced s g) (reduced_multiplier s g.n d) ceiling k m e (λ h. nb ((barred_iff s g f d ceiling k).1 h))
+        ((forced_iff s g f d ceiling k).0 b)
+
+    pub rules_nothing_over : mark_over s g k ≡ free → ¬ BarredOver s g d ceiling k → ¬ ForcedOver s g d ceiling k
+        → ruling_over s g d ceiling k ≡ keeps
+    rules_nothing_over e nb nf =
+        ruling-reduced s g f d ceiling k
+        ∙ rules_nothing (reduced s g) (reduced_multiplier s g.n d) ceiling k m e (λ h. nb ((barred_iff s g f d ceiling k).1 h))
+        (λ h. nf ((forced_iff s g f d ceiling k).1 h))
+
+    pub rules_excluded_over : mark_over s g k ≡ excluded → ruling_over s g d ceiling k ≡ was_excluded
+    rules_excluded_over e =
+        ruling-reduced s g f d ceiling k ∙ rules_excluded (reduced s g) (reduced_multiplier s g.n d) ceiling k m e
+
     -- "A leg touching such a buoy counts as struck, whatever its mark"
     pub rules_touched : touched s g k ≡ true → ruling_over s g d ceiling k ≡ was_excluded
-    rules_touched e =
-        ruling-reduced s g f d ceiling k
-        ∙ rules_excluded (reduced s g) (reduced_multiplier s g.n d) ceiling k m (touched_excluded s g f k m e)
+    rules_touched e = rules_excluded_over (touched_excluded s g f k m e)
 
     pub rules_required_over : mark_over s g k ≡ required → ruling_over s g d ceiling k ≡ was_required
     rules_required_over e =

@@ -11,8 +11,8 @@ use Rattle.graph.specs.Network.{Network, excluded}
 use Rattle.tree_theory.specs.OneTree.{Edges}
 use Rattle.tree_theory.specs.Valid.{Valid, is_excluded, excluded_is}
 use Rattle.tours.specs.Renumbering.{Simple}
-use Rattle.compaction.specs.Ranks.{rank, nth, nth_in, nth-kept, rank_back}
-use Rattle.compaction.specs.Thinned.{thin}
+use Rattle.thinning.specs.Ranks.{rank, nth, nth_in, nth-kept, rank_back}
+use Rattle.thinning.specs.Thinned.{thin}
 use Rattle.afloat.specs.Over.{Ashore, active, touched, mark_over}
 use Rattle.afloat.specs.Reduced.{reduced, Fit, reduced-valid, a_live, b_live, a_is, b_is, live_same}
 

@@ -22,7 +22,7 @@ use Rattle.tree_theory.specs.Decide.{marked_is, is_marked, alike_same, same_alik
 use Rattle.tours.specs.Orders.{distinct, distinct_is, is_distinct, words, words_in, in_words}
 use Rattle.tours.specs.Tours.{is_trip, is_tour}
 use Rattle.tours.specs.TourTest.{trip_is, is_trip_lem, test_tour, tour_test}
-use Rattle.compaction.specs.Rulings.{same_test}
+use Rattle.thinning.specs.Rulings.{same_test}
 use Rattle.afloat.specs.Over.{Ashore, active, active_count, others_over, mark_over, OneTreeOver, TourOver}
 use Rattle.afloat.specs.Values.{is_one_tree_over, is_tour_over}
 use Rattle.afloat.specs.Reduced.{reduced, Fit}

@@ -19,7 +19,7 @@ use Rattle.graph.specs.Valid as value
 use Rattle.tree_theory.specs.OneTree.{Edges}
 use Rattle.tree_theory.specs.Arrays.{of_edge}
 use Rattle.tree_theory.specs.Valid.{Valid}
-use Rattle.compaction.specs.Ranks.{rank, nth, Kept, rank_yes, rank_most, rank_mono, rank-nth, nth-rank, nth_zero, nth_past}
+use Rattle.thinning.specs.Ranks.{rank, nth, Kept, rank_yes, rank_most, rank_mono, rank-nth, nth-rank, nth_zero, nth_past}
 use Rattle.afloat.specs.Over.{Ashore, active, touched, mark_over}
 use Rattle.afloat.specs.Reduced.{reduced, Fit, count_is, a_live, b_live, live_same}
 use Rattle.afloat.specs.Compact.{Keeping, compact, compact-valid}

@@ -1,7 +1,7 @@
 -- The list that a call takes, where refusal 35 does not apply: then the laws of this crate hold of its vertices. And the list of zeros, "none
 -- ashore".
 use Rattle.std.specs.Prelude.{◌≡◌, refl, true, false, not, ◌&&◌, ◌||◌, List, eqb, leb, replicate}
-use Rattle.std.proofs.Common.{sym, ap, ap₂, ◌∙◌, true≢false, arith, leb-true}
+use Rattle.std.proofs.Common.{sym, ap, ap₂, ◌∙◌, true≢false, arith, leb-true, le-leb}
 use Prim.Native.Nat.{ℕ, zero, suc, ◌≤◌}
 use Rattle.std.proofs.Math.Decide.{dec_le}
 use Rattle.std.proofs.lemmas.Bool.{not-true, not-false}
@@ -17,6 +17,7 @@ use Rattle.graph.specs.Valid as value
 use Rattle.tree_theory.specs.Arrays.{network-valid}
 use Rattle.afloat.specs.Over.{Ashore, ashore, active_count, ashore_fits, ashore_fault, touched}
 use Rattle.afloat.specs.Reduced.{Fit}
+use Rattle.afloat.specs.NoneAshore.{count_none}
 
 -- ---- where 35 does not apply
 
@@ -67,3 +68,15 @@ pub none_ashore : (n v : ℕ) → ashore (replicate n 0) v ≡ false
 unfolding ashore
 none_ashore n zero = refl
 none_ashore n (suc v) = ap (λ (b : ℕ). eqb b 1) (replicate-at n 0 v)
+
+each_low : (n : ℕ) → every_of (λ b. leb b 1) (replicate n 0) ≡ true
+unfolding every_of
+each_low zero = refl
+each_low (suc n) = each_low n
+
+-- and 35 does not apply to it
+pub none_fault : (n : ℕ) → 3 ≤ n → ashore_fault (replicate n 0) n ≡ 0
+unfolding ashore_fits
+none_fault n h =
+    fits_fault (replicate n 0) n
+    (rw (each_low n, none_ashore n 1, count_none (ashore (replicate n 0)) (none_ashore n) n, le-leb 3 n h))

@@ -1,8 +1,9 @@
--- 1-trees, rulings, tours and passes over the active vertices (document 02's C-20). What a reader must believe:
--- document 02's words; the tree, the rulings and the test for a tour as values, by going through all sets; a pass and the passes of a node
+-- 1-trees, rulings and tours over the active vertices (document 02's C-20). What a reader must believe:
+-- document 02's words; the tree, the rulings and the test for a tour as values, by going through all sets
 pub mod Over
 pub mod Values
-pub mod Passing
+-- C-13's rulings with lifted multipliers, in the same way
+pub mod LiftedOver
 -- What follows is proved.
 -- the network of the active vertices, numbered anew: what is so of it is so over them, and the other way
 pub mod Reduced
@@ -18,13 +19,10 @@ pub mod NoneAshore
 -- the list that a call takes, and lists of multipliers
 pub mod Inputs
 pub mod Lists
+pub mod ListsFit
 -- without the touched edges and others that are excluded: the small graph that code makes, and what it computes there
 pub mod Compact
 pub mod Graphs
 pub mod Computed
--- the passes of a node: the same three (on the small graph: proofs/PassesComputed)
-pub mod Gaining
-pub mod Passes
-pub mod PassesNone
 -- document 01's sea with a buoy ashore
 pub mod Example

@@ -13,7 +13,7 @@ use Rattle.lists.specs.Numbers.{up_to, up_to_in}
 use Rattle.lists.specs.Rows.{row, row-size, row_at, row_same, row_of}
 use Rattle.tree_theory.specs.Arrays.{edge_of}
 use Rattle.tree_theory.specs.Inputs.{multiplier}
-use Rattle.compaction.specs.Ranks.{rank, nth, nth_zero, nth_past, nth_of, nth_in, nth-kept, rank_back}
+use Rattle.thinning.specs.Ranks.{rank, nth, nth_zero, nth_past, nth_of, nth_in, nth-kept, rank_back}
 use Rattle.afloat.specs.Over.{Ashore, active, multiplier_over, multipliers_over}
 use Rattle.afloat.specs.Reduced.{reduced_multiplier, active_of}
 
@@ -96,6 +96,20 @@ module _ (s : Ashore) (n : ℕ) (d : List ℤ) where
           → cond b (pos 0) (multiplier (reduced_list s n d) (rank (active s) v)) ≡ multiplier d v
       at v i true e = sym (z.zero_there v i e)
       at v i false e = list_multiplier (rank (active s) v) ∙ ap (multiplier d) (nth_of (active s) n v i (active_of s v e))
+
+-- THE FIRST NODE'S LIST IS REGAINED
+pub widened-first : (s : Ashore) (n : ℕ) (d : List ℤ) → widened s n (reduced_list s n d) ≡ multipliers_over s n d
+widened-first s n d = ap (widened s n) (sym (reduced-first s n d)) ∙ widened_back s n (multipliers_over s n d) (grounded_first s n d)
+
+-- what is regained is grounded
+pub grounded_widened : (s : Ashore) (n : ℕ) (e : List ℤ) → Grounded s n (widened s n e)
+unfolding widened
+grounded_widened s n e = record {
+  size = row-size n (λ v. cond (s v) (pos 0) (multiplier e (rank (active s) v)));
+  zero_there = λ v i h.
+      row-multiplier n (λ v. cond (s v) (pos 0) (multiplier e (rank (active s) v))) v i
+      ∙ ap (λ (b : Bool). cond b (pos 0) (multiplier e (rank (active s) v))) h;
+}
 
 -- a list in new numbers is regained too
 pub reduced_back : (s : Ashore) (n : ℕ) (e : List ℤ) → length e ≡ rank (active s) n → reduced_list s n (widened s n e) ≡ e

@@ -4,12 +4,12 @@
 -- valid networks holds of it.
 --   Fit s g          what the laws ask of a network and of the inactive vertices
 --   Live v           v is an active vertex of the network
---   rank, nth        an active vertex's new number; a new number's vertex (compaction's Ranks)
+--   rank, nth        an active vertex's new number; a new number's vertex (thinning's Ranks)
 use Rattle.std.specs.Prelude.{◌≡◌, refl, Bool, true, false, cond, ◌&&◌, ℕ, zero, suc, ◌≤◌, ◌<◌, eqb, length, ℤ}
 use Rattle.std.proofs.Common.{sym, ap, ◌∙◌, arith}
 use Rattle.std.proofs.Math.Bool.{not}
 use Rattle.std.proofs.Math.Decide.{ℕ_discrete}
-use borrow.Author.Tests.{ne_eqb, eqb-false, not-true}
+use borrow.Author.Tests.{eq-eqb, ne_eqb, eqb-false, not-true}
 use Rattle.lists.specs.Bools.{and_both, or_none}
 use Rattle.lists.specs.Members.{◌∈◌}
 use Rattle.lists.specs.Select.{keep, select, select_in, in_select}
@@ -17,7 +17,7 @@ use Rattle.lists.specs.Numbers.{up_to, up_to_in, in_up_to}
 use Rattle.graph.specs.Network.{Network, excluded}
 use Rattle.tree_theory.specs.OneTree.{others}
 use Rattle.tree_theory.specs.Valid.{Valid, others_in, in_others}
-use Rattle.compaction.specs.Ranks.{rank, nth, rank_yes, rank_no, rank_mono, rank_in, nth_of, nth_in, nth-kept, rank_back}
+use Rattle.thinning.specs.Ranks.{rank, nth, rank_yes, rank_no, rank_mono, rank_in, nth_of, nth_in, nth-kept, rank_back}
 use Rattle.afloat.specs.Over.{Ashore, active, active_count, others_over, touched, mark_over}
 
 abbrev pub reduced : Ashore → Network → Network
@@ -85,6 +85,13 @@ module _ (s : Ashore) (g : Network) (f : Fit s g) where
       go : Dec (v ≡ 1) → eqb (rank (active s) v) 1 ≡ eqb v 1
       go (yes e) = rw (e, rank-one)
       go (no e) = ne_eqb (rank (active s) v) 1 (λ r. e (live_same v 1 l one_live (r ∙ sym rank-one))) ∙ sym (ne_eqb v 1 e)
+
+  pub live_eqb : (u v : ℕ) → Live u → Live v → eqb (rank (active s) u) (rank (active s) v) ≡ eqb u v
+  live_eqb u v lu lv = go (ℕ_discrete u v)
+    where
+      go : Dec (u ≡ v) → eqb (rank (active s) u) (rank (active s) v) ≡ eqb u v
+      go (yes e) = eq-eqb (rank (active s) u) (rank (active s) v) (ap (rank (active s)) e) ∙ sym (eq-eqb u v e)
+      go (no e) = ne_eqb (rank (active s) u) (rank (active s) v) (λ q. e (live_same u v lu lv q)) ∙ sym (ne_eqb u v e)
 
   -- ---- the vertices other than vertex 1
 

@@ -19,7 +19,7 @@ use Rattle.tree_theory.specs.OneTree.{Edges, others}
 use Rattle.tours.specs.Tours.{Ends, Joined, Trip, Tour, Allowed, Feasible, cost}
 use Rattle.tours.specs.Renumbering.{distinct-map}
 use Rattle.tours.specs.Trips.{along, along-length, along_in, along_ends, trip_once}
-use Rattle.compaction.specs.Ranks.{rank, nth}
+use Rattle.thinning.specs.Ranks.{rank, nth}
 use Rattle.afloat.specs.Over.{Ashore, active, active_count, others_over, touched, TourOver, AllowedOver, FeasibleOver}
 use Rattle.afloat.specs.Reduced.{reduced, Fit, Live, live_back, live_same, count_is, rank-one, nth-one, over_live, others_there, others_again}
 use Rattle.afloat.specs.Reduced.{others_back, a_live, b_live, a_is, b_is, touched_excluded, one_live, live_over}

@@ -1,6 +1,6 @@
 -- A set of edges that is a 1-tree over the active vertices is one of the reduced network, and the other way, and its bound is the same. (Hence
 -- the least 1-tree, what is infeasible, barred and forced are the same: proofs/Trees.)
-use Rattle.std.specs.Prelude.{◌≡◌, Bool, cond, ◌&&◌, List, [], ◌∷◌, map, ℕ, ◌+◌, eqb, length, ℤ, pos, ◌+ℤ◌, ◌-ℤ◌, ◌*ℤ◌}
+use Rattle.std.specs.Prelude.{◌≡◌, Bool, cond, ◌&&◌, ◌||◌, List, [], ◌∷◌, map, ℕ, ◌+◌, eqb, length, ℤ, pos, ◌+ℤ◌, ◌-ℤ◌, ◌*ℤ◌}
 use Rattle.std.proofs.Math.Path.{refl, ap}
 use Rattle.std.proofs.Common.{sym, ◌∙◌, subst, subst₂, true≢false}
 use Rattle.std.proofs.Math.Bool.{true, false, not}
@@ -14,9 +14,10 @@ use Rattle.integers.specs.Sums.{sum_z, sum_same, sum_map}
 use Rattle.graph.specs.Network.{Network}
 use Rattle.spanning.specs.Walks.{Walk, stay, along, back}
 use Rattle.tree_theory.specs.OneTree.{Edges, OneTree, at_one, away, charge, bound}
-use Rattle.compaction.specs.Ranks.{rank, nth, nth-kept, select-thin}
+use Rattle.tours.specs.Tours.{degree}
+use Rattle.thinning.specs.Ranks.{rank, nth, nth-kept, select-thin}
 use Rattle.afloat.specs.Over.{Ashore, active, touched, multiplier_over, OneTreeOver, bound_over}
-use Rattle.afloat.specs.Reduced.{reduced, reduced_multiplier, Fit, Live, live_back, live_same, count_is, over_live, others_there, others_again}
+use Rattle.afloat.specs.Reduced.{reduced, reduced_multiplier, Fit, Live, live_back, live_same, live_eqb, count_is, over_live, others_there, others_again}
 use Rattle.afloat.specs.Reduced.{others_back, a_live, b_live, a_is, b_is, near_is, touched_excluded}
 
 -- ---- walks whose vertices are numbered anew
@@ -60,6 +61,23 @@ sum_reduced s g d =
     (select_full (λ j. active s (nth (active s) g.n j)) (up_to (rank (active s) g.n)) (λ j i. nth-kept (active s) g.n j i)))
     ∙ sum_map d (nth (active s) g.n) (up_to (rank (active s) g.n))
 
+-- the charge of an untouched edge
+module _ (s : Ashore) (g : Network) (f : Fit s g) (d : ℕ → ℤ) where
+  pub charge-reduced : (k : ℕ) → k ∈ up_to g.m → touched s g k ≡ false
+      → charge g (multiplier_over s d) k ≡ charge (reduced s g) (reduced_multiplier s g.n d) k
+  unfolding charge
+  charge-reduced k i q =
+      ap (λ (z : ℤ). (g.cost k +ℤ z) +ℤ multiplier_over s d (g.b k))
+      (at (g.a k) ((reduced s g).a k) (a_live s g f k i q) (a_is s g f k i q))
+      ∙ ap (λ (z : ℤ). (g.cost k +ℤ reduced_multiplier s g.n d ((reduced s g).a k)) +ℤ z)
+      (at (g.b k) ((reduced s g).b k) (b_live s g f k i q) (b_is s g f k i q))
+    where
+      at : (v j : ℕ) → Live s g f v → j ≡ rank (active s) v → multiplier_over s d v ≡ reduced_multiplier s g.n d j
+      at v j l e =
+          ap (λ (b : Bool). cond b (pos 0) (d v)) (not-true (s v) l.1)
+          ∙ ap d (sym (live_back s g f v l))
+          ∙ ap (reduced_multiplier s g.n d) (sym e)
+
 -- ---- one set of edges
 
 -- it has no edge that touches an inactive vertex
@@ -85,6 +103,20 @@ module _ (s : Ashore) (g : Network) (f : Fit s g) (t : Edges) (free : Untouched 
   pub away-reduced : away g t ≡ away (reduced s g) t
   unfolding away
   away-reduced = select_cong _ _ (up_to g.m) (λ k i. near_agree not k i)
+
+  pub degree-reduced : (v : ℕ) → Live s g f v → degree (reduced s g) t (rank (active s) v) ≡ degree g t v
+  unfolding degree
+  degree-reduced v l = ap length (select_cong _ _ (up_to g.m) (λ k i. go k i (t k) refl))
+    where
+      go : (k : ℕ) → k ∈ up_to g.m → (b : Bool) → t k ≡ b
+          → b && (eqb ((reduced s g).a k) (rank (active s) v) || eqb ((reduced s g).b k) (rank (active s) v)) ≡ b && (eqb (g.a k) v || eqb (g.b k) v)
+      go k i true e =
+          let q = taken_free k i e in
+          ap (λ (z : ℕ). eqb z (rank (active s) v) || eqb ((reduced s g).b k) (rank (active s) v)) (a_is s g f k i q)
+          ∙ ap (λ (z : ℕ). eqb (rank (active s) (g.a k)) (rank (active s) v) || eqb z (rank (active s) v)) (b_is s g f k i q)
+          ∙ ap (λ (x : Bool). x || eqb (rank (active s) (g.b k)) (rank (active s) v)) (live_eqb s g f (g.a k) v (a_live s g f k i q) l)
+          ∙ ap (λ (x : Bool). eqb (g.a k) v || x) (live_eqb s g f (g.b k) v (b_live s g f k i q) l)
+      go k i false e = refl
 
   away_in : (k : ℕ) → k ∈ away g t → (k ∈ up_to g.m) × (touched s g k ≡ false)
   unfolding away
@@ -130,30 +162,12 @@ module _ (s : Ashore) (g : Network) (f : Fit s g) (t : Edges) (free : Untouched 
     avoids = o.avoids;
   }
 
-  charge-reduced : (d : ℕ → ℤ) (k : ℕ) → k ∈ up_to g.m → t k ≡ true
-      → charge g (multiplier_over s d) k ≡ charge (reduced s g) (reduced_multiplier s g.n d) k
-  unfolding charge
-  charge-reduced d k i e =
-      ap (λ (z : ℤ). (g.cost k +ℤ z) +ℤ multiplier_over s d (g.b k))
-      (at (g.a k) ((reduced s g).a k) (a_live s g f k i q) (a_is s g f k i q))
-      ∙ ap (λ (z : ℤ). (g.cost k +ℤ reduced_multiplier s g.n d ((reduced s g).a k)) +ℤ z)
-      (at (g.b k) ((reduced s g).b k) (b_live s g f k i q) (b_is s g f k i q))
-    where
-      q : touched s g k ≡ false
-      q = taken_free k i e
-
-      at : (v j : ℕ) → Live s g f v → j ≡ rank (active s) v → multiplier_over s d v ≡ reduced_multiplier s g.n d j
-      at v j l e =
-          ap (λ (b : Bool). cond b (pos 0) (d v)) (not-true (s v) l.1)
-          ∙ ap d (sym (live_back s g f v l))
-          ∙ ap (reduced_multiplier s g.n d) (sym e)
-
   pub bound-reduced : (d : ℕ → ℤ) → bound_over s g d t ≡ bound (reduced s g) (reduced_multiplier s g.n d) t
   unfolding bound_over bound
   bound-reduced d =
       ap (λ (z : ℤ). z -ℤ (pos 2 *ℤ sum_z (multiplier_over s d) (up_to g.n)))
       (sum_same (charge g (multiplier_over s d)) (charge (reduced s g) (reduced_multiplier s g.n d)) (select t (up_to g.m))
-      (λ k i. let r = select_in t (up_to g.m) k i in charge-reduced d k r.0 r.1))
+      (λ k i. let r = select_in t (up_to g.m) k i in charge-reduced s g f d k r.0 (taken_free k r.0 r.1)))
       ∙ ap (λ (z : ℤ). sum_z (charge (reduced s g) (reduced_multiplier s g.n d)) (select t (up_to g.m)) -ℤ (pos 2 *ℤ z)) (sum_reduced s g d)
 
 -- ---- all sets of edges

@@ -1,10 +1,3 @@
--- kept edges and their new numbers
-pub mod Ranks
--- the network of the kept edges: its 1-trees, bounds and rulings, without lifting and with it
-pub mod Thinned
-pub mod Reading
-pub mod Rulings
-pub mod Lifted
--- its passes
+-- the passes of a node on the network of the kept edges (crate thinning), and what they come to spread out to all edges
 pub mod Spread
 pub mod Passes

@@ -27,10 +27,10 @@ use Rattle.machine.specs.Machine.{Marks, Opened, with_marks, applied, mark_by, s
 use Rattle.machine.specs.Machine.{concluded, passes}
 use Rattle.machine.specs.NodeTours.{applied-length}
 use Rattle.machine.specs.Outcomes.{finds}
-use Rattle.compaction.specs.Ranks.{rank, nth, Kept, rank_yes, rank-nth, nth_zero, nth_past, nth-rank, rank_in, nth_of}
-use Rattle.compaction.specs.Thinned.{thin, spread, RestExcluded, Spread, least-thin}
-use Rattle.compaction.specs.Reading.{same_only, degree-thin, tour_thin}
-use Rattle.compaction.specs.Lifted.{ruling_with-thin}
+use Rattle.thinning.specs.Ranks.{rank, nth, Kept, rank_yes, rank-nth, nth_zero, nth_past, nth-rank, rank_in, nth_of}
+use Rattle.thinning.specs.Thinned.{thin, spread, RestExcluded, Spread, least-thin}
+use Rattle.thinning.specs.Reading.{same_only, degree-thin, tour_thin}
+use Rattle.thinning.specs.Lifted.{ruling_with-thin}
 use Rattle.compaction.specs.Spread.{spread_marks, spread_tour, spread_opened, spread_row, spread-kept, spread_rest}
 use Rattle.compaction.specs.Spread.{branch-spread}
 

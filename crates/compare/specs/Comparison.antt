@@ -7,7 +7,8 @@ use Rattle.lists.specs.Fill.{fill}
 use Rattle.graph.specs.declared.Graph.{Graph}
 use Rattle.graph.specs.Limits.{max_sweeps, max_step}
 use Rattle.graph.specs.Valid.{valid}
-use Rattle.tree_theory.specs.Inputs.{multipliers_fit, ceiling_fits, denominator_fault}
+use Rattle.tree_theory.specs.Inputs.{multipliers_fit, ceiling_fits, denominator_fault, or_else}
+use Rattle.afloat.specs.Over.{ashore_fault}
 use Rattle.machine.specs.declared.Settings.{Settings}
 use Rattle.machine.specs.Machine.{Opening, no_search, opening_of}
 use Rattle.machine.specs.Calls.{opens, run, refused, accepted, runs, tells, step}
@@ -50,14 +51,14 @@ settings_of terms sweeps step =
     record { ceiling = terms.ceiling; sweeps = sweeps; step = step; denominator = terms.denominator; lifting = terms.lifting }
 
 -- "the arguments of opening .., with up to 16 pairs of sweeps and step instead of one": the opening of the pair at place i, counted from 0
-abbrev pub pair_opening : Graph → List ℤ → Terms → List ℕ → List ℕ → ℕ → Opening
-pair_opening g d terms sweeps steps i = opening_of g d (settings_of terms (get_or sweeps i 0) (get_or steps i 0))
+abbrev pub pair_opening : Graph → List ℤ → List ℕ → Terms → List ℕ → List ℕ → ℕ → Opening
+pair_opening g d l terms sweeps steps i = opening_of g d l (settings_of terms (get_or sweeps i 0) (get_or steps i 0))
 
 -- "an allowance that each pair has in full"; one entry a pair
-unfoldable pub counts : Graph → List ℤ → Terms → List ℕ → List ℕ → List ℕ
+unfoldable pub counts : Graph → List ℤ → List ℕ → Terms → List ℕ → List ℕ → List ℕ
 unfolding finishes
-counts g d terms sweeps steps =
-    fill (length sweeps) (λ i. finishes (pair_opening g d terms sweeps steps i) terms.budget)
+counts g d l terms sweeps steps =
+    fill (length sweeps) (λ i. finishes (pair_opening g d l terms sweeps steps i) terms.budget)
 
 -- ---- refusals
 
@@ -69,16 +70,16 @@ pairs_fit sweeps steps report = (leb 1 sweeps && leb sweeps max_pairs) && (eqb s
 unfoldable pub settings_fit : List ℕ → List ℕ → Bool
 settings_fit sweeps steps = list_all (λ x. leb x max_sweeps) sweeps && list_all (λ x. leb x max_step) steps
 
--- the numbers of an opening, in its order, 32 too (C-17)
-unfoldable pub compare_fault : Graph → List ℤ → ℤ → ℕ → List ℕ → List ℕ → ℕ → ℕ
-unfolding valid multipliers_fit ceiling_fits settings_fit denominator_fault
-compare_fault g d ceiling q sweeps steps report =
+-- the numbers of an opening, in its order, 32 too (C-17), and 35 (C-20): "The list's length comes under 11"
+unfoldable pub compare_fault : Graph → List ℤ → List ℕ → Terms → List ℕ → List ℕ → ℕ → ℕ
+unfolding valid multipliers_fit ceiling_fits settings_fit denominator_fault ashore_fault
+compare_fault g d l terms sweeps steps report =
     cond (not (valid g)) 15
-    (cond (not (eqb (length d) g.n && pairs_fit (length sweeps) (length steps) report)) 11
+    (cond (not (eqb (length d) g.n && (eqb (length l) g.n && pairs_fit (length sweeps) (length steps) report))) 11
     (cond (not (multipliers_fit d)) 12
-    (cond (not (ceiling_fits ceiling)) 13
+    (cond (not (ceiling_fits terms.ceiling)) 13
     (cond (not (settings_fit sweeps steps)) 14
-    (denominator_fault q)))))
+    (or_else (denominator_fault terms.denominator) (ashore_fault l g.n))))))
 
 -- ---- the answer, and the report as it is left
 
@@ -86,15 +87,15 @@ abbrev pub answer_by : ℕ → machine.Answer
 answer_by zero = accepted
 answer_by (suc f) = refused (suc f) 0
 
-unfoldable pub compare_reply : Graph → List ℤ → Terms → List ℕ → List ℕ → ℕ → machine.Answer
+unfoldable pub compare_reply : Graph → List ℤ → List ℕ → Terms → List ℕ → List ℕ → ℕ → machine.Answer
 unfolding compare_fault
-compare_reply g d terms sweeps steps report = answer_by (compare_fault g d terms.ceiling terms.denominator sweeps steps report)
+compare_reply g d l terms sweeps steps report = answer_by (compare_fault g d l terms sweeps steps report)
 
 abbrev pub left_by : ℕ → List ℕ → List ℕ → List ℕ
 left_by zero made report = made
 left_by (suc f) made report = report
 
-unfoldable pub compare_leaves : Graph → List ℤ → Terms → List ℕ → List ℕ → List ℕ → List ℕ
+unfoldable pub compare_leaves : Graph → List ℤ → List ℕ → Terms → List ℕ → List ℕ → List ℕ → List ℕ
 unfolding compare_fault counts
-compare_leaves g d terms sweeps steps report =
-    left_by (compare_fault g d terms.ceiling terms.denominator sweeps steps (length report)) (counts g d terms sweeps steps) report
+compare_leaves g d l terms sweeps steps report =
+    left_by (compare_fault g d l terms sweeps steps (length report)) (counts g d l terms sweeps steps) report

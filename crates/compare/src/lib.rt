@@ -52,6 +52,7 @@ fn count_in(answer: Result<Progress, Refusal>) -> Option<u64>
 struct Comparison<'a> {
     g: &'a Graph,
     multipliers: &'a [i32],
+    ashore: &'a [u8],
     terms: Terms,
     sweeps: &'a [u32],
     steps: &'a [u32],
@@ -67,11 +68,13 @@ impl<'a> Comparison<'a> {
         (1..=MAX_PAIRS).contains(&pairs) && self.steps.len() == pairs && self.entries == pairs
     }
 
-    // And a multiplier for each vertex?
+    // And a multiplier for each vertex, and whether it is ashore?
     fn sizes_fit(&self) -> bool
-        ensures { result ≡ sizes_fit self.now.g.now self.now.multipliers.now self.now.sweeps.now self.now.steps.now self.now.entries }
+        ensures { result
+            ≡ sizes_fit self.now.g.now self.now.multipliers.now self.now.ashore.now self.now.sweeps.now self.now.steps.now self.now.entries }
     {
-        self.multipliers.len() == usize::from(self.g.n) && self.pairs_fit()
+        let n = usize::from(self.g.n);
+        self.multipliers.len() == n && self.ashore.len() == n && self.pairs_fit()
     }
 
     // Every pair is looked at.
@@ -86,7 +89,7 @@ impl<'a> Comparison<'a> {
     #[tactic(auto, using(graph::specs::Refusals::positive), unfolding(crate::specs::Comparison::compare_fault))]
     fn fault(&self) -> Result<(), Refusal>
         ensures { fault_of result
-            ≡ compare_fault self.now.g.now self.now.multipliers.now self.now.terms.ceiling self.now.terms.denominator
+            ≡ compare_fault self.now.g.now self.now.multipliers.now self.now.ashore.now self.now.terms
             self.now.sweeps.now self.now.steps.now self.now.entries }
     {
         self.g.fault()?;
@@ -94,15 +97,18 @@ impl<'a> Comparison<'a> {
         onetree::multipliers_fault(self.multipliers)?;
         onetree::ceiling_fault(self.terms.ceiling)?;
         Refusal::Settings.unless(self.settings_fit())?;
-        onetree::denominator_fault(self.terms.denominator)
+        onetree::denominator_fault(self.terms.denominator)?;
+        reduction::ashore_fault(self.ashore, usize::from(self.g.n))
     }
 
     // One pair: a fresh record, one opening and one run with the whole budget. None where the search is still going on.
     fn count(&self, sweeps: u32, step: u32) -> Option<u64>
         ensures finished { result
-            ≡ finishes_with (opening_of self.now.g.now self.now.multipliers.now (settings_of self.now.terms sweeps step)) self.now.terms.budget }
+            ≡ finishes_with (opening_of self.now.g.now self.now.multipliers.now self.now.ashore.now (settings_of self.now.terms sweeps step))
+            self.now.terms.budget }
         ensures reported { unwrap_or result 0
-            ≡ finishes (opening_of self.now.g.now self.now.multipliers.now (settings_of self.now.terms sweeps step)) self.now.terms.budget }
+            ≡ finishes (opening_of self.now.g.now self.now.multipliers.now self.now.ashore.now (settings_of self.now.terms sweeps step))
+            self.now.terms.budget }
     {
         let settings = Settings {
             ceiling: self.terms.ceiling,
@@ -113,7 +119,7 @@ impl<'a> Comparison<'a> {
         };
         let mut s = Search::fresh();
         // where the opening is refused no search is open, and the run says so
-        let _opened = s.open(self.g, self.multipliers, settings);
+        let _opened = s.open(self.g, self.multipliers, self.ashore, settings);
         count_in(s.run(self.terms.budget))
     }
 
@@ -121,7 +127,8 @@ impl<'a> Comparison<'a> {
     // `zip` over `iter_mut` leaves.
     fn count_all(&self, report: &mut [u64])
         requires { (length self.now.steps.now ≡ length self.now.sweeps.now) × (length report.old ≡ length self.now.sweeps.now) }
-        ensures { report.new ≡ counts self.now.g.now self.now.multipliers.now self.now.terms self.now.sweeps.now self.now.steps.now }
+        ensures { report.new
+            ≡ counts self.now.g.now self.now.multipliers.now self.now.ashore.now self.now.terms self.now.sweeps.now self.now.steps.now }
     {
         for (i, (&sweeps, &step)) in self.sweeps.iter().zip(self.steps).enumerate() {
             report[i] = self.count(sweeps, step).unwrap_or(0);
@@ -134,18 +141,20 @@ impl<'a> Comparison<'a> {
 pub fn compare(
     g: &Graph,
     multipliers: &[i32],
+    ashore: &[u8],
     terms: Terms,
     sweeps: &[u32],
     steps: &[u32],
     report: &mut [u64],
 ) -> Result<(), Refusal>
     ensures { (means result
-        ≡ compare_reply g.now multipliers.now terms sweeps.now steps.now (length report.old))
-        × (report.new ≡ compare_leaves g.now multipliers.now terms sweeps.now steps.now report.old) }
+        ≡ compare_reply g.now multipliers.now ashore.now terms sweeps.now steps.now (length report.old))
+        × (report.new ≡ compare_leaves g.now multipliers.now ashore.now terms sweeps.now steps.now report.old) }
 {
     let comparison = Comparison {
         g,
         multipliers,
+        ashore,
         terms,
         sweeps,
         steps,

@@ -71,7 +71,7 @@ pub record Dispatches (i : Interface dispatching) (places : i.Lent → List Sear
   -- so that demand 3 holds of it: two finished searches, at places of one dispatcher or of two, agree
   pub agree : (xs ys : List Call) (j k : ℕ) (o p : Opening) → LeavesFinished (calls_at j xs) o
       → LeavesFinished (calls_at k ys) p → OneNetwork (network o.graph) (network p.graph)
-      → o.settings.ceiling ≡ p.settings.ceiling → (v : Verdict) × SaysAt i xs j o v × SaysAt i ys k p v
+      → o.ashore ≡ p.ashore → o.settings.ceiling ≡ p.settings.ceiling → (v : Verdict) × SaysAt i xs j o v × SaysAt i ys k p v
   -- and one whose portions allow enough nodes is finished
   pub ends : (xs : List Call) (k : ℕ) (o : Opening) (total : ℕ) → history (calls_at k xs) ≡ since o total
       → free_at_start o ≤ 62 → 2 ^ suc (free_at_start o) - 1 ≤ total → Finished (state_of (i.holds (record_of i xs)) k)

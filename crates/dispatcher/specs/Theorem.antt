@@ -114,9 +114,9 @@ module _ (i : Interface dispatching) (f : Follows i) where
 
   agree_here : (xs ys : List Call) (j k : ℕ) (o p : Opening) → LeavesFinished (calls_at j xs) o
       → LeavesFinished (calls_at k ys) p → OneNetwork (network o.graph) (network p.graph)
-      → o.settings.ceiling ≡ p.settings.ceiling → (v : Verdict) × SaysAt i xs j o v × SaysAt i ys k p v
-  agree_here xs ys j k o p l m one same =
-      let a = machine_agrees (calls_at j xs) (calls_at k ys) o p l m one same in
+      → o.ashore ≡ p.ashore → o.settings.ceiling ≡ p.settings.ceiling → (v : Verdict) × SaysAt i xs j o v × SaysAt i ys k p v
+  agree_here xs ys j k o p l m one inactive same =
+      let a = machine_agrees (calls_at j xs) (calls_at k ys) o p l m one inactive same in
       (a.0, says xs j o l a.0 a.1, says ys k p m a.0 a.2)
 
 -- ---- the calls of this crate

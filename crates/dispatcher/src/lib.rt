@@ -44,14 +44,15 @@ impl Dispatcher {
         &mut self,
         g: &Graph,
         multipliers: &[i32],
+        ashore: &[u8],
         settings: Settings,
     ) -> Result<usize, Refusal>
-        ensures answer { add_means result ≡ (reply self.old (Calls.add (opening_of g.now multipliers.now settings))).answer }
-        ensures left { self.new ≡ (reply self.old (Calls.add (opening_of g.now multipliers.now settings))).dispatcher }
+        ensures answer { add_means result ≡ (reply self.old (Calls.add (opening_of g.now multipliers.now ashore.now settings))).answer }
+        ensures left { self.new ≡ (reply self.old (Calls.add (opening_of g.now multipliers.now ashore.now settings))).dispatcher }
     {
         let seen = self.survey()?;
         let at = first_after(&seen, 0, State::Empty).ok_or(Refusal::Full)?;
-        self.places[at].open(g, multipliers, settings)?;
+        self.places[at].open(g, multipliers, ashore, settings)?;
         Ok(at + 1)
     }
 

@@ -1,5 +1,6 @@
 -- The starred facts of document 01, 'A four-buoy sea', in its order: each a theorem, by computation. Trees and rulings are those that the
--- promises of the tree call and the rule call name; searches are the machine's answers to a list of calls. At the end, one of the searches with lifting.
+-- promises of the tree call and the rule call name; searches are the machine's answers to a list of calls. At the end, one of the searches with
+-- lifting, and some with a buoy ashore.
 use Rattle.std.specs.Prelude.{◌≡◌, refl, List, [], ◌∷◌, ◌++◌, map, ℕ, ◌-◌, true, length, replicate, ℤ, pos, negsuc}
 use Rattle.lists.specs.Select.{select}
 use Rattle.lists.specs.Rows.{row}
@@ -13,9 +14,11 @@ use Rattle.tree_theory.specs.Enumeration.{edge_sets, least_tree, ruling}
 use Rattle.onetree.specs.Answers.{Reply, bounded, tree_reply, tree_leaves, rule_reply, rule_leaves}
 use Rattle.onetree.specs.Answers as tree
 use Rattle.tours.specs.Tours.{cost, is_tour}
+use Rattle.thinning.specs.Ranks.{rank, nth}
+use Rattle.afloat.specs.Over.{ashore, ashore_fault}
 use Rattle.machine.specs.declared.Settings.{Settings}
 use Rattle.machine.specs.Machine.{no_search, gained}
-use Rattle.machine.specs.Calls.{Answer, opens, run, tell, accepted, runs, tells, none, best, answers}
+use Rattle.machine.specs.Calls.{Answer, opens, run, tell, refused, accepted, runs, tells, none, best, answers}
 
 -- ---- graph values, with arrays of 190 places as the calls have them: what is given of an array, and zero past it
 
@@ -57,15 +60,16 @@ unfolding rule_reply rule_leaves nines valid edges_ok edge_ok ends_ok pair_met w
 rule_call g d ceiling = (rule_reply g d ceiling 1 g.m, rule_leaves g d ceiling 1 (nines g))
 
 -- opening with no sweeps, a run, tell
-unfoldable pub calls_with : ℕ → Graph → List ℤ → ℤ → List Answer
-unfolding answers valid edges_ok edge_ok ends_ok pair_met within multipliers_fit ceiling_fits denominator_fault denominator_fits network mark_of
-calls_with lifting g d ceiling =
+unfoldable pub calls_with : ℕ → List ℕ → Graph → List ℤ → ℤ → List Answer
+unfolding answers valid edges_ok edge_ok ends_ok pair_met within multipliers_fit ceiling_fits denominator_fault denominator_fits network mark_of ashore ashore_fault rank nth
+calls_with lifting inactive g d ceiling =
     let settings : Settings = record { ceiling = ceiling; sweeps = 0; step = 0; denominator = 1; lifting = lifting } in
-    answers no_search (opens (record { graph = g; multipliers = d; settings = settings }) ∷ run 100 ∷ tell ∷ [])
+    answers no_search (opens (record { graph = g; multipliers = d; ashore = inactive; settings = settings }) ∷ run 100 ∷ tell ∷ [])
 
+-- "with none ashore"
 unfoldable pub search_calls : Graph → List ℤ → ℤ → List Answer
 unfolding calls_with
-search_calls = calls_with 0
+search_calls g = calls_with 0 (replicate g.n 0) g
 
 -- ---- the four-buoy sea
 
@@ -165,9 +169,57 @@ held_to_range = refl
 
 unfoldable pub lifted_calls : Graph → List ℤ → ℤ → List Answer
 unfolding calls_with
-lifted_calls = calls_with 1
+lifted_calls g = calls_with 1 (replicate g.n 0) g
 
 -- the four-buoy sea at ceiling 12: the same verdict and cost after 3 nodes in place of 5
 pub lifted_12 : lifted_calls four zeros₄ (pos 12) ≡ accepted ∷ runs true 3 ∷ tells (best (pos 12)) 3 ∷ []
 unfolding lifted_calls four zeros₄
 lifted_12 = refl
+
+-- ---- document 02, C-20: "A round now visits every buoy that is afloat": the four-buoy sea with buoy 4 ashore, d(4) = 7
+
+unfoldable pub calls_ashore : List ℕ → List ℤ → ℤ → List Answer
+unfolding calls_with four
+calls_ashore l d = calls_with 0 l four d
+
+-- legs 1, 2 and 4 are the only round, of cost 9
+pub ashore_9 : calls_ashore (0 ∷ 0 ∷ 0 ∷ 1 ∷ []) (pos 0 ∷ pos 0 ∷ pos 0 ∷ pos 7 ∷ []) (pos 9)
+    ≡ accepted ∷ runs true 1 ∷ tells (best (pos 9)) 1 ∷ []
+unfolding calls_ashore
+ashore_9 = refl
+
+pub ashore_8 : calls_ashore (0 ∷ 0 ∷ 0 ∷ 1 ∷ []) (pos 0 ∷ pos 0 ∷ pos 0 ∷ pos 7 ∷ []) (pos 8) ≡ accepted ∷ runs true 1 ∷ tells none 1 ∷ []
+unfolding calls_ashore
+ashore_8 = refl
+
+-- "A leg touching such a buoy counts as struck, whatever its mark": leg 3 required
+unfoldable pub third_required : Graph
+unfolding four filled
+third_required = record { n = 4; m = 6; a = four.a; b = four.b; cost = four.cost; mark = filled 0 (0 ∷ 0 ∷ 1 ∷ 0 ∷ 0 ∷ 0 ∷ []) }
+
+pub ashore_required : calls_with 0 (0 ∷ 0 ∷ 0 ∷ 1 ∷ []) third_required zeros₄ (pos 9) ≡ accepted ∷ runs true 1 ∷ tells (best (pos 9)) 1 ∷ []
+unfolding calls_with third_required zeros₄
+ashore_required = refl
+
+-- "35 when a byte is above 1, buoy 1 is ashore, or fewer than three are afloat": then no search is open ("20")
+pub above_one : calls_ashore (0 ∷ 0 ∷ 0 ∷ 2 ∷ []) zeros₄ (pos 9) ≡ refused 35 0 ∷ refused 20 0 ∷ refused 20 0 ∷ []
+unfolding calls_ashore zeros₄
+above_one = refl
+
+pub one_ashore : calls_ashore (1 ∷ 0 ∷ 0 ∷ 0 ∷ []) zeros₄ (pos 9) ≡ refused 35 0 ∷ refused 20 0 ∷ refused 20 0 ∷ []
+unfolding calls_ashore zeros₄
+one_ashore = refl
+
+pub two_afloat : calls_ashore (0 ∷ 0 ∷ 1 ∷ 1 ∷ []) zeros₄ (pos 9) ≡ refused 35 0 ∷ refused 20 0 ∷ refused 20 0 ∷ []
+unfolding calls_ashore zeros₄
+two_afloat = refl
+
+-- "The list's length comes under 11", and "12 judges the dues as sent"
+pub three_bytes : calls_ashore (0 ∷ 0 ∷ 0 ∷ []) zeros₄ (pos 9) ≡ refused 11 0 ∷ refused 20 0 ∷ refused 20 0 ∷ []
+unfolding calls_ashore zeros₄
+three_bytes = refl
+
+pub due_as_sent : calls_ashore (0 ∷ 0 ∷ 0 ∷ 1 ∷ []) (pos 0 ∷ pos 0 ∷ pos 0 ∷ pos 1000001 ∷ []) (pos 9)
+    ≡ refused 12 0 ∷ refused 20 0 ∷ refused 20 0 ∷ []
+unfolding calls_ashore
+due_as_sent = refl

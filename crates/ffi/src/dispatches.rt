@@ -60,11 +60,12 @@ pub extern "C" fn planner_add(
     d: &mut Dispatcher,
     g: Graph,
     multipliers: &[i32],
+    ashore: &[u8],
     settings: Settings,
 ) -> Reply
-    ensures { Leaves d.old (Calls.add (opening_of g multipliers.now settings)) result d.new }
+    ensures { Leaves d.old (Calls.add (opening_of g multipliers.now ashore.now settings)) result d.new }
 {
-    Reply::from(d.add(&g, multipliers, settings))
+    Reply::from(d.add(&g, multipliers, ashore, settings))
 }
 
 // A turn of p nodes. Ruled out: a place named that was not served; a dispatcher changed by an idle turn.

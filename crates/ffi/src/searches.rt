@@ -57,11 +57,12 @@ pub extern "C" fn planner_open(
     s: &mut Search,
     g: Graph,
     multipliers: &[i32],
+    ashore: &[u8],
     settings: Settings,
 ) -> Reply
-    ensures { Leaves s.old (Calls.opens (opening_of g multipliers.now settings)) result s.new }
+    ensures { Leaves s.old (Calls.opens (opening_of g multipliers.now ashore.now settings)) result s.new }
 {
-    Reply::from(s.open(&g, multipliers, settings))
+    Reply::from(s.open(&g, multipliers, ashore, settings))
 }
 
 // Running. Ruled out: a node opened beyond the budget; 'finished' while nodes wait.

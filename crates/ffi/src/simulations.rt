@@ -63,13 +63,14 @@ pub extern "C" fn planner_simulate(
 pub extern "C" fn planner_compare(
     g: Graph,
     multipliers: &[i32],
+    ashore: &[u8],
     terms: Terms,
     sweeps: &[u32],
     steps: &[u32],
     report: &mut [u64],
 ) -> Reply
-    ensures { (result ≡ said_of (compare_reply g multipliers.now terms sweeps.now steps.now (length report.old)))
-        × (report.new ≡ compare_leaves g multipliers.now terms sweeps.now steps.now report.old) }
+    ensures { (result ≡ said_of (compare_reply g multipliers.now ashore.now terms sweeps.now steps.now (length report.old)))
+        × (report.new ≡ compare_leaves g multipliers.now ashore.now terms sweeps.now steps.now report.old) }
 {
-    Reply::from(compare::compare(&g, multipliers, terms, sweeps, steps, report))
+    Reply::from(compare::compare(&g, multipliers, ashore, terms, sweeps, steps, report))
 }

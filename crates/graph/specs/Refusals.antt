@@ -34,6 +34,7 @@ number refusal.NotFree = 31
 number refusal.Denominator = 32
 number refusal.Name = 33
 number refusal.NothingSaved = 34
+number refusal.Ashore = 35
 number refusal.Tour = 36
 number refusal.StudentOrSpread = 37
 number refusal.Window = 38
@@ -73,6 +74,7 @@ positive refusal.NotFree = omega arith
 positive refusal.Denominator = omega arith
 positive refusal.Name = omega arith
 positive refusal.NothingSaved = omega arith
+positive refusal.Ashore = omega arith
 positive refusal.Tour = omega arith
 positive refusal.StudentOrSpread = omega arith
 positive refusal.Window = omega arith
@@ -113,13 +115,14 @@ refusal_of n =
     cond (eqb n 32) refusal.Denominator (
     cond (eqb n 33) refusal.Name (
     cond (eqb n 34) refusal.NothingSaved (
+    cond (eqb n 35) refusal.Ashore (
     cond (eqb n 36) refusal.Tour (
     cond (eqb n 37) refusal.StudentOrSpread (
     cond (eqb n 38) refusal.Window (
     cond (eqb n 39) refusal.LogEntry (
     cond (eqb n 40) refusal.NoNodes (
     cond (eqb n 41) refusal.Full (
-    refusal.Place)))))))))))))))))))))))))))))))
+    refusal.Place))))))))))))))))))))))))))))))))
 
 again : (r : Refusal) → refusal_of (number r) ≡ r
 unfolding refusal_of
@@ -148,6 +151,7 @@ again refusal.NotFree = refl
 again refusal.Denominator = refl
 again refusal.Name = refl
 again refusal.NothingSaved = refl
+again refusal.Ashore = refl
 again refusal.Tour = refl
 again refusal.StudentOrSpread = refl
 again refusal.Window = refl

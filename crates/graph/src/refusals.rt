@@ -34,6 +34,7 @@ pub enum Refusal {
     Denominator = 32,
     Name = 33,
     NothingSaved = 34,
+    Ashore = 35,
     Tour = 36,
     StudentOrSpread = 37,
     Window = 38,

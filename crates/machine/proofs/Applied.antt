@@ -44,6 +44,9 @@ ruled_free required b f h = h
 ruled_free excluded b f h = h
 ruled_free free b f h = refl
 
+excluded_ruled : (x : Mark) (b f : Bool) → x ≡ excluded → mark_by (ruled x b f) ≡ excluded
+excluded_ruled x b f h = rw h
+
 required_ruled : (x : Mark) (b f : Bool) → x ≡ required → mark_by (ruled x b f) ≡ required
 required_ruled x b f h = rw h
 
@@ -127,3 +130,8 @@ module _ (g : Network) (vg : Valid g) (x : Marks) (lifting : Bool) (d : ℕ → 
       subst (λ (z : Marks). requireds z ≤ requireds (applied lifting (with_marks g x) d upper)) (row-marks g.m x e)
       (requireds-more g.m (λ k. get_or (free ∷ x) k free) (λ k. mark_by (ruling_with lifting (with_marks g x) d upper k))
       (λ j h i. ap mark_by (as_ruled lifting (with_marks g x) d upper (suc j)) ∙ required_ruled (m j) (is_bars (r j)) (is_forces (r j)) i))
+
+  -- nor let an excluded one in
+  pub ruled-off : (j : ℕ) → j < g.m → get_or x j free ≡ excluded → get_or (applied lifting (with_marks g x) d upper) j free ≡ excluded
+  unfolding m r
+  ruled-off j h e = applied-at j h ∙ excluded_ruled (m j) (is_bars (r j)) (is_forces (r j)) e

@@ -1,7 +1,7 @@
 -- THE PROOF of demand 3's claims about the machine itself: two finished searches agree, and a budget suffices. It rests on the general theorem
 -- (BranchAndBound), on the invariant of lists of calls (Invariant), on the renumbering of one network (Renumbering) and, where edges are
 -- numbered alike, on the networks being one (Alike).
-use Rattle.std.specs.Prelude.{◌≡◌, ◌⊎◌, Bool, false, length, ℤ, ◌≤ℤ◌, ◌<ℤ◌, eqb}
+use Rattle.std.specs.Prelude.{◌≡◌, ◌↔◌, ◌⊎◌, Bool, false, length, ℤ, ◌≤ℤ◌, ◌<ℤ◌, eqb}
 use Rattle.std.proofs.Math.Path.{refl, ap, subst}
 use Rattle.std.proofs.Common.{sym, ◌∙◌, inl, inr, arith}
 use Rattle.std.proofs.Math.Bool.{true}
@@ -25,8 +25,11 @@ use Rattle.tree_theory.specs.OneTree.{Edges, lacks_first}
 use Rattle.tree_theory.specs.Agree.{Agree, neither}
 use Rattle.tree_theory.specs.Arrays.{edge_of, of_edge}
 use Rattle.tours.specs.Tours.{Tour, Allowed, cost, Feasible}
+use Rattle.afloat.specs.Over.{ashore, FeasibleOver}
+use Rattle.afloat.specs.Tours.{feasible_iff, cost-reduced}
+use Rattle.afloat.specs.Agreeing.{over_there, feasible_over_same}
 use Rattle.machine.specs.Outcomes.{Incumbent, no_tour, a_tour}
-use Rattle.machine.specs.Machine.{Node, with_marks, marks_of, Opening, trimmed, held, Progress, State, no_search, searching, edges_of}
+use Rattle.machine.specs.Machine.{Node, with_marks, marks_of, frees, Opening, active_network, trimmed, held, Progress, State, no_search, searching, edges_of}
 use Rattle.machine.specs.Machine.{cost_of, is_empty, finished}
 use Rattle.machine.specs.Calls.{Call, tell, show, Verdict, going_on, none, best, accepted, tells, Reply, verdict, verdict_of, tour_bytes}
 use Rattle.machine.specs.Calls.{shown_by, step, leaves, History, since, history, free_at_start}
@@ -36,10 +39,11 @@ use Rattle.machine.specs.Demand3 as stated
 use Rattle.machine.specs.BranchAndBound.{Optimal, Reached}
 use Rattle.machine.proofs.BranchAndBound.{optimum}
 use Rattle.machine.specs.Trimmed.{network-trimmed, valid-trimmed}
+use Rattle.machine.specs.Active.{active_fit, active_held}
 use Rattle.machine.specs.NodeTours.{Agrees, Inside, allowed_agrees, agrees_allowed}
 use Rattle.machine.proofs.NodeTours.{tours}
 use Rattle.machine.specs.Kept.{Sized}
-use Rattle.tours.specs.Renumbering.{Simple, one_sym, renumbered, renumbered_same}
+use Rattle.tours.specs.Renumbering.{Simple, one_sym}
 use Rattle.machine.specs.Alike.{network-alike}
 use Rattle.machine.specs.Invariant.{first_node}
 use Rattle.machine.proofs.Invariant.{Good, FineSearch, Fine, fine, before_last}
@@ -89,7 +93,15 @@ no_clash c e = absurd (let z : ◌≡◌ {A = ℕ} 0 1 = cc in omega arith)
 
 module _ (cs : List Call) (s : Progress) (total : ℕ) (left : leaves cs ≡ searching s) (h : Good s total) (done : finished s ≡ true) where
   g : Network
-  g = network s.opening.graph
+  g = active_network s.opening
+
+  -- such a tour is one of the network of the active vertices, of the same cost
+  such_iff : (t : Edges) → Such s.opening t ↔ Feasible (active_network s.opening) s.opening.settings.ceiling t
+  such_iff t =
+      feasible_iff (ashore s.opening.ashore) (network s.opening.graph) (active_fit s.opening h.kept.opening) s.opening.settings.ceiling t
+
+  cost_is : (t : Edges) → cost (active_network s.opening) t ≡ cost (network s.opening.graph) t
+  cost_is t = cost-reduced (ashore s.opening.ashore) (network s.opening.graph) (active_fit s.opening h.kept.opening) t
 
   best_possible : Optimal (tours g) (first_node s.opening) s.opening.settings.ceiling s.incumbent
   unfolding g
@@ -130,7 +142,7 @@ module _ (cs : List Call) (s : Progress) (total : ℕ) (left : leaves cs ≡ sea
       go no_tour e told p z = record {
         count = s.count;
         told = told;
-        exactly = ((λ x t q. p t (root_inside g t q.tour q.allowed) q.cheap), λ x. refl);
+        exactly = ((λ x t q. let f = (such_iff t).0 q in p t (root_inside g t f.tour f.allowed) f.cheap), λ x. refl);
         otherwise = tt;
       }
       go (a_tour r) e told p z = record {
@@ -140,29 +152,32 @@ module _ (cs : List Call) (s : Progress) (total : ℕ) (left : leaves cs ≡ sea
         otherwise = record {
           tour = edges_of r;
           such = such;
-          exact = unfold cost_of in refl;
-          least = λ u q. unfold cost_of in least u q;
-          first = λ u q e. first u q (unfold cost_of in e);
+          exact = sym (cost_is (edges_of r)) ∙ unfold cost_of in refl;
+          least = λ u q. unfold cost_of in rw (← cost_is u) (least u q);
+          first = λ u q e. first u q (cost_is u ∙ e ∙ unfold cost_of in refl);
           accepts = λ l f. ap (λ (x : Reply). x.answer) (shown_is r e l f);
           writes = λ l f. ap (λ (x : Reply). x.lent) (shown_is r e l f) ∙ written r z;
         };
       }
         where
-          such : Feasible (network s.opening.graph) s.opening.settings.ceiling (edges_of r)
-          such = record { tour = p.inside.tour; allowed = inside_root g (edges_of r) p.inside; cheap = p.within }
+          such : Such s.opening (edges_of r)
+          such = (such_iff (edges_of r)).1 (record { tour = p.inside.tour; allowed = inside_root g (edges_of r) p.inside; cheap = p.within })
+
+          inside : (u : Edges) → Such s.opening u → Inside g u (marks_of g)
+          inside u q = let f = (such_iff u).0 q in root_inside g u f.tour f.allowed
 
           least : (u : Edges) → Such s.opening u → cost g (edges_of r) ≤ℤ cost g u
           least u q = pick (le-or-lt (cost g (edges_of r)) (cost g u))
             where
               pick : (cost g (edges_of r) ≤ℤ cost g u) ⊎ (cost g u <ℤ cost g (edges_of r)) → cost g (edges_of r) ≤ℤ cost g u
               pick (inl x) = x
-              pick (inr x) = absurd (p.least u (root_inside g u q.tour q.allowed) (inl x))
+              pick (inr x) = absurd (p.least u (inside u q) (inl x))
 
           first : (u : Edges) → Such s.opening u → cost g u ≡ cost g (edges_of r)
               → lacks_first s.opening.graph.m u (edges_of r) ≡ false
           first u q f =
               by_cases (lacks_first s.opening.graph.m u (edges_of r))
-              (λ l. absurd (p.least u (root_inside g u q.tour q.allowed) (inr (f, unfold network in l))))
+              (λ l. absurd (p.least u (inside u q) (inr (f, unfold network in l))))
               (λ l. l)
 
 -- ---- the opening that the state holds, and the one that was given
@@ -180,10 +195,10 @@ says_given cs o v few x = record {
     same = network-trimmed o.graph few
 
     such_held : (t : Edges) → Such (held o) t → Such o t
-    such_held t q = subst (λ (n : Network). Feasible n o.settings.ceiling t) same q
+    such_held t q = subst (λ (n : Network). FeasibleOver (ashore o.ashore) n o.settings.ceiling t) same q
 
     held_such : (t : Edges) → Such o t → Such (held o) t
-    held_such t q = subst (λ (n : Network). Feasible n o.settings.ceiling t) (sym same) q
+    held_such t q = subst (λ (n : Network). FeasibleOver (ashore o.ashore) n o.settings.ceiling t) (sym same) q
 
     go : (w : Verdict) → Otherwise cs (held o) w → Otherwise cs o w
     go going_on y = y
@@ -226,24 +241,31 @@ simple g v j k mj mk ea eb = go j k ea eb (edge_of g.m j mj) (edge_of g.m k mk)
         (dec_le (suc x.0) y.0) (dec_le (suc y.0) x.0)
         ∙ sym y.2
 
+-- one list and one ceiling under two names
+feasible_other : (o p : Opening) (g : Network) → o.ashore ≡ p.ashore → o.settings.ceiling ≡ p.settings.ceiling → (t : Edges)
+    → FeasibleOver (ashore o.ashore) g o.settings.ceiling t → FeasibleOver (ashore p.ashore) g p.settings.ceiling t
+feasible_other o p g inactive same t q =
+    subst (λ (z : ℤ). FeasibleOver (ashore p.ashore) g z t) same
+    (subst (λ (l : List ℕ). FeasibleOver (ashore l) g o.settings.ceiling t) inactive q)
+
 -- a tour of the one is a tour of the other, of the same cost
-there : (o p : Opening) → value.Valid o.graph → OneNetwork (network o.graph) (network p.graph) → o.settings.ceiling ≡ p.settings.ceiling
-    → (t : Edges) → Such o t → (u : Edges) × Such p u × (cost (network p.graph) u ≡ cost (network o.graph) t)
-there o p v one same t q = (moved, subst (λ (z : ℤ). Feasible (network p.graph) z moved) same r.0, r.1)
+there : (o p : Opening) → value.Valid o.graph → OneNetwork (network o.graph) (network p.graph) → o.ashore ≡ p.ashore
+    → o.settings.ceiling ≡ p.settings.ceiling → (t : Edges) → Such o t → (u : Edges) × Such p u × (cost (network p.graph) u ≡ cost (network o.graph) t)
+there o p v one inactive same t q = (moved, feasible_other o p (network p.graph) inactive same moved r.0, r.1)
   where
     moved : Edges
-    moved = renumbered (network o.graph) (network p.graph) one (simple o.graph v) t
+    moved = over_there (ashore o.ashore) (network o.graph) (network p.graph) one (simple o.graph v) t
 
-    r : Feasible (network p.graph) o.settings.ceiling moved × (cost (network p.graph) moved ≡ cost (network o.graph) t)
-    r = renumbered_same (network o.graph) (network p.graph) one (simple o.graph v) t o.settings.ceiling q
+    r : FeasibleOver (ashore o.ashore) (network p.graph) o.settings.ceiling moved × (cost (network p.graph) moved ≡ cost (network o.graph) t)
+    r = feasible_over_same (ashore o.ashore) (network o.graph) (network p.graph) one (simple o.graph v) o.settings.ceiling t q
 
 module _ (cs ds : List Call) (o p : Opening) (vo : value.Valid o.graph) (vp : value.Valid p.graph)
-    (one : OneNetwork (network o.graph) (network p.graph)) (same : o.settings.ceiling ≡ p.settings.ceiling) where
+    (one : OneNetwork (network o.graph) (network p.graph)) (inactive : o.ashore ≡ p.ashore) (same : o.settings.ceiling ≡ p.settings.ceiling) where
   across : (t : Edges) → Such o t → (u : Edges) × Such p u × (cost (network p.graph) u ≡ cost (network o.graph) t)
-  across = there o p vo one same
+  across = there o p vo one inactive same
 
   back : (t : Edges) → Such p t → (u : Edges) × Such o u × (cost (network o.graph) u ≡ cost (network p.graph) t)
-  back = there p o vp (one_sym (network o.graph) (network p.graph) one (simple o.graph vo)) (sym same)
+  back = there p o vp (one_sym (network o.graph) (network p.graph) one (simple o.graph vo)) (sym inactive) (sym same)
 
   same-verdict : (v w : Verdict) → Says cs o v → Says ds p w → v ≡ w
   same-verdict going_on w x y = absurd x.otherwise
@@ -277,15 +299,15 @@ module _ (cs ds : List Call) (o p : Opening) (vo : value.Valid o.graph) (vp : va
         there_first : lacks_first p.graph.m x.tour y.tour ≡ false
         there_first =
             y.first x.tour
-            (subst (λ (z : ℤ). Feasible (network p.graph) z x.tour) same
-            (subst (λ (n : Network). Feasible n o.settings.ceiling x.tour) (sym network-same) x.such))
+            (feasible_other o p (network p.graph) inactive same x.tour
+            (subst (λ (n : Network). FeasibleOver (ashore o.ashore) n o.settings.ceiling x.tour) (sym network-same) x.such))
             (ap (λ (n : Network). cost n x.tour) network-same ∙ x.exact)
 
         here_first : lacks_first o.graph.m y.tour x.tour ≡ false
         here_first =
             x.first y.tour
-            (subst (λ (z : ℤ). Feasible (network o.graph) z y.tour) (sym same)
-            (subst (λ (n : Network). Feasible n p.settings.ceiling y.tour) network-same y.such))
+            (feasible_other p o (network o.graph) (sym inactive) (sym same) y.tour
+            (subst (λ (n : Network). FeasibleOver (ashore p.ashore) n p.settings.ceiling y.tour) network-same y.such))
             (ap (λ (n : Network). cost n y.tour) (sym network-same) ∙ y.exact)
 
     lent_same : (l : List ℕ) → length l ≡ o.graph.m → (step (leaves cs) (show l)).lent ≡ (step (leaves ds) (show l)).lent
@@ -337,7 +359,7 @@ module _ (cs : List Call) (o : Opening) (total : ℕ) (l : Leaves cs o total) wh
 
   -- the verdict, once it is finished
   abbrev told_by : Verdict
-  told_by = verdict_of (network l.search.opening.graph) l.search.incumbent
+  told_by = verdict_of (active_network l.search.opening) l.search.incumbent
 
   says_of : Finished (leaves cs) → Says cs o told_by
   unfolding g
@@ -364,7 +386,9 @@ module _ (cs : List Call) (o : Opening) (total : ℕ) (l : Leaves cs o total) wh
       s = l.search
 
       same : free_at_start s.opening ≡ free_at_start o
-      same = unfold free_at_start held in (rw (l.holds.opening, network-trimmed o.graph given_valid.few))
+      same =
+          ap free_at_start l.holds.opening
+          ∙ unfold free_at_start in ap (λ (n : Network). frees (marks_of n)) (active_held o given_valid.few)
 
       go : (st : List Node) → s.stack ≡ st → is_empty s.stack ≡ true
       go [] e = ap is_empty e
@@ -380,7 +404,7 @@ module _ (cs : List Call) (o : Opening) (total : ℕ) (l : Leaves cs o total) wh
 -- ---- two lists of calls
 
 module _ (cs ds : List Call) (o p : Opening) (f : LeavesFinished cs o) (k : LeavesFinished ds p)
-    (one : OneNetwork (network o.graph) (network p.graph)) (same : o.settings.ceiling ≡ p.settings.ceiling) where
+    (one : OneNetwork (network o.graph) (network p.graph)) (inactive : o.ashore ≡ p.ashore) (same : o.settings.ceiling ≡ p.settings.ceiling) where
   l : Leaves cs o f.total
   l = leaves-search cs o f.total f.opened
 
@@ -400,27 +424,27 @@ module _ (cs ds : List Call) (o p : Opening) (f : LeavesFinished cs o) (k : Leav
   says_here = says_of cs o f.total l f.done
 
   equal : told ≡ told_by ds p k.total r
-  equal = same-verdict cs ds o p vo vp one same _ _ says_here (says_of ds p k.total r k.done)
+  equal = same-verdict cs ds o p vo vp one inactive same _ _ says_here (says_of ds p k.total r k.done)
 
   says_there : Says ds p told
   says_there = rw equal (says_of ds p k.total r k.done)
 
   module _ (alike : NumberedAlike (network o.graph) (network p.graph)) where
     ms : l.search.opening.graph.m ≡ r.search.opening.graph.m
-    ms = m_held cs o f.total l ∙ sym (m_same cs ds o p vo vp one same) ∙ sym (m_held ds p k.total r)
+    ms = m_held cs o f.total l ∙ sym (m_same cs ds o p vo vp one inactive same) ∙ sym (m_held ds p k.total r)
 
     -- what the two write, read off a list of m bytes
     bytes_same : (b c : List Bool) → l.search.incumbent ≡ a_tour b → r.search.incumbent ≡ a_tour c → tour_bytes b ≡ tour_bytes c
     bytes_same b c e h =
         sym (lent_of cs o f.total l f.done b e blank size)
-        ∙ lent_same cs ds o p vo vp one same alike (cost_of g₁ b)
+        ∙ lent_same cs ds o p vo vp one inactive same alike (cost_of g₁ b)
         (subst (λ (i : Incumbent (List Bool)). Otherwise cs o (verdict_of g₁ i)) e says_here.otherwise)
         (subst (λ (i : Incumbent (List Bool)). Otherwise ds p (verdict_of g₁ i)) e says_there.otherwise)
         blank size
-        ∙ lent_of ds p k.total r k.done c h blank (size ∙ sym (m_same cs ds o p vo vp one same))
+        ∙ lent_of ds p k.total r k.done c h blank (size ∙ sym (m_same cs ds o p vo vp one inactive same))
       where
         g₁ : Network
-        g₁ = network l.search.opening.graph
+        g₁ = active_network l.search.opening
 
         blank : List ℕ
         blank = row o.graph.m (λ j. 0)
@@ -431,16 +455,20 @@ module _ (cs ds : List Call) (o p : Opening) (f : LeavesFinished cs o) (k : Leav
     show_alike : ShowAlike cs ds
     show_alike a =
         rw (shown_of cs o f.total l f.done a, shown_of ds p k.total r k.done a)
-        (shown_alike l.search r.search a (network l.search.opening.graph) (network r.search.opening.graph)
+        (shown_alike l.search r.search a (active_network l.search.opening) (active_network r.search.opening)
         l.search.incumbent r.search.incumbent ms equal bytes_same)
 
 -- ---- DEMAND 3'S CLAIMS HOLD OF THE MACHINE
 
 pub machine_agrees : (cs ds : List Call) (o p : Opening) → LeavesFinished cs o → LeavesFinished ds p
-    → OneNetwork (network o.graph) (network p.graph) → o.settings.ceiling ≡ p.settings.ceiling
+    → OneNetwork (network o.graph) (network p.graph) → o.ashore ≡ p.ashore → o.settings.ceiling ≡ p.settings.ceiling
     → (v : Verdict) × Says cs o v × Says ds p v × (NumberedAlike (network o.graph) (network p.graph) → ShowAlike cs ds)
-machine_agrees cs ds o p f k one same =
-    (told cs ds o p f k one same, says_here cs ds o p f k one same, says_there cs ds o p f k one same, show_alike cs ds o p f k one same)
+machine_agrees cs ds o p f k one inactive same = (
+  told cs ds o p f k one inactive same,
+  says_here cs ds o p f k one inactive same,
+  says_there cs ds o p f k one inactive same,
+  show_alike cs ds o p f k one inactive same,
+)
 
 pub machine_ends : (cs : List Call) (o : Opening) (total : ℕ) → history cs ≡ since o total
     → free_at_start o ≤ 62 → 2 ^ suc (free_at_start o) - 1 ≤ total → Finished (leaves cs)

@@ -93,8 +93,8 @@ module _ (i : Interface) (f : Follows i) where
   pub follows_demand_3 : Demand3 i
   follows_demand_3 = record {
     equal = as_the_machine;
-    agree = λ cs ds o p k j one same.
-        let a = machine_agrees cs ds o p k j one same in
+    agree = λ cs ds o p k j one inactive same.
+        let a = machine_agrees cs ds o p k j one inactive same in
         (a.0, says cs o a.0 a.1, says ds p a.0 a.2, λ alike. show_alike cs ds (a.3 alike));
     ends = λ cs o total e few enough. subst Finished (sym (held cs)) (machine_ends cs o total e few enough);
   }

@@ -3,9 +3,9 @@
 use Rattle.std.specs.Prelude.{◌≡◌, refl, ◌⊎◌, Bool, true, false, cond, List, [], ◌∷◌, ℕ, zero, suc, ◌+◌, ◌-◌, ◌^◌, ◌≤◌, ◌<◌, length}
 use Rattle.std.proofs.Common.{sym, ap, ◌∙◌, subst, inl, inr, arith, pow_mono}
 use Rattle.graph.specs.Limits.{max_count}
-use Rattle.graph.specs.Network.{Network, network}
+use Rattle.graph.specs.Network.{Network}
 use Rattle.machine.specs.Machine.{Node, Opening, held, Progress, State, no_search, searching, begin}
-use Rattle.machine.specs.Machine.{open_node, settled, open_top, finished, ran}
+use Rattle.machine.specs.Machine.{active_network, open_node, settled, open_top, finished, ran}
 use Rattle.machine.specs.Calls.{Call, opens, run, tell, show, close, Reply, fault, opened_by, run_by, shown_by, step, leaves}
 use Rattle.machine.specs.Calls.{state_after, is_accepted, History, no_opening, since, granted, noted, history_after, history}
 use Rattle.machine.specs.Calls.{free_at_start}
@@ -19,7 +19,7 @@ use Rattle.machine.specs.Invariant.{first_node}
 
 abbrev pub ReachedBy : Progress → Type 0
 ReachedBy s =
-    Reached (tours (network s.opening.graph)) (first_node s.opening) s.opening.settings.ceiling
+    Reached (tours (active_network s.opening)) (first_node s.opening) s.opening.settings.ceiling
     s.upper s.stack s.incumbent s.count
 
 pub record Good (s : Progress) (total : ℕ) : Type 0 where
@@ -44,7 +44,7 @@ before_last s x rest e r =
     )
   where
     g : Network
-    g = network s.opening.graph
+    g = active_network s.opening
 
 good_top : (s : Progress) (total : ℕ) (x : Node) (rest : List Node) → s.stack ≡ x ∷ rest → s.count < max_count → Good s total
     → Good (open_top s (x ∷ rest)) (suc total)
@@ -59,7 +59,7 @@ good_top s total x rest e l h = record {
 }
   where
     g : Network
-    g = network s.opening.graph
+    g = active_network s.opening
 
     go : (s.stack ≡ []) ⊎ (s.count ≡ total) → s.count ≡ total
     go (inl k) = absurd (let z : 0 ≡ suc (length rest) = ap length (sym k ∙ e) in omega arith)

@@ -12,3 +12,4 @@ pub mod NodeTours
 pub mod OpeningLaws
 pub mod Preserved
 pub mod ScaledLaws
+pub mod Struck

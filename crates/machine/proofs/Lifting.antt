@@ -4,6 +4,8 @@
 use Rattle.std.specs.Prelude.{◌≡◌, refl, [], ◌∷◌, ℕ, pos}
 use Rattle.graph.specs.declared.Graph.{Graph}
 use Rattle.graph.specs.Network.{free, required, excluded, mark_of, network}
+use Rattle.thinning.specs.Ranks.{rank}
+use Rattle.afloat.specs.Over.{ashore}
 use Rattle.machine.specs.Outcomes.{splits}
 use Rattle.machine.specs.Machine.{Marks, Node, node_of, marks_of, Opening, Opened, tidy, open_node}
 
@@ -25,6 +27,7 @@ asked lifting =
     record {
       graph = four;
       multipliers = pos 0 ∷ pos 0 ∷ pos 0 ∷ pos 0 ∷ [];
+      ashore = 0 ∷ 0 ∷ 0 ∷ 0 ∷ [];
       settings = record { ceiling = pos 12; sweeps = 0; step = 0; denominator = 1; lifting = lifting };
     }
 
@@ -34,7 +37,7 @@ zeroed x = node_of (pos 0 ∷ pos 0 ∷ pos 0 ∷ pos 0 ∷ []) x
 
 -- its first node, opened
 unfoldable pub first_opened : ℕ → Opened
-unfolding asked open_node marks_of network mark_of
+unfolding asked open_node marks_of network mark_of ashore rank
 first_opened lifting = open_node (asked lifting) (pos 12) (zeroed (marks_of (network four)))
 
 -- legs 4 and 6 are forced and leg 5 is barred, and leg 1 is the lowest-numbered free leg

@@ -24,13 +24,13 @@ use Rattle.tree_theory.specs.Inputs.{multiplier}
 use Rattle.tree_theory.specs.Scaled.{scaled_by}
 use Rattle.tree_theory.specs.Scaling.{valid_scaled}
 use Rattle.tree_theory.specs.Enumeration.{Tree, no_tree, a_tree, least_tree}
-use Rattle.tree_theory.specs.Arrays.{edge_of, network-valid}
+use Rattle.tree_theory.specs.Arrays.{edge_of}
 use Rattle.tours.specs.Tours.{Tour, cost, is_tour}
 use Rattle.machine.specs.Outcomes.{closes, finds, splits, Incumbent, no_tour, a_tour, best_of}
 use Rattle.machine.specs.Machine.{Marks, Node, with_marks, applied, Pass, shut, found, unclosed, pass_by, pass, gained, Opened}
 use Rattle.machine.specs.Machine.{first_free}
-use Rattle.machine.specs.Machine.{branch, concluded, passes, lifts, Opening, held, Progress, State, no_search, searching}
-use Rattle.machine.specs.Machine.{edges_of, cost_of, lowered, better, open_node, settled, open_top, finished, ran}
+use Rattle.machine.specs.Machine.{branch, concluded, passes, lifts, Opening, active_network, held, Progress, State, no_search, searching}
+use Rattle.machine.specs.Machine.{edges_of, cost_of, lowered, better, opened_on, open_node, settled, open_top, finished, ran}
 use Rattle.machine.specs.Calls.{Call, opens, run, tell, show, close, fault, opened_by, run_by, step}
 use Rattle.machine.specs.Calls.{state_after, leaves}
 use Rattle.machine.specs.Runs.{ran_keeps}
@@ -40,8 +40,10 @@ use Rattle.machine.proofs.OpeningLaws.{Law, passes_law}
 use Rattle.machine.proofs.ScaledLaws.{law_scaled}
 use Rattle.machine.specs.Depth.{Shallow}
 use Rattle.machine.proofs.Depth.{passes_shallow}
+use Rattle.machine.proofs.Struck.{BothOff, opened_off}
 use Rattle.machine.specs.Gained.{gained_fits}
-use Rattle.machine.specs.Kept.{FitFor, Nodes, Sized, Kept, KeptState}
+use Rattle.machine.specs.Kept.{active_size, Accepted, FitFor, Nodes, AllOff, touching, Sized, Kept, KeptState}
+use Rattle.machine.specs.Active.{active_most, active_valid, active_some}
 use Rattle.machine.specs.Preserved.{accepts-held, begin-kept, show_state}
 
 -- ---- the range of a tour's cost
@@ -55,18 +57,25 @@ sum_range f (x ∷ xs) h =
     let i : InRange max_cost (f x) = h x (inl refl) in
     (omega (arith, add-up (f x) (sum_z f xs), i.high, r.0), omega (arith, add-dn (f x) (sum_z f xs), i.low, r.1))
 
-lowered_range : (g : Graph) → value.Valid g → (r : List Bool) → Tour (network g) (edges_of r) → InRange max_ceiling (lowered (network g) r)
+lowered_range : (p : Opening) → Accepted p → (r : List Bool) → Tour (active_network p) (edges_of r)
+    → InRange max_ceiling (lowered (active_network p) r)
 unfolding lowered cost_of cost
-lowered_range g v r o = record {
+lowered_range p acc r o = record {
   high = omega (arith, sums.0, size, v.high, tour_in_range);
   low = omega (arith, sums.1, size, v.high, tour_in_range);
 }
   where
+    g : Graph
+    g = p.graph
+
+    v : value.Valid g
+    v = acc.valid
+
     es : List ℕ
     es = select (edges_of r) (up_to (network g).m)
 
-    size : length es ≡ g.n
-    size = unfold network in o.number
+    size : length es ≤ g.n
+    size = unfold network in omega (arith, o.number, active_most p)
 
     each : (k : ℕ) → k ∈ es → InRange max_cost ((network g).cost k)
     each k m = go (edge_of g.m k (unfold network in (select_in (edges_of r) (up_to (network g).m) k m).0))
@@ -158,69 +167,80 @@ better_sized g m (a_tour b) r h z = go (better_is g b r)
 -- ---- one node more
 
 module _ (s : Progress) (h : Kept s) (x : Node) (rest : List Node) (e : s.stack ≡ x ∷ rest) (l : s.count < max_count) where
-  waiting : Nodes s.opening.graph.n s.opening.graph.m (x ∷ rest)
-  waiting = subst (λ (st : List Node). Nodes s.opening.graph.n s.opening.graph.m st) e h.nodes
+  waiting : Nodes (active_size s.opening) s.opening.graph.m (x ∷ rest)
+  waiting = subst (λ (st : List Node). Nodes (active_size s.opening) s.opening.graph.m st) e h.nodes
 
   -- the node's opening is lawful and its parts are whole
-  pub top_law : Law (network s.opening.graph) (network-valid s.opening.graph h.opening.valid) s.upper x.marks
+  pub top_law : Law (active_network s.opening) (active_valid s.opening h.opening) s.upper x.marks
       (open_node s.opening s.upper x)
-  unfolding open_node
+  unfolding open_node opened_on
   top_law =
       let q = s.opening.settings.denominator in
-      let v = network-valid s.opening.graph h.opening.valid in
-      law_scaled q (network s.opening.graph) h.opening.denominator.0 v s.upper x.marks
+      let v = active_valid s.opening h.opening in
+      law_scaled q (active_network s.opening) h.opening.denominator.0 v s.upper x.marks
       (open_node s.opening s.upper x)
-      (passes_law (scaled_by q (network s.opening.graph)) (valid_scaled q (network s.opening.graph) v) (q times s.upper)
+      (passes_law (scaled_by q (active_network s.opening)) (valid_scaled q (active_network s.opening) v) (q times s.upper)
       (lifts s.opening.settings) s.opening.settings.step s.opening.settings.sweeps x.multipliers x.marks (unfold network in waiting.0.long))
 
-  top_long : Long (network s.opening.graph) (open_node s.opening s.upper x)
-  unfolding open_node network
+  top_long : Long (active_network s.opening) (open_node s.opening s.upper x)
+  unfolding open_node opened_on network
   top_long =
       let q = s.opening.settings.denominator in
-      long_scaled q (network s.opening.graph) (open_node s.opening s.upper x)
-      (passes_long (lifts s.opening.settings) (scaled_by q (network s.opening.graph)) (omega (arith, h.opening.valid.low))
+      long_scaled q (active_network s.opening) (open_node s.opening s.upper x)
+      (passes_long (lifts s.opening.settings) (scaled_by q (active_network s.opening)) (omega (arith, active_some s.opening h.opening))
       s.opening.settings.step (q times s.upper) s.opening.settings.sweeps x.multipliers waiting.0.multipliers x.marks)
 
   -- a tour that it finds has a place for each edge
   pub found_long : (r : List Bool) → open_node s.opening s.upper x ≡ finds r → length r ≡ s.opening.graph.m
   unfolding network
-  found_long r i = subst (λ (o : Opened). Long (network s.opening.graph) o) i top_long
+  found_long r i = subst (λ (o : Opened). Long (active_network s.opening) o) i top_long
 
   -- and it splits only where there is room for both halves
-  top_shallow : Shallow s.opening.graph.n x.marks (open_node s.opening s.upper x)
-  unfolding open_node network
+  top_shallow : Shallow (active_size s.opening) x.marks (open_node s.opening s.upper x)
+  unfolding open_node opened_on network
   top_shallow =
       let q = s.opening.settings.denominator in
-      passes_shallow (scaled_by q (network s.opening.graph))
-      (valid_scaled q (network s.opening.graph) (network-valid s.opening.graph h.opening.valid)) (q times s.upper) (lifts s.opening.settings)
+      passes_shallow (scaled_by q (active_network s.opening))
+      (valid_scaled q (active_network s.opening) (active_valid s.opening h.opening)) (q times s.upper) (lifts s.opening.settings)
       s.opening.settings.step s.opening.settings.sweeps x.multipliers x.marks waiting.0.long
 
-  below : suc (length rest) ≤ s.opening.graph.n + 2
-  below = subst (λ (st : List Node). length st ≤ s.opening.graph.n + 2) e h.depth
+  struck : AllOff s.opening.graph.m (touching s.opening) (x ∷ rest)
+  struck = subst (λ (st : List Node). AllOff s.opening.graph.m (touching s.opening) st) e h.struck
 
-  settled-kept : (out : Opened) → Long (network s.opening.graph) out → Shallow s.opening.graph.n x.marks out
-      → Law (network s.opening.graph) (network-valid s.opening.graph h.opening.valid) s.upper x.marks out
-      → Kept (settled s rest out)
+  -- and each half excludes what the node excludes
+  top_off : BothOff s.opening.graph.m (touching s.opening) (open_node s.opening s.upper x)
+  unfolding open_node network
+  top_off =
+      opened_off (active_network s.opening) (active_valid s.opening h.opening) s.opening.settings s.upper x (touching s.opening) struck.0
+
+  below : suc (length rest) ≤ active_size s.opening + 2
+  below = subst (λ (st : List Node). length st ≤ active_size s.opening + 2) e h.depth
+
+  settled-kept : (out : Opened) → Long (active_network s.opening) out → Shallow (active_size s.opening) x.marks out
+      → Law (active_network s.opening) (active_valid s.opening h.opening) s.upper x.marks out
+      → BothOff s.opening.graph.m (touching s.opening) out → Kept (settled s rest out)
   unfolding settled network
-  settled-kept closes z v w =
+  settled-kept closes z v w b =
       record {
         opening = h.opening;
         upper = h.upper;
         depth = omega (arith, below);
         nodes = waiting.1;
+        struck = struck.1;
         sized = h.sized;
         count = l;
       }
-  settled-kept (finds r) z v w =
+  settled-kept (finds r) z v w b =
       record {
         opening = h.opening;
-        upper = lowered_range s.opening.graph h.opening.valid r (w x.multipliers).inside.tour;
+        upper = lowered_range s.opening h.opening r (w x.multipliers).inside.tour;
         depth = omega (arith, below);
         nodes = waiting.1;
-        sized = better_sized (network s.opening.graph) s.opening.graph.m s.incumbent r h.sized z;
+        struck = struck.1;
+        sized = better_sized (active_network s.opening) s.opening.graph.m s.incumbent r h.sized z;
         count = l;
       }
-  settled-kept (splits out into) z v w =
+  settled-kept (splits out into) z v w b =
       record {
         opening = h.opening;
         upper = h.upper;
@@ -240,13 +260,14 @@ module _ (s : Progress) (h : Kept s) (x : Node) (rest : List Node) (e : s.stack 
             waiting.1,
           ),
         );
+        struck = (b.1, (b.0, struck.1));
         sized = h.sized;
         count = l;
       }
 
   pub top_kept : Kept (open_top s (x ∷ rest))
   unfolding open_top
-  top_kept = settled-kept (open_node s.opening s.upper x) top_long top_shallow top_law
+  top_kept = settled-kept (open_node s.opening s.upper x) top_long top_shallow top_law top_off
 
 pub ran-kept : (budget : ℕ) (s : Progress) → Kept s → Kept (ran budget s)
 ran-kept = ran_keeps Kept (λ s x rest e l h. top_kept s h x rest e l)

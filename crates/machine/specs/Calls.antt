@@ -5,9 +5,10 @@ use Rattle.lists.specs.Bools.{bit}
 use Rattle.graph.specs.Limits.{max_sweeps, max_step}
 use Rattle.graph.specs.Valid.{valid}
 use Rattle.graph.specs.Network.{Network, network}
-use Rattle.tree_theory.specs.Inputs.{multipliers_fit, ceiling_fits, denominator_fault}
+use Rattle.tree_theory.specs.Inputs.{multipliers_fit, ceiling_fits, denominator_fault, or_else}
+use Rattle.afloat.specs.Over.{ashore_fault}
 use Rattle.machine.specs.Outcomes.{Incumbent, no_tour, a_tour}
-use Rattle.machine.specs.Machine.{marks_of, frees, Opening, Progress, State, no_search, searching, held, begin, cost_of, finished, ran}
+use Rattle.machine.specs.Machine.{marks_of, frees, Opening, active_network, Progress, State, no_search, searching, held, begin, cost_of, finished, ran}
 
 -- "opening, run, tell, show and close calls"; show lends a list
 pub data Call : Type 0 where
@@ -55,16 +56,17 @@ abbrev pub accepts : State → Answer → Reply
 accepts s a = record { state = s; answer = a; lent = [] }
 
 -- "15 a chart value that breaks 'Legs and marks'; 11 a list of wrong length (dues n, ..); 12 a due out of range or d(1) not 0; 13 ceiling;
--- 14 sweeps or step"; document 02, C-17: "32 when q is out of range, tested after 14": the first that applies to an opening, or 0
+-- 14 sweeps or step"; document 02, C-17: "32 when q is out of range, tested after 14"; C-20: "The list's length comes under 11. 35 .. follows 32":
+-- the first that applies to an opening, or 0
 unfoldable pub fault : Opening → ℕ
-unfolding valid multipliers_fit ceiling_fits denominator_fault
+unfolding valid multipliers_fit ceiling_fits denominator_fault ashore_fault
 fault o =
     cond (not (valid o.graph)) 15
-    (cond (not (eqb (length o.multipliers) o.graph.n)) 11
+    (cond (not (eqb (length o.multipliers) o.graph.n && eqb (length o.ashore) o.graph.n)) 11
     (cond (not (multipliers_fit o.multipliers)) 12
     (cond (not (ceiling_fits o.settings.ceiling)) 13
     (cond (not (leb o.settings.sweeps max_sweeps && leb o.settings.step max_step)) 14
-    (denominator_fault o.settings.denominator)))))
+    (or_else (denominator_fault o.settings.denominator) (ashore_fault o.ashore o.graph.n))))))
 
 -- ---- the calls
 
@@ -86,7 +88,7 @@ verdict_of g (a_tour r) = best (cost_of g r)
 -- "The verdict is going on until the hunt is finished"
 unfoldable pub verdict : Progress → Verdict
 unfolding cost_of network
-verdict s = cond (finished s) (verdict_of (network s.opening.graph) s.incumbent) going_on
+verdict s = cond (finished s) (verdict_of (active_network s.opening) s.incumbent) going_on
 
 -- "1 in, 0 out"
 unfoldable pub tour_bytes : List Bool → List ℕ
@@ -170,7 +172,7 @@ unfoldable pub history : List Call → History
 unfolding history_after
 history cs = history_after no_search no_opening cs
 
--- "k legs being free at the start"
+-- "k legs being free at the start": of those that the first node has (document 02, C-20)
 unfoldable pub free_at_start : Opening → ℕ
 unfolding frees marks_of network
-free_at_start o = frees (marks_of (network o.graph))
+free_at_start o = frees (marks_of (active_network o))

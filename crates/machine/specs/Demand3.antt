@@ -1,7 +1,7 @@
 -- WHAT A FINISHED SEARCH SAYS (`Says`, `Shows`), which crate shelf's Demand3 takes up: that is the statement of demand 3, over all seven calls. Here
 -- it is for the five calls alone, for every way in which they can be made (`Interface`): a step on the way, proved by Following of crate search's
--- calls (its Demand3: `calls`). What it speaks of is defined in Tours (a tour), Machine (the machine) and Calls (calls and lists). Nothing is proved
--- here.
+-- calls (its Demand3: `calls`). What it speaks of is defined in Tours and afloat's Over (a tour), Machine (the machine) and Calls (calls and
+-- lists). Nothing is proved here.
 use Rattle.std.specs.Prelude.{◌≡◌, ◌↔◌, Bool, true, false, List, [], ◌∷◌, ℕ, suc, ◌-◌, ◌^◌, ◌≤◌, length, ℤ, ◌≤ℤ◌}
 use Rattle.lists.specs.Bools.{bit}
 use Rattle.lists.specs.Members.{◌∈◌}
@@ -9,8 +9,9 @@ use Rattle.lists.specs.Numbers.{up_to}
 use Rattle.lists.specs.Rows.{row}
 use Rattle.graph.specs.Network.{Network, network}
 use Rattle.tree_theory.specs.OneTree.{Edges, lacks_first}
-use Rattle.tours.specs.Tours.{cost, Feasible}
+use Rattle.tours.specs.Tours.{cost}
 use Rattle.tours.specs.OneNetwork.{SameEdge, OneNetwork}
+use Rattle.afloat.specs.Over.{ashore, FeasibleOver}
 use Rattle.machine.specs.Machine.{Opening, State, no_search, searching, finished}
 use Rattle.machine.specs.Calls.{Call, tell, show, Verdict, going_on, none, best, Answer, accepted, tells, step, leaves}
 use Rattle.machine.specs.Calls.{since, history, free_at_start}
@@ -25,9 +26,10 @@ pub record LeavesFinished (cs : List Call) (o : Opening) : Type 0 where
   pub opened : history cs ≡ since o total
   pub done : Finished (leaves cs)
 
--- "'Such a round' is an allowed round of the chart given at opening, with a cost .. at or below the ceiling given there."
+-- "'Such a round' is an allowed round of the chart given at opening, with a cost .. at or below the ceiling given there." Document 02, C-20: "A round
+-- now visits every buoy that is afloat"; "The verdict and ruling facts are about those rounds"
 abbrev pub Such : Opening → Edges → Type 0
-Such o t = Feasible (network o.graph) o.settings.ceiling t
+Such o t = FeasibleOver (ashore o.ashore) (network o.graph) o.settings.ceiling t
 
 -- document 02, C-23: "With legs numbered alike": each edge stands in both under one number
 abbrev pub NumberedAlike : Network → Network → Type 0
@@ -117,9 +119,10 @@ pub record Demand3 (i : Interface) : Type 0 where
   pub equal : (cs : List Call) → AsTheMachine i cs
   -- "Take two such lists that each leave a finished hunt, both of one sea (its legs in any order) and opened with one ceiling, whatever
   -- dues, sweeps and steps the two have. Tell gives both the same verdict: .."; so whatever denominators (document 02, C-17), and with lifting or
-  -- without (C-13). C-23: "With legs numbered alike, finished hunts now agree on the round as well as its cost."
+  -- without (C-13). C-23: "With legs numbered alike, finished hunts now agree on the round as well as its cost." C-20: "two hunts agree when their
+  -- lists are the same"
   pub agree : (cs ds : List Call) (o p : Opening) → LeavesFinished cs o → LeavesFinished ds p
-      → OneNetwork (network o.graph) (network p.graph) → o.settings.ceiling ≡ p.settings.ceiling
+      → OneNetwork (network o.graph) (network p.graph) → o.ashore ≡ p.ashore → o.settings.ceiling ≡ p.settings.ceiling
       → (v : Verdict) × SaysAfter i cs o v × SaysAfter i ds p v
       × (NumberedAlike (network o.graph) (network p.graph) → ShowAlikeAfter i cs ds)
   -- "A hunt whose accepted run calls allow at least 2^(k+1) − 1 nodes in all, k legs being free at the start and k at most 62, is

@@ -12,14 +12,14 @@ use Rattle.std.proofs.Math.Decide.{dec_le}
 use Rattle.lists.specs.Bools.{by_cases}
 use Rattle.lists.specs.Members.{◌∈◌}
 use Rattle.graph.specs.Limits.{max_count}
-use Rattle.graph.specs.Network.{Network, network}
+use Rattle.graph.specs.Network.{Network}
 use Rattle.tree_theory.specs.OneTree.{Edges}
 use Rattle.tree_theory.specs.Inputs.{multiplier}
 use Rattle.tree_theory.specs.Scaled.{scaled_by}
 use Rattle.integers.specs.Multiples.{◌times◌}
 use Rattle.machine.specs.Outcomes.{closes, finds, splits}
 use Rattle.machine.specs.Machine.{Marks, Node, with_marks, Pass, shut, found, unclosed, pass, gained, Opened, first_free, branch, concluded}
-use Rattle.machine.specs.Machine.{passes, lifts, Opening, Progress, open_node, settled, open_top, begin, ran}
+use Rattle.machine.specs.Machine.{passes, lifts, Opening, active_network, active_multipliers, Progress, opened_on, open_node, settled, open_top, begin, ran}
 use Rattle.machine.specs.Runs.{ran-opens, ran_full}
 
 -- ---- both halves
@@ -51,10 +51,10 @@ module _ (lifting : Bool) (g : Network) (step : ℕ) (upper : ℤ) where
       (λ t y. passes_halves left (gained g step t d) y)
 
 pub siblings : (o : Opening) (upper : ℤ) (x out into : Node) → open_node o upper x ≡ splits out into → out.multipliers ≡ into.multipliers
-unfolding open_node
+unfolding open_node opened_on
 siblings o upper x out into e =
     (subst (Halves (λ d. Unit {0})) e
-    (passes_halves (lifts o.settings) (scaled_by o.settings.denominator (network o.graph)) o.settings.step (o.settings.denominator times upper)
+    (passes_halves (lifts o.settings) (scaled_by o.settings.denominator (active_network o)) o.settings.step (o.settings.denominator times upper)
     o.settings.sweeps x.multipliers x.marks)).1
 
 -- ---- what waits below
@@ -116,12 +116,12 @@ second-branch s x rest out into e budget = stays (out ∷ rest) budget (open_top
 -- no pass follows the first, and every node that waits has the opening's multipliers
 pub record Unmoved (s : Progress) : Type 0 where
   pub sweeps : s.opening.settings.sweeps ≡ 0
-  pub each : (y : Node) → y ∈ s.stack → y.multipliers ≡ s.opening.multipliers
+  pub each : (y : Node) → y ∈ s.stack → y.multipliers ≡ active_multipliers s.opening
 
 pub begin_unmoved : (o : Opening) → o.settings.sweeps ≡ 0 → Unmoved (begin o)
 unfolding begin
 begin_unmoved o e = record { sweeps = e; each = λ y m. only y m }
   where
-    only : (y : Node) → y ∈ (begin o).stack → y.multipliers ≡ o.multipliers
+    only : (y : Node) → y ∈ (begin o).stack → y.multipliers ≡ active_multipliers o
     only y (inl q) = ap (λ (z : Node). z.multipliers) q
     only y (inr q) = absurd q

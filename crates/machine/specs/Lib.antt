@@ -1,6 +1,7 @@
 -- what a reader must believe: definitions and the statement; beside them of tours Tours and OneNetwork (and of Orders elem, distinct, fronts
--- and words), of lifting Lifted, of tree_theory OneTree, Inputs and Enumeration, of graph Limits, Network and Valid, and what these take from the
--- laws: lists' Bools, Members, All, Select, Distinct, Numbers, Rows and Sets, integers' Range and Sums, spanning's Walks
+-- and words), of lifting Lifted, of afloat Over, Reduced (`reduced`) and Lists (`reduced_list`), of thinning Ranks (`rank`, `nth`), of tree_theory
+-- OneTree, Inputs and Enumeration, of graph Limits, Network and Valid, and what these take from the laws: lists' Bools, Members, All, Select,
+-- Distinct, Numbers, Rows and Sets, integers' Range and Sums, spanning's Walks
 pub mod Outcomes
 pub mod Machine
 pub mod Calls
@@ -19,6 +20,7 @@ pub mod Depth
 pub mod Trimmed
 pub mod Runs
 pub mod Kept
+pub mod Active
 pub mod Gained
 pub mod Preserved
 pub mod Refusals

@@ -1,6 +1,6 @@
--- Document 01's 'The hunt', read with C-23, 'The same round for everyone', and C-13, 'Lifted dues for a stubborn leg': the state, the opening of a
--- node with its passes, and the run loop, in their words and order. Trees are those of tree_theory's definitions, which go through all 1-trees, and
--- rulings those of lifting's, which rest on them. Definitions only.
+-- Document 01's 'The hunt', read with C-23, 'The same round for everyone', C-13, 'Lifted dues for a stubborn leg', and C-20, 'Buoys hauled out': the
+-- state, the opening of a node with its passes, and the run loop, in their words and order. Trees are those of tree_theory's definitions, which go
+-- through all 1-trees, and rulings those of lifting's, which rest on them. Definitions only.
 -- (Our words: search for hunt, stack for pile, incumbent for best round, multipliers for dues, upper bound for the present ceiling U,
 -- budget for allowance.)
 use Rattle.std.specs.Prelude.{Bool, true, false, not, cond, ◌&&◌, List, [], ◌∷◌, ℕ, zero, suc, ◌+◌, eqb, leb, ltb}
@@ -20,6 +20,9 @@ use Rattle.tree_theory.specs.Scaled.{scaled_by}
 use Rattle.tree_theory.specs.Enumeration.{Tree, no_tree, a_tree, least_tree, Ruling, keeps, forces, bars, was_required, was_excluded}
 use Rattle.tours.specs.Tours.{degree, cost, is_tour}
 use Rattle.lifting.specs.Lifted.{ruling_with}
+use Rattle.afloat.specs.Over.{ashore}
+use Rattle.afloat.specs.Reduced.{reduced}
+use Rattle.afloat.specs.Lists.{reduced_list}
 use Rattle.machine.specs.declared.Settings.{Settings}
 use Rattle.machine.specs.Outcomes.{Outcome, closes, finds, splits, Incumbent, no_tour, next_stack, next_incumbent, next_upper}
 
@@ -138,14 +141,25 @@ passes lifting g step upper (suc left) d x =
 -- ---- the state
 
 -- "Opening takes a chart, dues, a ceiling, sweeps (0 to 15) and a step (0 to 10,000)."; document 02, C-17: "Opening .. take[s] a denominator q"; C-13:
--- "A yes or no at opening turns lifting on": the last five are the settings
+-- "A yes or no at opening turns lifting on": the last five are the settings. C-20: "Tree, rule, preview and opening take a list of n bytes, 1 for
+-- ashore, 0 for afloat"
 pub record Opening : Type 0 where
   pub graph : Graph
   pub multipliers : List ℤ
+  pub ashore : List ℕ
   pub settings : Settings
 
-abbrev pub opening_of : Graph → List ℤ → Settings → Opening
-opening_of g d t = record { graph = g; multipliers = d; settings = t }
+abbrev pub opening_of : Graph → List ℤ → List ℕ → Settings → Opening
+opening_of g d l t = record { graph = g; multipliers = d; ashore = l; settings = t }
+
+-- document 02, C-20: "rounds and 1-trees are over the afloat buoys, with as many legs as there are afloat"; "A leg touching such a buoy counts as
+-- struck, whatever its mark": the network of the active vertices, in their order, whose edges have the numbers that they have in the graph
+abbrev pub active_network : Opening → Network
+active_network o = reduced (ashore o.ashore) (network o.graph)
+
+-- "the buoy's due counts as 0 and no pass changes it": so a node carries the multipliers of the active vertices alone
+abbrev pub active_multipliers : Opening → List ℤ
+active_multipliers o = reduced_list (ashore o.ashore) o.graph.n o.multipliers
 
 -- document 02, C-13: "A yes or no at opening": 0 says no, and every other number yes
 abbrev pub lifts : Settings → Bool
@@ -171,7 +185,7 @@ trimmed g =
 -- "the arguments of the accepted opening", as the state holds them
 unfoldable pub held : Opening → Opening
 unfolding trimmed tidy
-held o = record { graph = trimmed o.graph; multipliers = o.multipliers; settings = tidy o.settings }
+held o = record { graph = trimmed o.graph; multipliers = o.multipliers; ashore = o.ashore; settings = tidy o.settings }
 
 -- "the arguments of the accepted opening with the present ceiling U, a pile of waiting nodes, the best round or none, and a count of
 -- nodes opened"; the stack's top stands first
@@ -188,14 +202,14 @@ pub data State : Type 0 where
   searching : Progress → State
 
 -- "Opening piles one node, the chart's marks; count 0, no best, U the ceiling." Document 02, C-16: "the first node still has the opening
--- dues"
+-- dues"; C-20: a leg touching a buoy ashore "counts as struck .. and opening piles it so"
 unfoldable pub begin : Opening → Progress
-unfolding marks_of network
+unfolding marks_of network reduced_list
 begin o =
     record {
       opening = o;
       upper = o.settings.ceiling;
-      stack = node_of o.multipliers (marks_of (network o.graph)) ∷ [];
+      stack = node_of (active_multipliers o) (marks_of (active_network o)) ∷ [];
       incumbent = no_tour;
       count = 0;
     }
@@ -233,11 +247,15 @@ better g b f = cond (replaces g f b) f b
 -- "then passes 0 to 'sweeps'", from the node's own multipliers on (document 02, C-16; they were the opening ones). C-17: "The charged cost becomes
 -- q × cost plus the two dues, the bound is scaled likewise, and it is compared with q × ceiling", here with q × U. C-13: lifting, where the opening
 -- says yes, is for every pass: "The machine in document 01 is read with this change."
+unfoldable pub opened_on : Network → Settings → ℤ → Node → Opened
+unfolding passes
+opened_on g s upper x =
+    let q = s.denominator in passes (lifts s) (scaled_by q g) s.step (q times upper) s.sweeps x.multipliers x.marks
+
+-- over the active vertices (C-20)
 unfoldable pub open_node : Opening → ℤ → Node → Opened
-unfolding network passes
-open_node o upper x =
-    let q = o.settings.denominator in
-    passes (lifts o.settings) (scaled_by q (network o.graph)) o.settings.step (q times upper) o.settings.sweeps x.multipliers x.marks
+unfolding network opened_on
+open_node o upper x = opened_on (active_network o) o.settings upper x
 
 -- what the opening of the top node makes of a search; rest are the nodes below it
 unfoldable pub settled : Progress → List Node → Opened → Progress
@@ -245,9 +263,9 @@ unfolding lowered better network
 settled s rest out =
     record {
       opening = s.opening;
-      upper = next_upper (lowered (network s.opening.graph)) s.upper out;
+      upper = next_upper (lowered (active_network s.opening)) s.upper out;
       stack = next_stack rest out;
-      incumbent = next_incumbent (better (network s.opening.graph)) s.incumbent out;
+      incumbent = next_incumbent (better (active_network s.opening)) s.incumbent out;
       count = suc s.count;
     }
 

@@ -5,7 +5,8 @@ use Rattle.std.proofs.Common.{sym, inl, inr, arith}
 use Rattle.lists.specs.Members.{◌∈◌, in_right}
 use Rattle.graph.specs.Limits.{max_sweeps, max_step}
 use Rattle.graph.specs.Valid.{valid}
-use Rattle.tree_theory.specs.Inputs.{multipliers_fit, ceiling_fits, denominator_fits, denominator_fault}
+use Rattle.tree_theory.specs.Inputs.{multipliers_fit, ceiling_fits, denominator_fits, denominator_fault, or_else}
+use Rattle.afloat.specs.Over.{ashore_fits, ashore_fault}
 use Rattle.machine.specs.Outcomes.{Incumbent, no_tour, a_tour}
 use Rattle.machine.specs.Machine.{Opening, Progress, State, no_search, searching, finished}
 use Rattle.machine.specs.Calls.{Call, opens, run, tell, show, close, refused, accepted, Reply, lent_by, refuses, fault, opened_by}
@@ -15,9 +16,9 @@ use Rattle.machine.specs.Calls.{run_by, tour_bytes, shown_by, step}
 abbrev pub unfit : List ℕ
 unfit = 20 ∷ 21 ∷ 22 ∷ 23 ∷ []
 
--- "in this order: 15 .. 11 .. 12 .. 13 .. 14"; document 02, C-17: 32 "after 14"
+-- "in this order: 15 .. 11 .. 12 .. 13 .. 14"; document 02, C-17: 32 "after 14"; C-20: 35 "follows 32"
 abbrev pub faults : List ℕ
-faults = 15 ∷ 11 ∷ 12 ∷ 13 ∷ 14 ∷ 32 ∷ []
+faults = 15 ∷ 11 ∷ 12 ∷ 13 ∷ 14 ∷ 32 ∷ 35 ∷ []
 
 pub record Refusal (s : State) (c : Call) (r : Reply) (number place : ℕ) : Type 0 where
   pub state : r.state ≡ s
@@ -38,16 +39,44 @@ number_in : (t : Bool) (number rest : ℕ) (l : List ℕ) → ((k : ℕ) → res
 number_in true number rest l f k e = inl (sym e)
 number_in false number rest l f k e = inr (f k e)
 
+-- those of the denominator and of the list
+last_known : (o : Opening) (k : ℕ)
+    → or_else (denominator_fault o.settings.denominator) (ashore_fault o.ashore o.graph.n) ≡ suc k → suc k ∈ (32 ∷ 35 ∷ [])
+unfolding denominator_fault ashore_fault
+last_known o = go (denominator_fits o.settings.denominator) (ashore_fits o.ashore o.graph.n)
+  where
+    go : (d a : Bool) (k : ℕ) → or_else (cond (not d) 32 0) (cond (not a) 35 0) ≡ suc k → suc k ∈ (32 ∷ 35 ∷ [])
+    go false a k e = inl (sym e)
+    go true false k e = inr (inl (sym e))
+    go true true k e = absurd (let z : 0 ≡ suc k = e in omega arith)
+
 fault_known : (o : Opening) (k : ℕ) → fault o ≡ suc k → suc k ∈ faults
-unfolding fault denominator_fault
+unfolding fault
 fault_known o =
-    number_in (not (valid o.graph)) 15 _ (11 ∷ 12 ∷ 13 ∷ 14 ∷ 32 ∷ [])
-    (number_in (not (eqb (length o.multipliers) o.graph.n)) 11 _ (12 ∷ 13 ∷ 14 ∷ 32 ∷ [])
-    (number_in (not (multipliers_fit o.multipliers)) 12 _ (13 ∷ 14 ∷ 32 ∷ [])
-    (number_in (not (ceiling_fits o.settings.ceiling)) 13 _ (14 ∷ 32 ∷ [])
-    (number_in (not (leb o.settings.sweeps max_sweeps && leb o.settings.step max_step)) 14 _ (32 ∷ [])
-    (number_in (not (denominator_fits o.settings.denominator)) 32 0 []
-    (λ k e. absurd (let z : 0 ≡ suc k = e in omega arith)))))))
+    number_in (not (valid o.graph)) 15 _ (11 ∷ 12 ∷ 13 ∷ 14 ∷ 32 ∷ 35 ∷ [])
+    (number_in (not (eqb (length o.multipliers) o.graph.n && eqb (length o.ashore) o.graph.n)) 11 _ (12 ∷ 13 ∷ 14 ∷ 32 ∷ 35 ∷ [])
+    (number_in (not (multipliers_fit o.multipliers)) 12 _ (13 ∷ 14 ∷ 32 ∷ 35 ∷ [])
+    (number_in (not (ceiling_fits o.settings.ceiling)) 13 _ (14 ∷ 32 ∷ 35 ∷ [])
+    (number_in (not (leb o.settings.sweeps max_sweeps && leb o.settings.step max_step)) 14 _ (32 ∷ 35 ∷ [])
+    (last_known o)))))
+
+-- a test before it does not give 35
+past : (t : Bool) (number rest : ℕ) → ¬ (number ≡ 35) → cond t number rest ≡ 35 → rest ≡ 35
+past true number rest n e = absurd (n e)
+past false number rest n e = e
+
+-- 35 "FOLLOWS 32": it is given only where the denominator is in range
+pub ashore_last : (o : Opening) → fault o ≡ 35 → denominator_fits o.settings.denominator ≡ true
+unfolding fault denominator_fault
+ashore_last o e =
+    let e14 =
+    past _ 13 _ (λ h. omega (arith, h)) (past _ 12 _ (λ h. omega (arith, h)) (past _ 11 _ (λ h. omega (arith, h)) (past _ 15 _ (λ h. omega (arith, h)) e)))
+    in
+    go (denominator_fits o.settings.denominator) (past _ 14 _ (λ h. omega (arith, h)) e14)
+  where
+    go : (d : Bool) → or_else (cond (not d) 32 0) (ashore_fault o.ashore o.graph.n) ≡ 35 → d ≡ true
+    go true h = refl
+    go false h = absurd (omega (arith, h))
 
 open_refused : (o : Opening) (k : ℕ) → fault o ≡ k → (number place : ℕ) → (opened_by o k).answer ≡ refused number place
     → Refusal no_search (opens o) (opened_by o k) number place

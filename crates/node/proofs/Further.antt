@@ -21,7 +21,7 @@ use Rattle.graph.specs.Network.{place}
 use Rattle.graph.specs.Places.{place_at, place_zero}
 use Rattle.tree_theory.specs.OneTree.{Edges}
 use Rattle.mark_rows.specs.MarkRows.{marks_in_rows}
-use Rattle.compaction.specs.Ranks.{rank, nth, rank_yes, rank_no, rank_most, rank_less, nth_past}
+use Rattle.thinning.specs.Ranks.{rank, nth, rank_yes, rank_no, rank_most, rank_less, nth_past}
 use Rattle.node.specs.Marks.{with_bytes, bytes_of}
 use Rattle.node.specs.Opened.{kept, left_of, left}
 use Rattle.node.specs.Compacting.{old, old-rank, old-nth}

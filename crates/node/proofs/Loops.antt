@@ -5,7 +5,7 @@ use Rattle.std.proofs.Common.{sym, ◌∙◌, ap, subst, arith}
 use Rattle.std.specs.Int.Bits.{bit_and, bit_or}
 use Rattle.graph.specs.declared.Graph.{Graph}
 use Rattle.mark_rows.specs.MarkRows.{marks_in_rows}
-use Rattle.compaction.specs.Ranks.{rank}
+use Rattle.thinning.specs.Ranks.{rank}
 use Rattle.node.specs.Marks.{bytes_of}
 use Rattle.node.specs.Compacting.{gathered, left_to, gathered_skip}
 use Rattle.node.specs.Expanding.{ExpandedTo, expanded_skip}

@@ -22,7 +22,7 @@ use Rattle.machine.specs.Outcomes.{closes}
 use Rattle.tours.specs.Tours as T
 use Rattle.machine.specs.Machine as M
 use Rattle.machine.specs.Machine.{Marks, with_marks, Pass, shut, found, unclosed, pass, gained, branch, concluded, passes}
-use Rattle.machine.specs.Calls.{fault}
+use Rattle.node.specs.Given.{fault}
 use Rattle.machine.specs.Kept.{FitFor}
 use Rattle.machine.specs.Gained.{gained_fits}
 use Rattle.node.specs.Gains.{GainsTo, gains_is}

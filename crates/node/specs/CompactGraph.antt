@@ -1,4 +1,4 @@
--- The graph of the edges that are left: it is valid where the whole graph is, its network is the thin network of crate compaction, and so
+-- The graph of the edges that are left: it is valid where the whole graph is, its network is the thin network of crate thinning, and so
 -- what the passes of a node come to on it, spread out to all edges, is what they come to.
 use Rattle.std.specs.Prelude.{◌≡◌, Bool, List, ℕ, zero, suc, ◌≤◌, ◌<◌, get_or, ℤ, pos}
 use Rattle.std.proofs.Math.Path.{refl, sym, ap}
@@ -16,8 +16,8 @@ use Rattle.graph.specs.Valid.{Valid}
 use Rattle.tree_theory.specs.OneTree.{Edges}
 use Rattle.tree_theory.specs.Scaled.{scaled_by}
 use Rattle.machine.specs.Machine.{Marks, passes}
-use Rattle.compaction.specs.Ranks.{rank, nth, rank_yes, rank_most, rank_mono, rank_less, nth-rank, nth_zero, nth_past}
-use Rattle.compaction.specs.Thinned.{thin}
+use Rattle.thinning.specs.Ranks.{rank, nth, rank_yes, rank_most, rank_mono, rank_less, nth-rank, nth_zero, nth_past}
+use Rattle.thinning.specs.Thinned.{thin}
 use Rattle.compaction.specs.Spread.{spread_marks, spread_opened, spread_is}
 use Rattle.compaction.specs.Passes.{passes-thin}
 use Rattle.node.specs.Marks.{marks_in, marks-size, marks-at, Padded}

@@ -10,7 +10,7 @@ use Rattle.graph.specs.Limits.{max_edges}
 use Rattle.graph.specs.Network.{place}
 use Rattle.graph.specs.Places.{place_at, place_zero}
 use Rattle.tree_theory.specs.OneTree.{Edges}
-use Rattle.compaction.specs.Ranks.{rank, nth, Kept, rank_yes, rank_most, rank-nth, nth-rank, nth_past, nth_other}
+use Rattle.thinning.specs.Ranks.{rank, nth, Kept, rank_yes, rank_most, rank-nth, nth-rank, nth_past, nth_other}
 use Rattle.node.specs.Opened.{kept, left_of}
 
 -- the kept edge that has a new place

@@ -11,7 +11,7 @@ use Rattle.lists.specs.Filling.{Filling, filling_more, filling_is}
 use Rattle.graph.specs.Limits.{max_edges}
 use Rattle.graph.specs.Network.{free, excluded}
 use Rattle.machine.specs.Machine.{Marks}
-use Rattle.compaction.specs.Ranks.{rank, rank_most}
+use Rattle.thinning.specs.Ranks.{rank, rank_most}
 use Rattle.compaction.specs.Spread.{spread_marks, spread_tour, spread-size, spread-kept, spread_rest}
 use Rattle.node.specs.Marks.{byte_of, bytes_of_tour, bytes_of, bytes-at}
 use Rattle.node.specs.Opened.{kept}

@@ -10,10 +10,9 @@ use Rattle.graph.specs.Meaning.{valid_true, true_valid, not_valid}
 use Rattle.tree_theory.specs.Inputs.{or_else, input_fault, multipliers_fit, ceiling_fits, denominator_fits, denominator_fault}
 use Rattle.onetree.specs.Answers.{rule_fault}
 use Rattle.tree_theory.specs.Accepted.{passed}
-use Rattle.machine.specs.Machine.{Opening}
-use Rattle.machine.specs.Calls.{fault}
+use Rattle.node.specs.Given.{Given, fault}
 
-module _ (o : Opening) where
+module _ (o : Given) where
   pub fault_15 : valid o.graph ≡ false → fault o ≡ 15
   unfolding fault
   fault_15 h = rw h
@@ -69,7 +68,7 @@ module _ (o : Opening) where
 
 -- ---- no fault
 
-pub record Fit (o : Opening) : Type 0 where
+pub record Fit (o : Given) : Type 0 where
   pub valid : Valid o.graph
   pub long : length o.multipliers ≡ o.graph.n
   pub multipliers : multipliers_fit o.multipliers ≡ true
@@ -78,7 +77,7 @@ pub record Fit (o : Opening) : Type 0 where
   pub step : o.settings.step ≤ max_step
   pub denominator : denominator_fault o.settings.denominator ≡ 0
 
-pub fault-fit : (o : Opening) → fault o ≡ 0 → Fit o
+pub fault-fit : (o : Given) → fault o ≡ 0 → Fit o
 unfolding fault
 fault-fit o h =
     let p = passed (valid o.graph) 15 _ (omega arith) h in
@@ -97,7 +96,7 @@ fault-fit o h =
       denominator = t.1;
     }
 
-pub fit-fault : (o : Opening) → Fit o → fault o ≡ 0
+pub fit-fault : (o : Given) → Fit o → fault o ≡ 0
 fit-fault o f =
     fault-left o (true_valid o.graph f.valid) f.long f.multipliers f.ceiling f.sweeps f.step ∙ f.denominator
 
@@ -110,7 +109,7 @@ settings_fault sweeps step = cond (not (leb sweeps max_sweeps && leb step max_st
 abbrev pub lastly : ℕ → ℕ → ℕ → ℕ
 lastly number sweeps step = cond (eqb number 32) (or_else (settings_fault sweeps step) 32) (or_else number (settings_fault sweeps step))
 
-pub fault_rule : (o : Opening) → fault o
+pub fault_rule : (o : Given) → fault o
     ≡ lastly (rule_fault o.graph o.multipliers o.settings.ceiling o.settings.denominator o.graph.m) o.settings.sweeps
     o.settings.step
 unfolding fault rule_fault input_fault denominator_fault

@@ -1,5 +1,6 @@
--- What a reader must believe: the bytes of a node, and what its opening comes to for every input
+-- What a reader must believe: the bytes of a node, what it is opened with, and what its opening comes to for every input
 pub mod Marks
+pub mod Given
 pub mod Opened
 -- What follows is proved, or says what code knows.
 -- what is refused
@@ -21,3 +22,5 @@ pub mod Expanding
 pub mod CompactGraph
 -- the node: what is promised, and that it is the machine's
 pub mod Opens
+-- a list in an array's places
+pub mod Padding

@@ -31,9 +31,9 @@ use Rattle.tree_theory.specs.LeastTree.{Right, tree_right}
 use Rattle.onetree.specs.Answers.{ruling_byte}
 use Rattle.tours.specs.Tours.{degree, is_tour}
 use Rattle.tours.specs.Tours as T
-use Rattle.machine.specs.Calls.{fault}
+use Rattle.node.specs.Given.{Given, fault}
 use Rattle.lifting.specs.Lifted.{ruling_with}
-use Rattle.machine.specs.Machine.{Marks, Opening, lifts, applied, mark_by, shut, found, unclosed, pass_by, pass}
+use Rattle.machine.specs.Machine.{Marks, lifts, applied, mark_by, shut, found, unclosed, pass_by, pass}
 use Rattle.machine.specs.NodeTours.{applied-length}
 use Rattle.tours.specs.Degrees.{degree_agree}
 use Rattle.tours.specs.DegreeTest.{test_yes, test_no}
@@ -67,11 +67,11 @@ pub record RuledAs (lifting : Bool) (den : ℕ) (g : Graph) (d : List ℤ) (uppe
   pub degree : (v : ℕ) → 1 ≤ v → v ≤ g.n → get_or degrees v 0 ≡ T.degree (network g) tree v
 
 -- the upper bound in units of the multipliers
-abbrev pub top_of : Opening → ℤ
+abbrev pub top_of : Given → ℤ
 top_of o = o.settings.denominator times o.settings.ceiling
 
 -- refused with its fault, or without one what the machine's pass is
-abbrev pub VerdictIs : Opening → Result Verdict Refusal → List ℕ → Type 0
+abbrev pub VerdictIs : Given → Result Verdict Refusal → List ℕ → Type 0
 VerdictIs o (Err r) w = (fault o ≡ number r) × (w ≡ o.graph.mark)
 VerdictIs o (Ok verdict.Shut) w =
     (fault o ≡ 0) × (pass (lifts o.settings) (scaled_by o.settings.denominator (network o.graph)) (multiplier o.multipliers) (top_of o) ≡ shut)

@@ -4,7 +4,7 @@
 --   Opened, opened_as   what the machine's opening of a node comes to, in words and bytes
 --   places             a list of multipliers in an array's places
 --   kept, left         the edges that a graph's marks do not exclude, and the graph of those alone
---   marked, taken      a graph with a node's marks; what a node is opened with, as the arguments of an opening
+--   marked, taken      a graph with a node's marks; what a node is opened with
 --   node_fault, opens   what is refused; what is answered and left
 use Rattle.std.specs.Prelude.{not, cond, List, ℕ, zero, suc, eqb, leb, ℤ, pos, replicate, Result, Ok, Err}
 use Rattle.lists.specs.Fill.{fill, fit}
@@ -12,16 +12,16 @@ use Rattle.graph.specs.declared.Graph.{Graph}
 use Rattle.graph.specs.declared.refusals.Refusal.{Refusal}
 use Rattle.graph.specs.Refusals.{number}
 use Rattle.graph.specs.Limits.{max_vertices, max_edges}
-use Rattle.graph.specs.Network.{place}
+use Rattle.graph.specs.Network.{place, network}
 use Rattle.tree_theory.specs.OneTree.{Edges}
 use Rattle.tree_theory.specs.Arrays.{entry}
 use Rattle.machine.specs.declared.Settings.{Settings}
 use Rattle.machine.specs.Outcomes.{closes, finds, splits}
 use Rattle.machine.specs.Machine as M
-use Rattle.machine.specs.Machine.{node_of, Opening, open_node}
-use Rattle.machine.specs.Calls.{fault}
+use Rattle.machine.specs.Machine.{node_of, opened_on}
+use Rattle.node.specs.Given.{Given, fault}
 use Rattle.mark_rows.specs.MarkRows.{node_words, rows_of, marks_in_rows}
-use Rattle.compaction.specs.Ranks.{rank, nth}
+use Rattle.thinning.specs.Ranks.{rank, nth}
 use Rattle.node.specs.declared.Fate.{Fate}
 use Rattle.node.specs.declared.Fate.TheVariants as fate
 use Rattle.node.specs.declared.Workspace.{Workspace}
@@ -101,9 +101,8 @@ left g =
 abbrev pub marked : Graph → List ℕ → Graph
 marked g rows = with_bytes g (bytes_of (marks_in_rows g.m rows))
 
--- a node is opened with what a search is opened with: the graph has the node's marks, the ceiling is the upper bound, and the multipliers
--- are the first n
-abbrev pub taken : Graph → List ℤ → Settings → Opening
+-- what a node is opened with: the multipliers are the first n
+abbrev pub taken : Graph → List ℤ → Settings → Given
 taken g d settings =
     record {
       graph = g;
@@ -111,11 +110,11 @@ taken g d settings =
       settings = settings;
     }
 
-abbrev pub left_in : Opening → Opening
+abbrev pub left_in : Given → Given
 left_in o = record { graph = left o.graph; multipliers = o.multipliers; settings = o.settings }
 
--- what is refused, and by which number, is what an opening refuses; but an excluded edge counts for nothing
-unfoldable pub node_fault : Opening → ℕ
+-- what is refused, and by which number; but an excluded edge counts for nothing
+unfoldable pub node_fault : Given → ℕ
 unfolding fault
 node_fault o = cond (leb o.graph.m max_edges) (fault (left_in o)) 15
 
@@ -125,12 +124,12 @@ unless_refused zero node out = out
 unless_refused (suc k) node out = refuses (suc k) node
 
 -- by the number of a fault
-unfoldable pub opens_by : ℕ → Opening → Workspace → Opened
-unfolding opened_as open_node marks_in
+unfoldable pub opens_by : ℕ → Given → Workspace → Opened
+unfolding opened_as opened_on marks_in
 opens_by k o node =
     unless_refused k node
-    (opened_as (open_node o o.settings.ceiling (node_of o.multipliers (marks_in o.graph.m o.graph.mark))))
+    (opened_as (opened_on (network o.graph) o.settings o.settings.ceiling (node_of o.multipliers (marks_in o.graph.m o.graph.mark))))
 
-unfoldable pub opens : Opening → Workspace → Opened
+unfoldable pub opens : Given → Workspace → Opened
 unfolding opens_by node_fault
 opens o node = opens_by (node_fault o) o node

@@ -6,6 +6,7 @@ use Rattle.std.proofs.Math.Path.{ap}
 use Rattle.std.proofs.Math.Bool.{cond}
 use Rattle.std.proofs.Math.Decide.{dec_le}
 use Rattle.std.proofs.lemmas.Bool.{lt-leb}
+use Rattle.graph.specs.declared.Graph.{Graph}
 use Rattle.graph.specs.Limits.{max_edges}
 use Rattle.graph.specs.Network.{network}
 use Rattle.graph.specs.Valid.{Valid}
@@ -13,15 +14,15 @@ use Rattle.graph.specs.Meaning.{not_valid}
 use Rattle.tree_theory.specs.Scaled.{scaled_by}
 use Rattle.machine.specs.Outcomes.{closes, finds}
 use Rattle.machine.specs.Machine as M
-use Rattle.machine.specs.Machine.{Marks, Opening, lifts, branch, passes}
-use Rattle.machine.specs.Calls.{fault}
+use Rattle.machine.specs.Machine.{Marks, node_of, lifts, branch, passes, opened_on}
+use Rattle.node.specs.Given.{Given, fault}
 use Rattle.mark_rows.specs.MarkRows.{rows_of, marks_in_rows}
 use Rattle.mark_rows.specs.SixWords.{marks-length}
 use Rattle.mark_rows.proofs.SixWords.{rows_back}
 use Rattle.compaction.specs.Spread.{spread_marks, spread_tour, spread_opened, spread-size, branch-spread}
 use Rattle.node.specs.declared.Fate.TheVariants as fate
 use Rattle.node.specs.declared.Workspace.{Workspace}
-use Rattle.node.specs.Marks.{with_bytes, marks_in, bytes_of, bytes_of_tour, bytes_back}
+use Rattle.node.specs.Marks.{marks_in, bytes_of, bytes_of_tour, bytes_back}
 use Rattle.node.specs.Opened.{refuses, comes_to, opened_as, marked, no_rows, no_multipliers, kept, left, left_in, node_fault, opens_by, opens}
 use Rattle.node.specs.Faults.{Fit, fault_15, fit-fault}
 use Rattle.node.specs.OnePass.{top_of}
@@ -31,7 +32,7 @@ use Rattle.node.specs.CompactGraph.{left_few, left-valid, left-passes}
 
 -- ---- by what it comes to on the edges that are left
 
-module _ (o : Opening) (node : Workspace) where
+module _ (o : Given) (node : Workspace) where
   -- there are too many edges, or those that are left make no valid graph
   pub opens_15 : (o.graph.m ≤ max_edges → Valid (left o.graph) → ⊥) → refuses 15 node ≡ opens o node
   unfolding opens node_fault
@@ -92,31 +93,29 @@ module _ (o : Opening) (node : Workspace) where
 pub canonical : (m : ℕ) (y : Marks) (l : List ℕ) → m ≤ max_edges → length y ≡ m → l ≡ rows_of y → l ≡ rows_of (marks_in_rows m l)
 canonical m y l few long e = e ∙ ap rows_of (sym (ap (marks_in_rows m) e ∙ rows_back m y few long))
 
--- A NODE OF A SEARCH, on the graph of its opening: nothing is refused, whatever marks that graph had, and whatever six words the node's are
-pub opens_node : (o : Opening) → Fit o → (x : List ℕ) (node : Workspace)
-    → opens (record { graph = marked o.graph x; multipliers = o.multipliers; settings = o.settings }) node
-    ≡ opened_as (passes (lifts o.settings) (scaled_by o.settings.denominator (network o.graph)) o.settings.step (top_of o) o.settings.sweeps
-    o.multipliers (marks_in_rows o.graph.m x))
-opens_node o f x node =
-    sym (opens-valid given node f.valid.few (fit-fault (left_in given) (record {
-      valid = left-valid given.graph (valid-bytes o.graph y f.valid);
-      long = f.long;
-      multipliers = f.multipliers;
-      ceiling = f.ceiling;
-      sweeps = f.sweeps;
-      step = f.step;
-      denominator = f.denominator;
-    })))
+-- what a node with these words is opened with
+abbrev pub with_rows : Given → List ℕ → Given
+with_rows o x = record { graph = marked o.graph x; multipliers = o.multipliers; settings = o.settings }
+
+-- a valid graph has a valid one of the edges that are left, whatever six words the node's are
+pub marked-valid : (g : Graph) → Valid g → (x : List ℕ) → Valid (left (marked g x))
+marked-valid g v x = left-valid (marked g x) (valid-bytes g (marks_in_rows g.m x) v)
+
+-- A NODE OF A SEARCH, whatever marks the graph had: nothing is refused where the edges that are left make a valid graph. The graph itself need not be
+-- valid: that of the active vertices has edges between vertices 1 and 2 for those that touch an inactive one, which each node excludes
+pub opens_node : (o : Given) (x : List ℕ) → o.graph.m ≤ max_edges → Fit (left_in (with_rows o x)) → (node : Workspace)
+    → opens (with_rows o x) node
+    ≡ opened_as (opened_on (network o.graph) o.settings o.settings.ceiling (node_of o.multipliers (marks_in_rows o.graph.m x)))
+unfolding opened_on
+opens_node o x few f node =
+    sym (opens-valid (with_rows o x) node few (fit-fault (left_in (with_rows o x)) f))
     ∙ ap opened_as (passes_from_lem (lifts o.settings) o.settings.denominator o.graph (bytes_of y) o.multipliers o.settings.step (top_of o) o.settings.sweeps
-    f.valid.few (sym (ap bytes_of back))
+    few (sym (ap bytes_of back))
     ∙ ap (λ (z : Marks).
     passes (lifts o.settings) (scaled_by o.settings.denominator (network o.graph)) o.settings.step (top_of o) o.settings.sweeps o.multipliers z) back)
   where
     y : Marks
     y = marks_in_rows o.graph.m x
 
-    given : Opening
-    given = record { graph = with_bytes o.graph (bytes_of y); multipliers = o.multipliers; settings = o.settings }
-
     back : marks_in o.graph.m (bytes_of y) ≡ y
-    back = bytes_back o.graph.m y f.valid.few (marks-length o.graph.m x)
+    back = bytes_back o.graph.m y few (marks-length o.graph.m x)

@@ -26,8 +26,8 @@ use Rattle.tree_theory.specs.Enumeration.{Tree, no_tree, a_tree, least_tree}
 use Rattle.greedy.specs.declared.Found.{Found}
 use Rattle.onetree.specs.Answers.{HintAfter, Reply, refused, none, bounded, pass_meaning, rule_fault, unless_fault, rule_says, rule_reply, ruling_byte, padded, pass_tree, pass_rulings}
 use Rattle.lifting.specs.Lifted.{ruling_with}
-use Rattle.machine.specs.Machine.{Opening, lifts, shut, pass}
-use Rattle.machine.specs.Calls.{fault}
+use Rattle.machine.specs.Machine.{lifts, shut, pass}
+use Rattle.node.specs.Given.{Given, fault}
 use Rattle.node.specs.Marks.{bytes_of_tour}
 use Rattle.node.specs.Faults.{settings_fault, lastly, fault_rule, fault-fit}
 use Rattle.node.specs.OnePass.{top_of, tree_bytes, pass_none, pass-above}
@@ -48,7 +48,7 @@ says_no_number n p upper (a_tree b t) h = go (lt_z upper b) h
     go false h = let z : ◌≡◌ {A = ℕ} 0 1 = cc in omega arith
 
 -- it is the fault of the opening
-pub refusal-fault : (o : Opening) (a : Result (Option Found) Refusal)
+pub refusal-fault : (o : Given) (a : Result (Option Found) Refusal)
     → pass_meaning a ≡ rule_reply o.graph o.multipliers o.settings.ceiling o.settings.denominator o.graph.m
     → fault o ≡ refusal a o.settings.sweeps o.settings.step
 unfolding rule_reply
@@ -157,7 +157,7 @@ module _ (den : ℕ) (g : Graph) (d : List ℤ) (upper : ℤ) (valid : value.Val
 -- ---- what the code is told
 
 -- the least 1-tree is within the upper bound; its bytes, those of its rulings, and how long a hint is
-pub record LeastIs (o : Opening) (found : Found) (tree rulings : List ℕ) : Type 0 where
+pub record LeastIs (o : Given) (found : Found) (tree rulings : List ℕ) : Type 0 where
   pub none : fault o ≡ 0
   pub within : Within o.settings.denominator o.graph o.multipliers (top_of o) found.bound
   pub bytes : tree ≡ tree_bytes o.graph.m within.tree
@@ -167,13 +167,13 @@ pub record LeastIs (o : Opening) (found : Found) (tree rulings : List ℕ) : Typ
   pub few : found.live ≤ max_edges
 
 -- refused with its fault, or without one the least 1-tree, where it is within the upper bound
-abbrev pub TreeIs : Opening → Result (Option Found) Refusal → List ℕ → List ℕ → Type 0
+abbrev pub TreeIs : Given → Result (Option Found) Refusal → List ℕ → List ℕ → Type 0
 TreeIs o (Err r) tree rulings = fault o ≡ number r
 TreeIs o (Ok None) tree rulings =
     (fault o ≡ 0) × (pass (lifts o.settings) (scaled_by o.settings.denominator (network o.graph)) (multiplier o.multipliers) (top_of o) ≡ shut)
 TreeIs o (Ok (Some found)) tree rulings = LeastIs o found tree rulings
 
-module _ (o : Opening) (none : fault o ≡ 0) (tree rulings tree_before rulings_before : List ℕ) where
+module _ (o : Given) (none : fault o ≡ 0) (tree rulings tree_before rulings_before : List ℕ) where
   abbrev replied : Reply
   replied = rule_reply o.graph o.multipliers o.settings.ceiling o.settings.denominator o.graph.m
 

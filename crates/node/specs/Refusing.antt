@@ -13,8 +13,8 @@ use Rattle.tree_theory.specs.Scaled.{scaled_by}
 use Rattle.machine.specs.declared.Settings.{Settings}
 use Rattle.machine.specs.Outcomes.{closes, finds, splits}
 use Rattle.machine.specs.Machine as M
-use Rattle.machine.specs.Machine.{Opening, lifts, open_node, passes}
-use Rattle.machine.specs.Calls.{fault}
+use Rattle.machine.specs.Machine.{lifts, opened_on, passes}
+use Rattle.node.specs.Given.{Given, fault}
 use Rattle.node.specs.declared.Workspace.{Workspace}
 use Rattle.node.specs.declared.passes.Ending.{Ending}
 use Rattle.node.specs.declared.passes.Ending.TheVariants as ending
@@ -25,7 +25,7 @@ use Rattle.node.specs.OnePass.{top_of}
 use Rattle.node.specs.Passes.{FoundIn, Pending, AtPass, at_first, at-valid}
 
 -- what the node comes to, where it has no fault
-abbrev pub outcome : Opening → M.Opened
+abbrev pub outcome : Given → M.Opened
 outcome o =
     passes (lifts o.settings) (scaled_by o.settings.denominator (network o.graph)) o.settings.step (top_of o) o.settings.sweeps o.multipliers
     (marks_in o.graph.m o.graph.mark)
@@ -37,19 +37,19 @@ never_refused closes k e = cc
 never_refused (finds r) k e = cc
 never_refused (splits x y) k e = cc
 
-module _ (o : Opening) (node : Workspace) where
+module _ (o : Given) (node : Workspace) where
   pub opens-refused : (k : ℕ) → k ≢ 0 → refuses k node ≡ opens_by k o node
   unfolding opens_by
   opens-refused zero n = absurd (n refl)
   opens-refused (suc k) n = refl
 
   pub opens_accepted : (k : ℕ) → k ≡ 0 → opened_as (outcome o) ≡ opens_by k o node
-  unfolding opens_by open_node
+  unfolding opens_by opened_on
   opens_accepted zero e = refl
   opens_accepted (suc k) e = absurd (omega arith)
 
 -- what the passes of a node show by their ending: it is refused with its fault, or has none and comes to what the machine's does
-abbrev pub EndsAs : Opening → Result Ending Refusal → List ℕ → List ℤ → List ℤ → Type 0
+abbrev pub EndsAs : Given → Result Ending Refusal → List ℕ → List ℤ → List ℤ → Type 0
 EndsAs o (Err r) w was last = (fault o ≡ number r) × (last ≡ was)
 EndsAs o (Ok ending.Shut) w was last = (fault o ≡ 0) × (outcome o ≡ closes)
 EndsAs o (Ok ending.Found) w was last = (fault o ≡ 0) × FoundIn (outcome o) w
@@ -58,7 +58,7 @@ EndsAs o (Ok ending.Unclosed) w was last = (fault o ≡ 0) × Pending o.graph.m 
 -- ---- a turn of the loop
 
 module _ (g : Graph) (first : List ℤ) (settings : Settings) where
-  abbrev given : Opening
+  abbrev given : Given
   given = taken g first settings
 
   -- its passes, in a turn of the loop
@@ -70,7 +70,7 @@ module _ (g : Graph) (first : List ℤ) (settings : Settings) where
   AtTurn left x d = ((left ≡ settings.sweeps) × (x ≡ g.mark) × (d ≡ first)) ⊎ ((fault given ≡ 0) × AtPassOf left x d)
 
   -- the opening that a turn's pass is given
-  abbrev pub taken_at : List ℕ → List ℤ → Opening
+  abbrev pub taken_at : List ℕ → List ℤ → Given
   taken_at x d = taken (with_bytes g x) d settings
 
   module _ (padded : Padded g.m g.mark) (left : ℕ) (x : List ℕ) (d : List ℤ) (s : AtTurn left x d) where

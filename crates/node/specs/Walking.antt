@@ -10,7 +10,7 @@ use Rattle.bits.specs.Digits.{bit_of, zero_bit}
 use Rattle.bits.specs.Changes.{clear_le, clear_here, clear_there}
 use Rattle.bits.specs.Words.{trailing_below, trailing_here, trailing_some, lowest_off}
 use Rattle.tree_theory.specs.OneTree.{Edges}
-use Rattle.compaction.specs.Ranks.{rank, rank_yes, rank_no, rank_most}
+use Rattle.thinning.specs.Ranks.{rank, rank_yes, rank_no, rank_most}
 use Rattle.graph.specs.Limits.{max_edges}
 use Rattle.node.specs.declared.rows.SetBits.{SetBits}
 

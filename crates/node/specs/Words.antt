@@ -27,7 +27,7 @@ use Rattle.machine.specs.Branching.{free_is, first_is}
 use Rattle.mark_rows.specs.MarkRows.{row_words, node_words, mark_at, mark_bits, rows_of, marks_in_rows}
 use Rattle.mark_rows.specs.SixWords.{marks-length, mark_bits_lem, rows_is}
 use Rattle.mark_rows.proofs.SixWords.{rows_required, rows_excluded}
-use Rattle.compaction.specs.Ranks.{rank, rank_yes}
+use Rattle.thinning.specs.Ranks.{rank, rank_yes}
 use Rattle.node.specs.declared.Fate.TheVariants as fate
 use Rattle.node.specs.Marks.{with_bytes, byte_of, bytes_of, bytes-at, byte_mark, marks_in, marks-size, marks-at}
 use Rattle.node.specs.Opened.{comes_to, opened_as, places, no_rows, kept}

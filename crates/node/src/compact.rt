@@ -12,7 +12,7 @@ use graph::{Graph, MAX_EDGES};
 impl<'a> Rows<'a> {
     ghost use Rattle.std.specs.Prelude.{◌≡◌, ◌<◌};
     ghost use Rattle.mark_rows.specs.MarkRows.{row_words, marks_in_rows};
-    ghost use Rattle.compaction.specs.Ranks.{rank};
+    ghost use Rattle.thinning.specs.Ranks.{rank};
     ghost use Rattle.node.specs.Marks.{bytes_of};
     ghost use Rattle.node.specs.Compacting.{left_to};
     ghost use Rattle.node.specs.Expanding.{ExpandedTo};

@@ -7,8 +7,7 @@ ghost use Rattle.node.specs.Marks.{marks_in};
 ghost use Rattle.node.specs.Words.{bit_where, with_bit};
 
 use crate::{Fate, NODE_WORDS, ROW_WORDS, WORD_BITS, Workspace};
-use graph::{EXCLUDED, MAX_EDGES, REQUIRED};
-use greedy::Checked;
+use graph::{EXCLUDED, MAX_EDGES, REQUIRED, ValidGraph};
 
 // A bit where the mark has this value, or none.
 fn bit_where(mark: u8, value: u8, bit: u64) -> u64
@@ -60,7 +59,7 @@ pub(crate) struct Rows<'a> {
 
 impl<'a> Rows<'a> {
     ghost use Rattle.std.specs.Prelude.{unwrap_or, IfSome};
-    ghost use Rattle.compaction.specs.Ranks.{rank};
+    ghost use Rattle.thinning.specs.Ranks.{rank};
     ghost use Rattle.node.specs.Walking.{cut, Masked};
     ghost use Rattle.node.specs.Words.{kept_in, full_of, required_byte, new_byte, PackedWord, Packed, FirstFree};
 
@@ -187,10 +186,10 @@ fn exclude(k: usize, rows: &mut [u64; NODE_WORDS])
 // The words of a graph's own marks.
 // Ruled out: an edge in both rows, or past the graph's; a required edge in the row of the excluded ones.
 #[tactic(auto, using(crate::specs::Words::own_rows))]
-pub fn rows_of(checked: &Checked) -> [u64; NODE_WORDS]
-    ensures { result ≡ rows_of (marks_in checked.now.graph.now.m checked.now.graph.now.mark) }
+pub fn rows_of(valid: ValidGraph) -> [u64; NODE_WORDS]
+    ensures { result ≡ rows_of (marks_in valid.entry.graph.now.m valid.entry.graph.now.mark) }
 {
-    let g = checked.graph;
+    let g = valid.graph;
     let rows = Rows {
         words: &[0; NODE_WORDS],
         m: usize::from(g.m),

@@ -1,6 +1,7 @@
--- WHAT THE CALLS ANSWERED BEFORE DOCUMENT 02'S C-13, by the definitions of then: a pass with its own rulings alone (`before_lifting`); and before its C-17
--- too: no denominator, and the network's own costs (`before_denominators`). Kept for two claims: "With q = 1, which the programs use, every answer is
--- the old one", and that so it is without lifting, which "the programs open without" (AtOne.antt). Definitions only.
+-- WHAT THE CALLS ANSWERED BEFORE DOCUMENT 02'S C-20, by the definitions of then: over all vertices (`before_ashore`); before its C-13 too: a pass with its
+-- own rulings alone (`before_lifting`); and before its C-17 too: no denominator, and the network's own costs (`before_denominators`). Kept for three
+-- claims: "With q = 1, which the programs use, every answer is the old one", that so it is without lifting, which "the programs open without", and
+-- that so it is "with none ashore" (AtOne.antt). Definitions only.
 use Rattle.std.specs.Prelude.{true, false, not, cond, ◌&&◌, List, [], ◌∷◌, ℕ, zero, suc, eqb, leb, ltb, length, ℤ}
 use Rattle.std.specs.Int.Signed.{lt_z}
 use Rattle.lists.specs.Rows.{row}
@@ -9,16 +10,16 @@ use Rattle.graph.specs.declared.Graph.{Graph}
 use Rattle.graph.specs.Limits.{max_sweeps, max_step, max_count}
 use Rattle.graph.specs.Network.{Network, network}
 use Rattle.graph.specs.Valid.{valid}
-use Rattle.tree_theory.specs.Inputs.{multiplier, multipliers_fit, ceiling_fits, input_fault}
+use Rattle.tree_theory.specs.Inputs.{multiplier, multipliers_fit, ceiling_fits, denominator_fits, denominator_fault, input_fault}
 use Rattle.tree_theory.specs.Enumeration.{Tree, no_tree, a_tree, least_tree, ruling}
 use Rattle.tree_theory.specs.Scaled.{scaled_by}
 use Rattle.onetree.specs.Answers as tree
 use Rattle.preview.specs.Preview.{remarked, can_be_marked, is_free_edge}
 use Rattle.tours.specs.Tours.{is_tour}
-use Rattle.machine.specs.Machine.{Marks, with_marks, mark_by, Pass, shut, found, unclosed, gained, branch, concluded}
-use Rattle.machine.specs.Machine.{Node, Opened, Opening, Progress, State, no_search, searching, held, begin, settled, finished}
-use Rattle.machine.specs.Calls as machine
-use Rattle.machine.specs.Calls.{Call, opens, run, tell, show, close, accepted, runs, tells, Reply, refuses, accepts, verdict, shown_by}
+use Rattle.machine.specs.Outcomes.{no_tour, next_stack, next_incumbent, next_upper}
+use Rattle.machine.specs.Machine.{Marks, with_marks, marks_of, mark_by, Pass, shut, found, unclosed, gained, branch, concluded}
+use Rattle.machine.specs.Machine.{Node, node_of, Opened, Opening, Progress, State, no_search, searching, held, lowered, better, opened_on, finished}
+use Rattle.machine.specs.Calls.{Call, opens, run, tell, show, close, accepted, runs, tells, Verdict, going_on, verdict_of, Reply, refuses, accepts, shown_by}
 
 -- ---- the tree call, the rule call and the preview
 
@@ -52,11 +53,43 @@ unfoldable pub preview_leaves : Graph → List ℤ → ℕ → ℕ → List ℕ 
 unfolding preview_fault tree_leaves
 preview_leaves g d k mark out = tree.leaves (preview_fault g d k mark (length out)) out (tree_leaves (remarked g k mark) d out)
 
--- ---- the search: when an opening is refused and what the opening of a node comes to, which is all that changed of it
+-- and of a preview before C-20, with a denominator. (The tree call and the rule call of then are onetree's.)
+unfoldable pub unlisted_preview_fault : Graph → List ℤ → ℕ → ℕ → ℕ → ℕ → ℕ
+unlisted_preview_fault g d q k mark len =
+    input_fault g d len (cond (not (denominator_fits q)) 32 (cond (not (can_be_marked g k mark)) 30 (cond (not (is_free_edge g k)) 31 0)))
+
+unfoldable pub unlisted_preview_reply : Graph → List ℤ → ℕ → ℕ → ℕ → ℕ → tree.Reply
+unfolding unlisted_preview_fault
+unlisted_preview_reply g d q k mark len =
+    tree.unless_fault (unlisted_preview_fault g d q k mark len) (tree.tree_reply (remarked g k mark) d q len)
+
+unfoldable pub unlisted_preview_leaves : Graph → List ℤ → ℕ → ℕ → ℕ → List ℕ → List ℕ
+unfolding unlisted_preview_fault
+unlisted_preview_leaves g d q k mark out =
+    tree.leaves (unlisted_preview_fault g d q k mark (length out)) out (tree.tree_leaves (remarked g k mark) d q out)
+
+-- ---- the search: when an opening is refused and what the opening of a node comes to, which is all that changed of it until C-20
 
 pub record Ways : Type 0 where
   pub fault : Opening → ℕ
   pub open_node : Opening → ℤ → Node → Opened
+
+-- before C-20: every vertex was active. An opening's list is held, and nothing else reads it
+unfoldable pub unlisted_fault : Opening → ℕ
+unlisted_fault o =
+    cond (not (valid o.graph)) 15
+    (cond (not (eqb (length o.multipliers) o.graph.n)) 11
+    (cond (not (multipliers_fit o.multipliers)) 12
+    (cond (not (ceiling_fits o.settings.ceiling)) 13
+    (cond (not (leb o.settings.sweeps max_sweeps && leb o.settings.step max_step)) 14
+    (denominator_fault o.settings.denominator)))))
+
+abbrev pub before_ashore : Ways
+before_ashore =
+    record {
+      fault = unlisted_fault;
+      open_node = λ o upper x. opened_on (network o.graph) o.settings upper x;
+    }
 
 -- a pass, its rulings applied, and the passes of a node
 unfoldable pub applied : Network → (ℕ → ℤ) → ℤ → Marks
@@ -85,7 +118,7 @@ passes g step upper (suc left) d x =
 abbrev pub before_lifting : Ways
 before_lifting =
     record {
-      fault = machine.fault;
+      fault = unlisted_fault;
       open_node = λ o upper x.
           let q = o.settings.denominator in
           passes (scaled_by q (network o.graph)) o.settings.step (q times upper) o.settings.sweeps x.multipliers x.marks;
@@ -107,7 +140,30 @@ before_denominators =
       open_node = λ o upper x. passes (network o.graph) o.settings.step upper o.settings.sweeps x.multipliers x.marks;
     }
 
--- ---- and what rests on them, as the machine has it
+-- ---- and what rests on them, as the machine had it: over all vertices
+
+unfoldable pub begin : Opening → Progress
+begin o =
+    record {
+      opening = o;
+      upper = o.settings.ceiling;
+      stack = node_of o.multipliers (marks_of (network o.graph)) ∷ [];
+      incumbent = no_tour;
+      count = 0;
+    }
+
+unfoldable pub settled : Progress → List Node → Opened → Progress
+settled s rest out =
+    record {
+      opening = s.opening;
+      upper = next_upper (lowered (network s.opening.graph)) s.upper out;
+      stack = next_stack rest out;
+      incumbent = next_incumbent (better (network s.opening.graph)) s.incumbent out;
+      count = suc s.count;
+    }
+
+unfoldable pub verdict : Progress → Verdict
+verdict s = cond (finished s) (verdict_of (network s.opening.graph) s.incumbent) going_on
 
 unfoldable pub open_top : Ways → Progress → List Node → Progress
 unfolding settled
@@ -121,6 +177,7 @@ ran w (suc budget) s =
     elim (not (finished s) && ltb s.count max_count) [ true ↦ ran w budget (open_top w s s.stack) | false ↦ s ]
 
 unfoldable pub opened_by : Opening → ℕ → Reply
+unfolding begin
 opened_by o zero = accepts (searching (begin (held o))) accepted
 opened_by o (suc k) = refuses no_search (opens o) (suc k)
 
@@ -129,7 +186,7 @@ unfolding ran
 run_by w budget s = let r : Progress = ran w budget s in accepts (searching r) (runs (finished r) r.count)
 
 unfoldable pub step : Ways → State → Call → Reply
-unfolding opened_by run_by
+unfolding opened_by run_by verdict
 step w no_search (opens o) = opened_by o (w.fault o)
 step w no_search (run budget) = refuses no_search (run budget) 20
 step w no_search tell = refuses no_search tell 20

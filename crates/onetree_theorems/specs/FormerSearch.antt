@@ -1,10 +1,13 @@
--- THE SEARCH WITHOUT LIFTING, or with q = 1 too, answers as it did: where an opening is refused as in former ways, and the opening of a node comes to what
--- it did in them, every list of calls is answered as it was. Assumes nothing.
-use Rattle.std.specs.Prelude.{◌≡◌, refl, Bool, true, false, not, ◌&&◌, List, [], ◌∷◌, ℕ, zero, suc, ltb, ℤ}
+-- THE SEARCH WITH NONE ASHORE, or without lifting too, or with q = 1 too, answers as it did: where an opening is refused as in former ways, the opening
+-- of a node comes to what it did in them, and every vertex is active, every list of calls is answered as it was. Assumes nothing.
+use Rattle.std.specs.Prelude.{◌≡◌, refl, Bool, true, false, not, cond, ◌&&◌, List, [], ◌∷◌, ℕ, zero, suc, ltb, ℤ}
 use Rattle.std.proofs.Common.{sym, ap, ◌∙◌, subst}
 use Rattle.graph.specs.Limits.{max_count}
-use Rattle.machine.specs.Machine.{Node, Opening, Progress, State, no_search, searching, held, begin, settled, open_node, open_top, finished, ran}
-use Rattle.machine.specs.Calls.{Call, opens, run, tell, show, close, Reply, fault, opened_by, run_by, step, state_after, leaves}
+use Rattle.graph.specs.Network.{network}
+use Rattle.machine.specs.Outcomes.{no_tour, next_stack, next_incumbent, next_upper}
+use Rattle.machine.specs.Machine.{Node, node_of, Opened, marks_of, Opening, active_network, active_multipliers, Progress, State, no_search, searching, held}
+use Rattle.machine.specs.Machine.{begin, lowered, better, settled, open_node, open_top, finished, ran}
+use Rattle.machine.specs.Calls.{Call, opens, run, tell, show, close, accepted, tells, Verdict, going_on, verdict_of, verdict, Reply, accepts, fault, opened_by, run_by, step, state_after, leaves}
 use Rattle.machine.specs.Preserved.{show_state}
 use Rattle.machine.specs.Demand3.{Interface, after, Demand3}
 use Rattle.onetree_theorems.specs.Former as former
@@ -27,9 +30,11 @@ abbrev pub OfState : (Opening → Type 0) → State → Type 0
 OfState P no_search = Unit {0}
 OfState P (searching s) = P s.opening
 
--- openings of which P holds are refused and opened as in the ways w
+-- openings of which P holds are over all vertices, and are refused and opened as in the ways w
 pub record SameWays (w : Ways) (P : Opening → Type 0) : Type 0 where
   pub kept : (o : Opening) → P o → P (held o)
+  pub whole : (o : Opening) → P o → active_network o ≡ network o.graph
+  pub listed : (o : Opening) → P o → w.fault o ≡ 0 → active_multipliers (held o) ≡ o.multipliers
   pub refused : (o : Opening) → P o → fault o ≡ w.fault o
   pub opened : (o : Opening) → P o → (upper : ℤ) (x : Node) → open_node o upper x ≡ w.open_node o upper x
 
@@ -40,10 +45,39 @@ pub record AsBefore (w : Ways) (P : Opening → Type 0) (i : Interface) (cs : Li
   pub bytes : after i i.fresh cs ≡ i.made (former.leaves w cs)
 
 module _ (w : Ways) (P : Opening → Type 0) (same : SameWays w P) where
+  begin-same : (o : Opening) → P o → w.fault o ≡ 0 → begin (held o) ≡ former.begin (held o)
+  unfolding begin former.begin held
+  begin-same o p none = λ i.
+      record {
+        opening = held o;
+        upper = o.settings.ceiling;
+        stack = node_of (same.listed o p none i) (marks_of (same.whole (held o) (same.kept o p) i)) ∷ [];
+        incumbent = no_tour;
+        count = 0;
+      }
+
+  settled-same : (s : Progress) → P s.opening → (rest : List Node) (out : Opened) → settled s rest out ≡ former.settled s rest out
+  unfolding settled former.settled
+  settled-same s p rest out = λ i.
+      record {
+        opening = s.opening;
+        upper = next_upper (lowered (same.whole s.opening p i)) s.upper out;
+        stack = next_stack rest out;
+        incumbent = next_incumbent (better (same.whole s.opening p i)) s.incumbent out;
+        count = suc s.count;
+      }
+
+  verdict-same : (s : Progress) → P s.opening → verdict s ≡ former.verdict s
+  unfolding verdict former.verdict
+  verdict-same s p = λ i. cond (finished s) (verdict_of (same.whole s.opening p i) s.incumbent) going_on
+
   top-same : (s : Progress) → P s.opening → (st : List Node) → (open_top s st ≡ former.open_top w s st) × P (former.open_top w s st).opening
-  unfolding open_top former.open_top settled
+  unfolding open_top former.open_top former.settled
   top-same s p [] = (refl, p)
-  top-same s p (x ∷ rest) = (ap (settled s rest) (same.opened s.opening p s.upper x), p)
+  top-same s p (x ∷ rest) = (
+    ap (settled s rest) (same.opened s.opening p s.upper x) ∙ settled-same s p rest (w.open_node s.opening s.upper x),
+    p,
+  )
 
   ran-same : (budget : ℕ) (s : Progress) → P s.opening → (ran budget s ≡ former.ran w budget s) × P (former.ran w budget s).opening
   unfolding ran former.ran
@@ -64,23 +98,23 @@ module _ (w : Ways) (P : Opening → Type 0) (same : SameWays w P) where
   -- one call: its state, its answer and its lent list
   pub call_same : (s : State) → OfState P s → (c : Call) → OfCall P c → step s c ≡ former.step w s c
   unfolding step former.step run_by former.run_by opened_by former.opened_by
-  call_same no_search p (opens o) h = rw (same.refused o h) (alike (w.fault o))
+  call_same no_search p (opens o) h = rw (same.refused o h) (alike (w.fault o) refl)
     where
-      alike : (k : ℕ) → opened_by o k ≡ former.opened_by o k
-      alike zero = refl
-      alike (suc k) = refl
+      alike : (k : ℕ) → w.fault o ≡ k → opened_by o k ≡ former.opened_by o k
+      alike zero e = ap (λ (r : Progress). accepts (searching r) accepted) (begin-same o h e)
+      alike (suc k) e = refl
   call_same no_search p (run budget) h = refl
   call_same no_search p tell h = refl
   call_same no_search p (show l) h = refl
   call_same no_search p close h = refl
   call_same (searching s) p (opens o) h = refl
   call_same (searching s) p (run budget) h = rw (ran-same budget s p).0
-  call_same (searching s) p tell h = refl
+  call_same (searching s) p tell h = ap (λ (v : Verdict). accepts (searching s) (tells v s.count)) (verdict-same s p)
   call_same (searching s) p (show l) h = refl
   call_same (searching s) p close h = refl
 
   pub call_keeps : (s : State) → OfState P s → (c : Call) → OfCall P c → OfState P (former.step w s c).state
-  unfolding former.step former.run_by former.opened_by begin
+  unfolding former.step former.run_by former.opened_by former.begin
   call_keeps no_search p (opens o) h = go (w.fault o)
     where
       go : (k : ℕ) → OfState P (former.opened_by o k).state

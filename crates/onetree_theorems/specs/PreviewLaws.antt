@@ -2,28 +2,37 @@
 -- copy is infeasible exactly when the edge is barred, or forced. (That the rule call tells which: `preview_rules`, proofs/PreviewLaws.) Assumes
 -- nothing.
 use Rattle.std.proofs.Math.Path.{◌≡◌, refl, subst}
-use Rattle.std.proofs.Common.{sym, ap, ◌∙◌, inl, inr, eqb-true, eq-eqb, leb-true, le-leb, get_or-set_same, get_or-set_other}
-use Rattle.std.specs.Prelude.{◌↔◌, ◌⊎◌, Bool, true, false, ◌&&◌, ◌||◌, List, [], ◌∷◌, ℕ, zero, suc, ◌≤◌, ◌<◌, ◌-◌, eqb, leb, length, get_or, set, ℤ}
+use Rattle.std.proofs.Common.{sym, ap, ap₂, ◌∙◌, inl, inr, eqb-true, eq-eqb, leb-true, le-leb, get_or-set_same, get_or-set_other}
+use Rattle.std.specs.Prelude.{◌↔◌, ◌⊎◌, Bool, true, false, not, cond, ◌&&◌, ◌||◌, List, [], ◌∷◌, ℕ, zero, suc, ◌≤◌, ◌<◌, ◌-◌, ◌+◌, eqb, leb, length, get_or, set, ℤ}
 use Rattle.std.proofs.lemmas.Bool.{false≢true, eqb-false}
 use native.Mathlib.Omega.{arith}
+use Rattle.std.proofs.Math.Decide.{dec_le}
+use Rattle.lists.specs.All.{every_of}
 use Rattle.lists.specs.Bools.{Says, by_cases, and_both}
 use Rattle.lists.specs.Members.{◌∈◌}
+use Rattle.lists.specs.Select.{select}
 use Rattle.lists.specs.Numbers.{up_to, up_to_in, in_up_to}
 use Rattle.graph.specs.declared.Graph.{Graph}
 use Rattle.graph.specs.Limits.{max_edges, max_mark}
-use Rattle.graph.specs.Network.{free, required, excluded, mark_of, network}
-use Rattle.graph.specs.Places.{network_mark}
+use Rattle.graph.specs.Network.{Mark, free, required, excluded, mark_of, network}
+use Rattle.graph.specs.Places.{network_mark, place_zero, place_past}
 use Rattle.graph.specs.Valid.{Valid}
 use Rattle.graph.specs.Valid as value
-use Rattle.tree_theory.specs.OneTree.{Edges, OneTree, Infeasible, Barred, Forced, bound, charge, at_one, away, others}
-use Rattle.tree_theory.specs.Inputs.{input_fault, multipliers_fit, denominator_fits}
+use Rattle.spanning.specs.Walks.{label}
+use Rattle.tree_theory.specs.OneTree.{Edges, bound, charge, at_one, away}
+use Rattle.tree_theory.specs.Enumeration.{edge_sets, marked, alike, least_of}
+use Rattle.tree_theory.specs.Inputs.{multipliers_fit, denominator_fits, denominator_fault, or_else}
 use Rattle.tree_theory.specs.Scaled.{scaled_by}
-use Rattle.tree_theory.specs.Scaling.{tree_scaled}
-use Rattle.onetree.specs.Answers.{leaves, tree_reply, tree_leaves}
-use Rattle.preview.specs.Preview.{remarked, can_be_marked, is_free_edge, preview_fault, preview_reply, preview_leaves}
+use Rattle.afloat.specs.Over.{Ashore, ashore_fits, ashore_fault, active_count, others_over, touched, mark_over, multiplier_over}
+use Rattle.afloat.specs.Over.{OneTreeOver, bound_over, InfeasibleOver, BarredOver, ForcedOver}
+use Rattle.afloat.specs.Scaling.{tree_over_scaled}
+use Rattle.afloat.specs.Values.{is_one_tree_over, one_trees_over, tree_over}
+use Rattle.onetree.specs.Answers.{leaves}
+use Rattle.reduction.specs.Answers.{input_fault_over, tree_fault_over, tree_reply_over, tree_leaves_over}
+use Rattle.preview.specs.Preview.{remarked, can_be_marked, is_free_edge, edge_fault, preview_fault, preview_reply, preview_leaves}
 use Rattle.onetree_theorems.specs.Calls.{Asked, First, Fine, tree_asks}
 use Rattle.onetree_theorems.specs.Refusing.{Tests, fault_by, first-fault, fault_none, decides, graphs, lengths_fit, lengths, multipliers}
-use Rattle.onetree_theorems.specs.Refusing.{denominators}
+use Rattle.onetree_theorems.specs.Refusing.{denominators, ashores}
 use Rattle.onetree_theorems.specs.Theorems.{NoRefusal, refuses_exactly, tree_exactly}
 use Rattle.onetree_theorems.specs.Previews.{preview_asks, PreviewExactly}
 
@@ -54,87 +63,106 @@ module _ (g : Graph) (k x : ℕ) (long : length g.mark ≡ max_edges) (valid : V
           ∙ ap mark_of (get_or-set_other g.mark (k - 1) j x 0 (λ e. other (omega (arith, e, least))))
           ∙ sym (network_mark g j (omega (arith, high)))
 
-  -- ---- the 1-trees of the copy
+  module _ (s : Ashore) where
+    -- the mark that counts
+    same_touched : (j : ℕ) → touched s (network (remarked g k x)) j ≡ touched s (network g) j
+    same_touched j = unfold network remarked in refl
 
-  module _ (is_free_lem : (network g).mark k ≡ free) (t : Edges) where
-    -- a 1-tree of the graph that agrees with the new mark is one of the copy
-    of_copy : OneTree (network g) t → (mark_of x ≡ required → t k ≡ true) → (mark_of x ≡ excluded → t k ≡ false)
-        → OneTree (network (remarked g k x)) t
-    unfolding network remarked at_one away others
-    of_copy o in_it out_of_it = record {
-      two = o.two;
-      rest = o.rest;
-      joined = o.joined;
-      keeps = λ j m e. by_edge j (λ s. rw s (in_it (sym mark_there ∙ (subst (λ (i : ℕ). (network (remarked g k x)).mark i ≡ required) s e))))
-          (λ s. o.keeps j m (sym (mark_else j m s) ∙ e));
-      avoids = λ j m e. by_edge j (λ s. rw s (out_of_it (sym mark_there ∙ (subst (λ (i : ℕ). (network (remarked g k x)).mark i ≡ excluded) s e))))
-          (λ s. o.avoids j m (sym (mark_else j m s) ∙ e));
-    }
-      where
-        by_edge : {A : Type 0} (j : ℕ) → ((j ≡ k) → A) → (¬ (j ≡ k) → A) → A
-        by_edge j f h = by_cases (eqb j k) (λ e. f (eqb-true j k e)) (λ e. h (eqb-false j k e))
+    over_there : touched s (network g) k ≡ false → mark_over s (network (remarked g k x)) k ≡ mark_of x
+    over_there e =
+        ap (λ (b : Bool). cond b excluded ((network (remarked g k x)).mark k)) (same_touched k ∙ e) ∙ mark_there
 
-    -- a 1-tree of the copy is one of the graph, and agrees with the new mark
-    of_graph : OneTree (network (remarked g k x)) t → OneTree (network g) t
-    unfolding network remarked at_one away others
-    of_graph o = record {
-      two = o.two;
-      rest = o.rest;
-      joined = o.joined;
-      keeps = λ j m e. o.keeps j m (mark_else j m (λ s. not_required (sym is_free_lem ∙ subst (λ (i : ℕ). (network g).mark i ≡ required) s e)) ∙ e);
-      avoids = λ j m e. o.avoids j m (mark_else j m (λ s. not_excluded (sym is_free_lem ∙ subst (λ (i : ℕ). (network g).mark i ≡ excluded) s e)) ∙ e);
-    }
-      where
-        not_required : free ≡ required → ⊥
-        not_required e = let z : ◌≡◌ {A = ℕ} 0 1 = cc in omega arith
+    over_else : (j : ℕ) → j ∈ up_to g.m → ¬ (j ≡ k) → mark_over s (network (remarked g k x)) j ≡ mark_over s (network g) j
+    over_else j m other = ap₂ (λ (b : Bool) (y : Mark). cond b excluded y) (same_touched j) (mark_else j m other)
 
-        not_excluded : free ≡ excluded → ⊥
-        not_excluded e = let z : ◌≡◌ {A = ℕ} 0 1 = cc in omega arith
+    -- ---- the 1-trees of the copy
 
-    here : k ∈ up_to (network (remarked g k x)).m
-    here = unfold network remarked in up_to_in g.m k least most
+    module _ (is_free_lem : mark_over s (network g) k ≡ free) (t : Edges) where
+      untouched : touched s (network g) k ≡ false
+      untouched = go (touched s (network g) k) is_free_lem
+        where
+          go : (b : Bool) → cond b excluded ((network g).mark k) ≡ free → b ≡ false
+          go true e = absurd (let z : ◌≡◌ {A = ℕ} 0 1 = cc in omega arith)
+          go false e = refl
 
-    has_it : mark_of x ≡ required → OneTree (network (remarked g k x)) t → t k ≡ true
-    has_it e o = o.keeps k here (mark_there ∙ e)
+      -- a 1-tree of the graph that agrees with the new mark is one of the copy
+      of_copy : OneTreeOver s (network g) t → (mark_of x ≡ required → t k ≡ true) → (mark_of x ≡ excluded → t k ≡ false)
+          → OneTreeOver s (network (remarked g k x)) t
+      unfolding network remarked at_one away others_over active_count
+      of_copy o in_it out_of_it = record {
+        two = o.two;
+        rest = o.rest;
+        joined = o.joined;
+        keeps = λ j m e. by_edge j (λ s₀. rw s₀ (in_it (sym (over_there untouched) ∙ (subst (λ (i : ℕ). mark_over s (network (remarked g k x)) i ≡ required) s₀ e))))
+            (λ s₀. o.keeps j m (sym (over_else j m s₀) ∙ e));
+        avoids = λ j m e. by_edge j (λ s₀. rw s₀ (out_of_it (sym (over_there untouched) ∙ (subst (λ (i : ℕ). mark_over s (network (remarked g k x)) i ≡ excluded) s₀ e))))
+            (λ s₀. o.avoids j m (sym (over_else j m s₀) ∙ e));
+      }
+        where
+          by_edge : {A : Type 0} (j : ℕ) → ((j ≡ k) → A) → (¬ (j ≡ k) → A) → A
+          by_edge j f h = by_cases (eqb j k) (λ e. f (eqb-true j k e)) (λ e. h (eqb-false j k e))
 
-    lacks_it : mark_of x ≡ excluded → OneTree (network (remarked g k x)) t → t k ≡ false
-    lacks_it e o = o.avoids k here (mark_there ∙ e)
+      -- a 1-tree of the copy is one of the graph, and agrees with the new mark
+      of_graph : OneTreeOver s (network (remarked g k x)) t → OneTreeOver s (network g) t
+      unfolding network remarked at_one away others_over active_count
+      of_graph o = record {
+        two = o.two;
+        rest = o.rest;
+        joined = o.joined;
+        keeps = λ j m e. o.keeps j m (over_else j m (λ q. not_required (sym is_free_lem ∙ subst (λ (i : ℕ). mark_over s (network g) i ≡ required) q e)) ∙ e);
+        avoids = λ j m e. o.avoids j m (over_else j m (λ q. not_excluded (sym is_free_lem ∙ subst (λ (i : ℕ). mark_over s (network g) i ≡ excluded) q e)) ∙ e);
+      }
+        where
+          not_required : free ≡ required → ⊥
+          not_required e = let z : ◌≡◌ {A = ℕ} 0 1 = cc in omega arith
 
-  same-bound : (den : ℕ) (d : ℕ → ℤ) (t : Edges)
-      → bound (scaled_by den (network (remarked g k x))) d t ≡ bound (scaled_by den (network g)) d t
-  same-bound den d t = unfold network remarked bound charge in refl
+          not_excluded : free ≡ excluded → ⊥
+          not_excluded e = let z : ◌≡◌ {A = ℕ} 0 1 = cc in omega arith
+
+      here : k ∈ up_to (network (remarked g k x)).m
+      here = unfold network remarked in up_to_in g.m k least most
+
+      has_it : mark_of x ≡ required → OneTreeOver s (network (remarked g k x)) t → t k ≡ true
+      has_it e o = o.keeps k here (over_there untouched ∙ e)
+
+      lacks_it : mark_of x ≡ excluded → OneTreeOver s (network (remarked g k x)) t → t k ≡ false
+      lacks_it e o = o.avoids k here (over_there untouched ∙ e)
+
+    same-bound : (den : ℕ) (d : ℕ → ℤ) (t : Edges)
+        → bound_over s (scaled_by den (network (remarked g k x))) d t ≡ bound_over s (scaled_by den (network g)) d t
+    same-bound den d t = unfold network remarked bound_over bound charge in refl
 
 -- ---- the copy is infeasible exactly when the edge is barred, or forced
 
-module _ (g : Graph) (k : ℕ) (long : length g.mark ≡ max_edges) (valid : Valid g) (least : 1 ≤ k) (most : k ≤ g.m)
-    (is_free_lem : (network g).mark k ≡ free) (den : ℕ) (d : ℕ → ℤ) (ceiling : ℤ) where
+module _ (g : Graph) (k : ℕ) (long : length g.mark ≡ max_edges) (valid : Valid g) (least : 1 ≤ k) (most : k ≤ g.m) (s : Ashore)
+    (is_free_lem : mark_over s (network g) k ≡ free) (den : ℕ) (d : ℕ → ℤ) (ceiling : ℤ) where
   -- 1-trees do not go by costs
-  of_scaled : (t : Edges) → OneTree (scaled_by den (network g)) t → OneTree (network g) t
-  of_scaled t o = (tree_scaled den (network g) t).0 o
+  of_scaled : (t : Edges) → OneTreeOver s (scaled_by den (network g)) t → OneTreeOver s (network g) t
+  of_scaled t o = (tree_over_scaled den s (network g) t).0 o
 
-  copy_of_scaled : (x : ℕ) (t : Edges) → OneTree (scaled_by den (network (remarked g k x))) t → OneTree (network (remarked g k x)) t
-  copy_of_scaled x t o = (tree_scaled den (network (remarked g k x)) t).0 o
+  copy_of_scaled : (x : ℕ) (t : Edges) → OneTreeOver s (scaled_by den (network (remarked g k x))) t → OneTreeOver s (network (remarked g k x)) t
+  copy_of_scaled x t o = (tree_over_scaled den s (network (remarked g k x)) t).0 o
 
-  pub required_barred : Infeasible (scaled_by den (network (remarked g k 1))) d ceiling ↔ Barred (scaled_by den (network g)) d ceiling k
-  unfolding Infeasible Barred mark_of
+  pub required_barred : InfeasibleOver s (scaled_by den (network (remarked g k 1))) d ceiling ↔ BarredOver s (scaled_by den (network g)) d ceiling k
+  unfolding InfeasibleOver BarredOver mark_of
   required_barred = (
-    λ i t o e. rw (← same-bound g k 1 long valid least most den d t)
-        (i t ((tree_scaled den (network (remarked g k 1)) t).1
-        (of_copy g k 1 long valid least most is_free_lem t (of_scaled t o) (λ q. e) (λ q. absurd (let z : ◌≡◌ {A = ℕ} 0 1 = cc in omega arith))))),
-    λ b t o. rw (same-bound g k 1 long valid least most den d t)
-        (b t ((tree_scaled den (network g) t).1 (of_graph g k 1 long valid least most is_free_lem t (copy_of_scaled 1 t o)))
-        (has_it g k 1 long valid least most is_free_lem t refl (copy_of_scaled 1 t o))),
+    λ i t o e. rw (← same-bound g k 1 long valid least most s den d t)
+        (i t ((tree_over_scaled den s (network (remarked g k 1)) t).1
+        (of_copy g k 1 long valid least most s is_free_lem t (of_scaled t o) (λ q. e) (λ q. absurd (let z : ◌≡◌ {A = ℕ} 0 1 = cc in omega arith))))),
+    λ b t o. rw (same-bound g k 1 long valid least most s den d t)
+        (b t ((tree_over_scaled den s (network g) t).1 (of_graph g k 1 long valid least most s is_free_lem t (copy_of_scaled 1 t o)))
+        (has_it g k 1 long valid least most s is_free_lem t refl (copy_of_scaled 1 t o))),
   )
 
-  pub excluded_forced : Infeasible (scaled_by den (network (remarked g k 2))) d ceiling ↔ Forced (scaled_by den (network g)) d ceiling k
-  unfolding Infeasible Forced mark_of
+  pub excluded_forced : InfeasibleOver s (scaled_by den (network (remarked g k 2))) d ceiling ↔ ForcedOver s (scaled_by den (network g)) d ceiling k
+  unfolding InfeasibleOver ForcedOver mark_of
   excluded_forced = (
-    λ i t o e. rw (← same-bound g k 2 long valid least most den d t)
-        (i t ((tree_scaled den (network (remarked g k 2)) t).1
-        (of_copy g k 2 long valid least most is_free_lem t (of_scaled t o) (λ q. absurd (let z : ◌≡◌ {A = ℕ} 0 1 = cc in omega arith)) (λ q. e)))),
-    λ f t o. rw (same-bound g k 2 long valid least most den d t)
-        (f t ((tree_scaled den (network g) t).1 (of_graph g k 2 long valid least most is_free_lem t (copy_of_scaled 2 t o)))
-        (lacks_it g k 2 long valid least most is_free_lem t refl (copy_of_scaled 2 t o))),
+    λ i t o e. rw (← same-bound g k 2 long valid least most s den d t)
+        (i t ((tree_over_scaled den s (network (remarked g k 2)) t).1
+        (of_copy g k 2 long valid least most s is_free_lem t (of_scaled t o) (λ q. absurd (let z : ◌≡◌ {A = ℕ} 0 1 = cc in omega arith)) (λ q. e)))),
+    λ f t o. rw (same-bound g k 2 long valid least most s den d t)
+        (f t ((tree_over_scaled den s (network g) t).1 (of_graph g k 2 long valid least most s is_free_lem t (copy_of_scaled 2 t o)))
+        (lacks_it g k 2 long valid least most s is_free_lem t refl (copy_of_scaled 2 t o))),
   )
 
 -- ---- the copy is no worse a chart
@@ -189,15 +217,15 @@ markable g k mark = decides (can_be_marked g k mark) to from
         go (inl e) = rw (eq-eqb mark 1 e)
         go (inr e) = rw (e)
 
-module _ (g : Graph) (d : List ℤ) (den k mark : ℕ) (len : ℕ) where
-  preview_tests : Tests (preview_asks g d den k mark len)
+module _ (g : Graph) (d : List ℤ) (l : List ℕ) (den k mark : ℕ) (len : ℕ) where
+  preview_tests : Tests (preview_asks g d l den k mark len)
   preview_tests = (
     value.valid g,
     graphs g,
     omega arith,
     (
-      lengths_fit g d len,
-      lengths g d len,
+      lengths_fit g d l len,
+      lengths g d l len,
       omega arith,
       (
         multipliers_fit d,
@@ -208,62 +236,117 @@ module _ (g : Graph) (d : List ℤ) (den k mark : ℕ) (len : ℕ) where
           denominators den,
           omega arith,
           (
-            can_be_marked g k mark,
-            markable g k mark,
+            ashore_fits l g.n,
+            ashores l g.n,
             omega arith,
-            (is_free_edge g k, decides (is_free_edge g k) (eqb-true _ 0) (eq-eqb _ 0), omega arith, tt),
+            (
+              can_be_marked g k mark,
+              markable g k mark,
+              omega arith,
+              (is_free_edge g k, decides (is_free_edge g k) (eqb-true _ 0) (eq-eqb _ 0), omega arith, tt),
+            ),
           ),
         ),
       ),
     ),
   )
 
-  preview_fault_lem : preview_fault g d den k mark len ≡ fault_by (preview_asks g d den k mark len) preview_tests
-  unfolding preview_fault input_fault preview_tests fault_by
-  preview_fault_lem = refl
+  five : (a b c e f : Bool) (left : ℕ)
+      → or_else (cond (not a) 15 (cond (not b) 11 (cond (not c) 12 (or_else (cond (not e) 32 0) (cond (not f) 35 0))))) left
+      ≡ cond (not a) 15 (cond (not b) 11 (cond (not c) 12 (cond (not e) 32 (cond (not f) 35 left))))
+  five false b c e f left = refl
+  five true false c e f left = refl
+  five true true false e f left = refl
+  five true true true false f left = refl
+  five true true true true false left = refl
+  five true true true true true left = refl
 
-  pub copy_fine : Fine (preview_asks g d den k mark len) → Fine (tree_asks (remarked g k mark) d den len)
+  preview_fault_lem : preview_fault g d l den k mark len ≡ fault_by (preview_asks g d l den k mark len) preview_tests
+  unfolding preview_fault tree_fault_over input_fault_over denominator_fault ashore_fault preview_tests fault_by
+  preview_fault_lem =
+      five (value.valid g) (lengths_fit g d l len) (multipliers_fit d) (denominator_fits den) (ashore_fits l g.n) (edge_fault g k mark)
+
+  pub copy_fine : Fine (preview_asks g d l den k mark len) → Fine (tree_asks (remarked g k mark) d l den len)
   unfolding remarked
   copy_fine f = (
-    remarked-valid g k mark (go f.1.1.1.1.0.2) f.0,
-    (record { multipliers = f.1.0.multipliers; lent = f.1.0.lent }, (f.1.1.0, (f.1.1.1.0, tt))),
+    remarked-valid g k mark (go f.1.1.1.1.1.0.2) f.0,
+    (record { multipliers = f.1.0.multipliers; listed = f.1.0.listed; lent = f.1.0.lent }, (f.1.1.0, (f.1.1.1.0, (f.1.1.1.1.0, tt)))),
   )
     where
       go : (mark ≡ 1) ⊎ (mark ≡ 2) → mark ≤ max_mark
       go (inl e) = omega (arith, e)
       go (inr e) = omega (arith, e)
 
-module _ (g : Graph) (d : List ℤ) (den k mark : ℕ) (out : List ℕ) where
-  fine_of : preview_fault g d den k mark (length out) ≡ 0 → Fine (preview_asks g d den k mark (length out))
-  fine_of z = (fault_none (preview_asks g d den k mark (length out)) (preview_tests g d den k mark (length out))).0 (sym (preview_fault_lem g d den k mark (length out)) ∙ z)
+module _ (g : Graph) (d : List ℤ) (l : List ℕ) (den k mark : ℕ) (out : List ℕ) where
+  fine_of : preview_fault g d l den k mark (length out) ≡ 0 → Fine (preview_asks g d l den k mark (length out))
+  fine_of z = (fault_none (preview_asks g d l den k mark (length out)) (preview_tests g d l den k mark (length out))).0 (sym (preview_fault_lem g d l den k mark (length out)) ∙ z)
 
-  fault_of : Fine (preview_asks g d den k mark (length out)) → preview_fault g d den k mark (length out) ≡ 0
-  fault_of f = preview_fault_lem g d den k mark (length out) ∙ (fault_none (preview_asks g d den k mark (length out)) (preview_tests g d den k mark (length out))).1 f
+  fault_of : Fine (preview_asks g d l den k mark (length out)) → preview_fault g d l den k mark (length out) ≡ 0
+  fault_of f = preview_fault_lem g d l den k mark (length out) ∙ (fault_none (preview_asks g d l den k mark (length out)) (preview_tests g d l den k mark (length out))).1 f
 
-  copy_answers : preview_fault g d den k mark (length out) ≡ 0 → NoRefusal (tree_reply (remarked g k mark) d den (length out))
+  copy_answers : preview_fault g d l den k mark (length out) ≡ 0 → NoRefusal (tree_reply_over (remarked g k mark) d l den (length out))
   copy_answers z e p h =
-      none_is_wrong (tree_asks (remarked g k mark) d den (length out)) (copy_fine g d den k mark (length out) (fine_of z)) e (((tree_exactly (remarked g k mark) d den out).refuses e p).0 h).0
+      none_is_wrong (tree_asks (remarked g k mark) d l den (length out)) (copy_fine g d l den k mark (length out) (fine_of z)) e (((tree_exactly (remarked g k mark) d l den out).refuses e p).0 h).0
     where
       none_is_wrong : (xs : List Asked) → Fine xs → (e : ℕ) → First xs e → ⊥
       none_is_wrong [] f e h = h
       none_is_wrong (x ∷ xs) f e (inl h) = h.0 f.0
       none_is_wrong (x ∷ xs) f e (inr h) = none_is_wrong xs f.1 e h.1
 
-  pub preview_exactly : PreviewExactly g d den k mark out
+  pub preview_exactly : PreviewExactly g d l den k mark out
   unfolding preview_reply preview_leaves
   preview_exactly = record {
     refuses =
-        refuses_exactly (tree_reply (remarked g k mark) d den (length out)) (preview_fault g d den k mark (length out)) copy_answers
-        (preview_asks g d den k mark (length out)) (preview_tests g d den k mark (length out)) (preview_fault_lem g d den k mark (length out));
-    refusal_leaves = λ e p f. go (preview_fault g d den k mark (length out)) (first-number e f);
-    as_tree = λ f. (rw (fault_of f), rw (fault_of f), copy_fine g d den k mark (length out) f);
+        refuses_exactly (tree_reply_over (remarked g k mark) d l den (length out)) (preview_fault g d l den k mark (length out)) copy_answers
+        (preview_asks g d l den k mark (length out)) (preview_tests g d l den k mark (length out)) (preview_fault_lem g d l den k mark (length out));
+    refusal_leaves = λ e p f. go (preview_fault g d l den k mark (length out)) (first-number e f);
+    as_tree = λ f. (rw (fault_of f), rw (fault_of f), copy_fine g d l den k mark (length out) f);
   }
     where
-      first-number : (e : ℕ) → First (preview_asks g d den k mark (length out)) e → 0 < preview_fault g d den k mark (length out)
+      first-number : (e : ℕ) → First (preview_asks g d l den k mark (length out)) e → 0 < preview_fault g d l den k mark (length out)
       first-number e f =
-          let b = first-fault (preview_asks g d den k mark (length out)) (preview_tests g d den k mark (length out)) e f in
-          omega (arith, preview_fault_lem g d den k mark (length out), b.0, b.1)
+          let b = first-fault (preview_asks g d l den k mark (length out)) (preview_tests g d l den k mark (length out)) e f in
+          omega (arith, preview_fault_lem g d l den k mark (length out), b.0, b.1)
 
-      go : (f : ℕ) → 0 < f → leaves f out (tree_leaves (remarked g k mark) d den out) ≡ out
+      go : (f : ℕ) → 0 < f → leaves f out (tree_leaves_over (remarked g k mark) d l den out) ≡ out
       go zero h = absurd (let z : suc 0 ≤ 0 = h in omega arith)
       go (suc f) h = refl
+
+-- ---- of an edge that touches a vertex ashore
+
+module _ (g : Graph) (k x : ℕ) (long : length g.mark ≡ max_edges) (valid : Valid g) (least : 1 ≤ k) (most : k ≤ g.m) (s : Ashore)
+    (e : touched s (network g) k ≡ true) where
+  -- no mark that counts is another
+  same_mark : (j : ℕ) → mark_over s (network (remarked g k x)) j ≡ mark_over s (network g) j
+  same_mark j = by_cases (eqb j k) (λ i. at_it (eqb-true j k i)) (λ i. off_it j (eqb-false j k i))
+    where
+      at_it : j ≡ k → mark_over s (network (remarked g k x)) j ≡ mark_over s (network g) j
+      at_it i =
+          subst (λ (z : ℕ). mark_over s (network (remarked g k x)) z ≡ mark_over s (network g) z) (sym i)
+          (ap (λ (b : Bool). cond b excluded ((network (remarked g k x)).mark k)) (same_touched g k x long valid least most s k ∙ e)
+          ∙ sym (ap (λ (b : Bool). cond b excluded ((network g).mark k)) e))
+
+      past : (j : ℕ) → (network (remarked g k x)).mark j ≡ (network g).mark j → mark_over s (network (remarked g k x)) j ≡ mark_over s (network g) j
+      past j h = ap₂ (λ (b : Bool) (y : Mark). cond b excluded y) (same_touched g k x long valid least most s j) h
+
+      off_it : (j : ℕ) → ¬ (j ≡ k) → mark_over s (network (remarked g k x)) j ≡ mark_over s (network g) j
+      off_it zero n = past zero (unfold network remarked in ap mark_of (place_zero 0 g.m (set g.mark (k - 1) x) ∙ sym (place_zero 0 g.m g.mark)))
+      off_it (suc j) n = go (dec_le (suc j) g.m)
+        where
+          go : Dec (j < g.m) → mark_over s (network (remarked g k x)) (suc j) ≡ mark_over s (network g) (suc j)
+          go (yes b) = over_else g k x long valid least most s (suc j) (up_to_in g.m (suc j) (omega arith) b) n
+          go (no b) =
+              past (suc j) (unfold network remarked in ap mark_of (place_past 0 g.m (set g.mark (k - 1) x) j (omega arith)
+              ∙ sym (place_past 0 g.m g.mark j (omega arith))))
+
+  -- so there is one tree
+  pub same_tree : (q : ℕ) (d : ℕ → ℤ) → tree_over s (scaled_by q (network (remarked g k x))) d ≡ tree_over s (scaled_by q (network g)) d
+  unfolding tree_over one_trees_over is_one_tree_over network remarked at_one away others_over
+  same_tree q d = λ i.
+      least_of (scaled_by q (network g)) (multiplier_over s d)
+      (select (λ t.
+      eqb (length (at_one (network g) t)) 2
+      && eqb (2 + length (away (network g) t)) (active_count s g.n)
+      && every_of (λ j. marked (same_mark j i) (t j)) (up_to g.m)
+      && alike (label (network g).a (network g).b (away (network g) t)) (others_over s (network g)))
+      (edge_sets g.m))

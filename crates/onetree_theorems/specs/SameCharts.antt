@@ -18,10 +18,13 @@ use Rattle.graph.specs.Places.{place_at, place_zero, place_past}
 use Rattle.graph.specs.Valid.{Valid, EdgeValid, EdgeAt, valid}
 use Rattle.graph.specs.Meaning.{valid_true, true_valid}
 use Rattle.graph.specs.Same.{SameGraph}
-use Rattle.tree_theory.specs.Inputs.{multiplier, multipliers_fit, ceiling_fits, denominator_fault, input_fault}
+use Rattle.tree_theory.specs.Inputs.{multiplier, multipliers_fit, ceiling_fits, denominator_fault, or_else}
 use Rattle.tree_theory.specs.Scaled.{scaled_by}
-use Rattle.tree_theory.specs.Enumeration.{least_tree, ruling}
-use Rattle.onetree.specs.Answers.{unless_fault, leaves, tree_fault, tree_says, tree_writes, tree_reply, tree_leaves, rule_fault, rule_says, rule_writes, rule_reply, rule_leaves}
+use Rattle.afloat.specs.Over.{ashore, ashore_fault}
+use Rattle.afloat.specs.Values.{tree_over, ruling_over}
+use Rattle.onetree.specs.Answers.{unless_fault, leaves, tree_says, tree_writes, rule_says, rule_writes}
+use Rattle.reduction.specs.Answers.{input_fault_over, tree_of, tree_fault_over, tree_reply_over, tree_leaves_over}
+use Rattle.reduction.specs.Answers.{rule_fault_over, rule_reply_over, rule_leaves_over}
 use Rattle.machine.specs.declared.Settings.{Settings}
 use Rattle.machine.specs.Machine.{Opening, State, no_search, searching, trimmed, tidy, held, begin, opening_of}
 use Rattle.machine.specs.Calls.{opens, accepted, accepts, fault, opened_by, step}
@@ -100,57 +103,73 @@ module _ (g h : Graph) (s : SameGraph g h) where
 
   -- ---- the calls
 
-  fault-same : (d : List ℤ) (len left : ℕ) → input_fault g d len left ≡ input_fault h d len left
-  unfolding input_fault
-  fault-same d len left = λ i.
-      cond (not (valid_same i)) 15 (cond (not (eqb (length d) (s.n i) && eqb len (s.m i))) 11 (cond (not (multipliers_fit d)) 12 left))
+  fault-same : (d : List ℤ) (l : List ℕ) (len left other : ℕ) → left ≡ other → input_fault_over g d l len left ≡ input_fault_over h d l len other
+  unfolding input_fault_over
+  fault-same d l len left other e = λ i.
+      cond (not (valid_same i)) 15
+      (cond (not ((eqb (length d) (s.n i) && eqb (length l) (s.n i)) && eqb len (s.m i))) 11
+      (cond (not (multipliers_fit d)) 12
+      (e i)))
 
-  tree-same : (d : List ℤ) (q len : ℕ) → tree_reply g d q len ≡ tree_reply h d q len
-  unfolding tree_reply tree_fault
-  tree-same d q len = λ i. unless_fault (fault-same d len (denominator_fault q) i) (tree_says (least_tree (scaled_by q (network-same i)) (multiplier d)))
+  last-same : (l : List ℕ) (q : ℕ) → or_else (denominator_fault q) (ashore_fault l g.n) ≡ or_else (denominator_fault q) (ashore_fault l h.n)
+  last-same l q = λ i. or_else (denominator_fault q) (ashore_fault l (s.n i))
 
-  tree_list_lem : (d : List ℤ) (q : ℕ) (out : List ℕ) → tree_leaves g d q out ≡ tree_leaves h d q out
-  unfolding tree_leaves tree_fault
-  tree_list_lem d q out = λ i.
-      leaves (fault-same d (length out) (denominator_fault q) i) out (tree_writes (s.m i) out (least_tree (scaled_by q (network-same i)) (multiplier d)))
+  tree-fault-same : (d : List ℤ) (l : List ℕ) (q len : ℕ) → tree_fault_over g d l q len ≡ tree_fault_over h d l q len
+  unfolding tree_fault_over
+  tree-fault-same d l q len = fault-same d l len _ _ (last-same l q)
 
-  rule_same : (d : List ℤ) (ceiling : ℤ) (q len : ℕ) → rule_reply g d ceiling q len ≡ rule_reply h d ceiling q len
-  unfolding rule_reply rule_fault
-  rule_same d ceiling q len = λ i.
-      unless_fault (fault-same d len (cond (not (ceiling_fits ceiling)) 13 (denominator_fault q)) i)
-      (rule_says (q times ceiling) (least_tree (scaled_by q (network-same i)) (multiplier d)))
+  rule-fault-same : (d : List ℤ) (l : List ℕ) (ceiling : ℤ) (q len : ℕ) → rule_fault_over g d l ceiling q len ≡ rule_fault_over h d l ceiling q len
+  unfolding rule_fault_over
+  rule-fault-same d l ceiling q len = fault-same d l len _ _ (ap (cond (not (ceiling_fits ceiling)) 13) (last-same l q))
 
-  rule_list_lem : (d : List ℤ) (ceiling : ℤ) (q : ℕ) (out : List ℕ) → rule_leaves g d ceiling q out ≡ rule_leaves h d ceiling q out
-  unfolding rule_leaves rule_fault
-  rule_list_lem d ceiling q out = λ i.
-      leaves (fault-same d (length out) (cond (not (ceiling_fits ceiling)) 13 (denominator_fault q)) i) out
-      (rule_writes (s.m i) (q times ceiling) out (ruling (scaled_by q (network-same i)) (multiplier d) (q times ceiling))
-      (least_tree (scaled_by q (network-same i)) (multiplier d)))
+  tree-of-same : (d : List ℤ) (l : List ℕ) (q : ℕ) → tree_of g d l q ≡ tree_of h d l q
+  tree-of-same d l q = λ i. tree_over (ashore l) (scaled_by q (network-same i)) (multiplier d)
+
+  tree-same : (d : List ℤ) (l : List ℕ) (q len : ℕ) → tree_reply_over g d l q len ≡ tree_reply_over h d l q len
+  unfolding tree_reply_over
+  tree-same d l q len = λ i. unless_fault (tree-fault-same d l q len i) (tree_says (tree-of-same d l q i))
+
+  tree_list_lem : (d : List ℤ) (l : List ℕ) (q : ℕ) (out : List ℕ) → tree_leaves_over g d l q out ≡ tree_leaves_over h d l q out
+  unfolding tree_leaves_over
+  tree_list_lem d l q out = λ i. leaves (tree-fault-same d l q (length out) i) out (tree_writes (s.m i) out (tree-of-same d l q i))
+
+  rule_same : (d : List ℤ) (l : List ℕ) (ceiling : ℤ) (q len : ℕ) → rule_reply_over g d l ceiling q len ≡ rule_reply_over h d l ceiling q len
+  unfolding rule_reply_over
+  rule_same d l ceiling q len = λ i. unless_fault (rule-fault-same d l ceiling q len i) (rule_says (q times ceiling) (tree-of-same d l q i))
+
+  rule_list_lem : (d : List ℤ) (l : List ℕ) (ceiling : ℤ) (q : ℕ) (out : List ℕ)
+      → rule_leaves_over g d l ceiling q out ≡ rule_leaves_over h d l ceiling q out
+  unfolding rule_leaves_over
+  rule_list_lem d l ceiling q out = λ i.
+      leaves (rule-fault-same d l ceiling q (length out) i) out
+      (rule_writes (s.m i) (q times ceiling) out (ruling_over (ashore l) (scaled_by q (network-same i)) (multiplier d) (q times ceiling))
+      (tree-of-same d l q i))
 
   -- ---- an opening
 
-  module _ (d : List ℤ) (settings : Settings) where
-    opening-fault : fault (opening_of g d settings) ≡ fault (opening_of h d settings)
+  module _ (d : List ℤ) (l : List ℕ) (settings : Settings) where
+    opening-fault : fault (opening_of g d l settings) ≡ fault (opening_of h d l settings)
     unfolding fault
     opening-fault = λ i.
         cond (not (valid_same i)) 15
-        (cond (not (eqb (length d) (s.n i))) 11
+        (cond (not (eqb (length d) (s.n i) && eqb (length l) (s.n i))) 11
         (cond (not (multipliers_fit d)) 12
         (cond (not (ceiling_fits settings.ceiling)) 13
-        (cond (not (leb settings.sweeps max_sweeps && leb settings.step max_step)) 14 (denominator_fault settings.denominator)))))
+        (cond (not (leb settings.sweeps max_sweeps && leb settings.step max_step)) 14
+        (or_else (denominator_fault settings.denominator) (ashore_fault l (s.n i)))))))
 
-    held_same : held (opening_of g d settings) ≡ held (opening_of h d settings)
+    held_same : held (opening_of g d l settings) ≡ held (opening_of h d l settings)
     unfolding held
-    held_same = λ i. record { graph = trimmed-same i; multipliers = d; settings = tidy settings }
+    held_same = λ i. record { graph = trimmed-same i; multipliers = d; ashore = l; settings = tidy settings }
 
-    opened-same : (f : ℕ) → opened_by (opening_of g d settings) f ≡ opened_by (opening_of h d settings) f
+    opened-same : (f : ℕ) → opened_by (opening_of g d l settings) f ≡ opened_by (opening_of h d l settings) f
     unfolding opened_by
     opened-same zero = ap (λ (o : Opening). accepts (searching (begin o)) accepted) held_same
     opened-same (suc f) = refl
 
-    step_same : (x : State) → step x (opens (opening_of g d settings)) ≡ step x (opens (opening_of h d settings))
+    step_same : (x : State) → step x (opens (opening_of g d l settings)) ≡ step x (opens (opening_of h d l settings))
     unfolding step
-    step_same no_search = opened-same (fault (opening_of g d settings)) ∙ ap (opened_by (opening_of h d settings)) opening-fault
+    step_same no_search = opened-same (fault (opening_of g d l settings)) ∙ ap (opened_by (opening_of h d l settings)) opening-fault
     step_same (searching p) = refl
 
   pub same-answers : SameAnswers g h

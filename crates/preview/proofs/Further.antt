@@ -1,49 +1,25 @@
 -- Laws that no proof cites today: the fault of a preview, test by test, and what is known where there is none. Assumes nothing.
-use Rattle.std.specs.Prelude.{◌≡◌, refl, Bool, true, false, ◌&&◌, ◌||◌, List, ℕ, ◌≤◌, ◌<◌, eqb, leb, length, ℤ}
-use Rattle.std.proofs.Common.{sym, ◌∙◌, arith, leb-true, eqb-true}
-use Rattle.lists.specs.Bools.{by_cases}
+use Rattle.std.specs.Prelude.{◌≡◌, refl, Bool, true, false, ◌&&◌, ◌||◌, List, ℕ, ◌≤◌, eqb, leb, ℤ}
+use Rattle.std.proofs.Common.{◌∙◌, arith, leb-true, eqb-true}
 use Rattle.graph.specs.declared.Graph.{Graph}
-use Rattle.graph.specs.Valid.{Valid, valid}
-use Rattle.graph.specs.Meaning.{valid_true}
-use Rattle.tree_theory.specs.Inputs.{multipliers_fit, denominator_fits}
+use Rattle.graph.specs.Valid.{Valid}
+use Rattle.tree_theory.specs.Accepted.{else_next, else_none, passed}
+use Rattle.reduction.specs.Answers.{tree_fault_over}
+use Rattle.reduction.specs.Accepting.{tree_accepted}
 use Rattle.preview.specs.Preview.{can_be_marked, is_free_edge, preview_fault}
 
-module _ (g : Graph) (d : List ℤ) (q k mark len : ℕ) where
-  pub fault-graph : valid g ≡ false → preview_fault g d q k mark len ≡ 15
+module _ (g : Graph) (d : List ℤ) (l : List ℕ) (q k mark len : ℕ) where
+  pub fault_mark : tree_fault_over g d l q len ≡ 0 → can_be_marked g k mark ≡ false → preview_fault g d l q k mark len ≡ 30
   unfolding preview_fault
-  fault-graph v = rw v
+  fault_mark e c = else_next _ _ e ∙ rw c refl
 
-  pub fault-length : valid g ≡ true → (eqb (length d) g.n && eqb len g.m) ≡ false → preview_fault g d q k mark len ≡ 11
+  pub fault_free : tree_fault_over g d l q len ≡ 0 → can_be_marked g k mark ≡ true → is_free_edge g k ≡ false → preview_fault g d l q k mark len ≡ 31
   unfolding preview_fault
-  fault-length v l = rw (v, l)
+  fault_free e c f = else_next _ _ e ∙ rw (c, f) refl
 
-  pub fault_multipliers : valid g ≡ true → (eqb (length d) g.n && eqb len g.m) ≡ true → multipliers_fit d ≡ false
-      → preview_fault g d q k mark len ≡ 12
+  pub fault_none : tree_fault_over g d l q len ≡ 0 → can_be_marked g k mark ≡ true → is_free_edge g k ≡ true → preview_fault g d l q k mark len ≡ 0
   unfolding preview_fault
-  fault_multipliers v l f = rw (v, l, f)
-
-  pub fault_denominator : valid g ≡ true → (eqb (length d) g.n && eqb len g.m) ≡ true → multipliers_fit d ≡ true
-      → denominator_fits q ≡ false → preview_fault g d q k mark len ≡ 32
-  unfolding preview_fault
-  fault_denominator v l f n = rw (v, l, f, n)
-
-  pub fault_mark : valid g ≡ true → (eqb (length d) g.n && eqb len g.m) ≡ true → multipliers_fit d ≡ true
-      → denominator_fits q ≡ true → can_be_marked g k mark ≡ false
-      → preview_fault g d q k mark len ≡ 30
-  unfolding preview_fault
-  fault_mark v l f n c = rw (v, l, f, n, c)
-
-  pub fault_free : valid g ≡ true → (eqb (length d) g.n && eqb len g.m) ≡ true → multipliers_fit d ≡ true
-      → denominator_fits q ≡ true → can_be_marked g k mark ≡ true
-      → is_free_edge g k ≡ false → preview_fault g d q k mark len ≡ 31
-  unfolding preview_fault
-  fault_free v l f n c e = rw (v, l, f, n, c, e)
-
-  pub fault_none : valid g ≡ true → (eqb (length d) g.n && eqb len g.m) ≡ true → multipliers_fit d ≡ true
-      → denominator_fits q ≡ true → can_be_marked g k mark ≡ true
-      → is_free_edge g k ≡ true → preview_fault g d q k mark len ≡ 0
-  unfolding preview_fault
-  fault_none v l f n c e = rw (v, l, f, n, c, e)
+  fault_none e c f = else_next _ _ e ∙ rw (c, f) refl
 
 -- an edge that can be marked is one, and the mark is 1 or 2
 pub marked_fits : (g : Graph) (k mark : ℕ) → can_be_marked g k mark ≡ true → (1 ≤ k) × (k ≤ g.m) × (mark ≤ 2)
@@ -67,19 +43,10 @@ pub record Faultless (g : Graph) (k mark : ℕ) : Type 0 where
   pub most : k ≤ g.m
   pub is_mark : mark ≤ 2
 
-pub no_fault : (g : Graph) (d : List ℤ) (q k mark len : ℕ) → preview_fault g d q k mark len ≡ 0 → Faultless g k mark
-no_fault g d q k mark len e =
-    by_cases (valid g)
-    (λ v. by_cases (eqb (length d) g.n && eqb len g.m)
-    (λ l. by_cases (multipliers_fit d)
-    (λ f. by_cases (denominator_fits q)
-    (λ n. by_cases (can_be_marked g k mark)
-    (λ c. let r = marked_fits g k mark c in record { is_valid = valid_true g v; least = r.0; most = r.1; is_mark = r.2 })
-    (λ c. absurd (differ 30 (fault_mark g d q k mark len v l f n c) (omega arith))))
-    (λ n. absurd (differ 32 (fault_denominator g d q k mark len v l f n) (omega arith))))
-    (λ f. absurd (differ 12 (fault_multipliers g d q k mark len v l f) (omega arith))))
-    (λ l. absurd (differ 11 (fault-length g d q k mark len v l) (omega arith))))
-    (λ v. absurd (differ 15 (fault-graph g d q k mark len v) (omega arith)))
-  where
-    differ : (x : ℕ) → preview_fault g d q k mark len ≡ x → 0 < x → ⊥
-    differ x f h = let z : 0 ≡ x = sym e ∙ f in let w : 0 < x = h in omega arith
+pub no_fault : (g : Graph) (d : List ℤ) (l : List ℕ) (q k mark len : ℕ) → preview_fault g d l q k mark len ≡ 0 → Faultless g k mark
+unfolding preview_fault
+no_fault g d l q k mark len e =
+    let a = else_none _ _ e in
+    let c = passed (can_be_marked g k mark) 30 _ (omega arith) a.1 in
+    let m = marked_fits g k mark c.0 in
+    record { is_valid = (tree_accepted g d l len q a.0).0.valid; least = m.0; most = m.1; is_mark = m.2 }

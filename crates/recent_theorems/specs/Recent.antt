@@ -81,19 +81,19 @@ AfterEvery = (g : Graph) (w : ℕ) (edges : List ℕ) (times : List ℤ) → len
 
 -- ---- "Hunts are then about the chart so made."
 
-abbrev pub opening : Graph → List ℤ → Settings → Opening
-opening g d settings = record { graph = g; multipliers = d; settings = settings }
+abbrev pub opening : Graph → List ℤ → List ℕ → Settings → Opening
+opening g d l settings = record { graph = g; multipliers = d; ashore = l; settings = settings }
 
 -- of the lists L of any calls: which leave a finished search that was opened with o, and what is then said
 pub record SearchedAfter {L : Type 0} (LeavesFinished : L → Opening → Type 0) (SaysAfter : L → Opening → Verdict → Type 0)
     (g : Graph) (w : ℕ) (log : List Entry) (h : Graph) : Type 0 where
   -- it can be opened wherever the chart could be
-  pub opens : (d : List ℤ) (settings : Settings) → fault (opening h d settings) ≡ fault (opening g d settings)
+  pub opens : (d : List ℤ) (l : List ℕ) (settings : Settings) → fault (opening h d l settings) ≡ fault (opening g d l settings)
   -- a tour's cost is the sum of its edges' recent costs
   pub priced : (t : Edges) → cost (network h) t ≡ sum_z (λ k. recent_cost w ((network g).cost k) log k) (select t (up_to g.m))
   -- demand 3 at it: whatever list leaves a finished search that was opened with it, the verdict is of its tours
-  pub says : (cs : L) (d : List ℤ) (settings : Settings) → LeavesFinished cs (opening h d settings)
-      → (v : Verdict) × SaysAfter cs (opening h d settings) v
+  pub says : (cs : L) (d : List ℤ) (l : List ℕ) (settings : Settings) → LeavesFinished cs (opening h d l settings)
+      → (v : Verdict) × SaysAfter cs (opening h d l settings) v
 
 abbrev pub Searched : {L : Type 0} → (L → Opening → Type 0) → (L → Opening → Verdict → Type 0) → Type 0
 Searched LeavesFinished SaysAfter = (g : Graph) (w : ℕ) (edges : List ℕ) (times : List ℤ) → length g.cost ≡ max_edges

@@ -258,9 +258,10 @@ module _ (g : Graph) (w : ℕ) (log : List Entry) (full : length g.cost ≡ max_
 
   -- ---- searches
 
-  fault-same : (d : List ℤ) (settings : Settings) → fault (opening (recent_graph w log g) d settings) ≡ fault (opening g d settings)
+  fault-same : (d : List ℤ) (l : List ℕ) (settings : Settings)
+      → fault (opening (recent_graph w log g) d l settings) ≡ fault (opening g d l settings)
   unfolding fault recent_graph
-  fault-same d settings = rw (true_valid (recent_graph w log g) made-valid, true_valid g p.is_valid)
+  fault-same d l settings = rw (true_valid (recent_graph w log g) made-valid, true_valid g p.is_valid)
 
   priced : (t : Edges) → cost (network (recent_graph w log g)) t
       ≡ sum_z (λ k. recent_cost w ((network g).cost k) log k) (select t (up_to g.m))
@@ -287,7 +288,7 @@ one_self o = record { n = refl; m = refl; there = λ k i. (k, i, record { a = re
 -- of any calls whose finished searches agree
 pub searched : {L : Type 0} (Leaves : L → Opening → Type 0) (Says : L → Opening → Verdict → Type 0)
     → ((cs ds : L) (o p : Opening) → Leaves cs o → Leaves ds p → OneNetwork (network o.graph) (network p.graph)
-    → o.settings.ceiling ≡ p.settings.ceiling → (v : Verdict) × Says cs o v × Says ds p v)
+    → o.ashore ≡ p.ashore → o.settings.ceiling ≡ p.settings.ceiling → (v : Verdict) × Says cs o v × Says ds p v)
     → Searched Leaves Says
 searched Leaves Says agree g w edges times full e =
     let p = accepted_knows g w edges times e in
@@ -295,7 +296,7 @@ searched Leaves Says agree g w edges times full e =
     rw (leaves-made g w edges times e) (record {
       opens = fault-same g w log full p;
       priced = priced g w log full p;
-      says = λ cs d settings l.
-          let o = opening (recent_graph w log g) d settings in
-          let r = agree cs cs o o l l (one_self o) refl in (r.0, r.1);
+      says = λ cs d inactive settings l.
+          let o = opening (recent_graph w log g) d inactive settings in
+          let r = agree cs cs o o l l (one_self o) refl refl in (r.0, r.1);
     })

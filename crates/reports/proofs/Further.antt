@@ -7,7 +7,7 @@ use Rattle.std.specs.Int.Signed.{lt_z}
 use Rattle.graph.specs.declared.Graph.{Graph}
 use Rattle.graph.specs.Limits.{max_vertices, max_edges}
 use Rattle.graph.specs.Valid.{Valid}
-use Rattle.onetree.specs.Answers.{rule_reply, rule_leaves}
+use Rattle.reduction.specs.Answers.{rule_reply_over, rule_leaves_over}
 use Rattle.machine.specs.Calls.{Answer}
 use Rattle.machine.specs.Machine.{opening_of}
 use Rattle.reports.specs.Decimal.{decimal, signed_decimal, decimal_digit, decimal-more}
@@ -102,23 +102,27 @@ module _ (g : Graph) (v : Valid g) (k : ℕ) (h : k < g.m) where
 pub rules_put : {k l : List ℕ} {i j : ℕ} (g : Graph) → Valid g → (ceiling : ℤ)
     → Put
     (reply_text g ceiling
-    (rule_reply g (take g.n (replicate max_vertices (pos 0))) ceiling plain_denominator (length {A = ℕ} (take g.m (replicate max_edges 0))))
-    (rule_leaves g (take g.n (replicate max_vertices (pos 0))) ceiling plain_denominator (take g.m (replicate max_edges 0))))
+    (rule_reply_over g (take g.n (replicate max_vertices (pos 0))) (take g.n (replicate max_vertices 0)) ceiling plain_denominator
+    (length {A = ℕ} (take g.m (replicate max_edges 0))))
+    (rule_leaves_over g (take g.n (replicate max_vertices (pos 0))) (take g.n (replicate max_vertices 0)) ceiling plain_denominator
+    (take g.m (replicate max_edges 0))))
     k i l j
     → Put (rules_text ceiling g) k i l j
 unfolding rules_text
 rules_put g v ceiling p =
     rw (
       take-replicate g.n max_vertices (pos 0) v.high,
+      take-replicate {X = ℕ} g.n max_vertices 0 v.high,
       part_length {A = ℕ} max_edges g.m 0 v.few,
       take-replicate {X = ℕ} g.m max_edges 0 v.few,
     ) at p
 
 pub search-put : {k l : List ℕ} {i j : ℕ} (g : Graph) → Valid g → (ceiling : ℤ) (a : Answer)
-    → a ≡ last_answer (opening_of g (take g.n (replicate max_vertices (pos 0))) (plain_settings ceiling))
+    → a ≡ last_answer (opening_of g (take g.n (replicate max_vertices (pos 0))) (take g.n (replicate max_vertices 0)) (plain_settings ceiling))
     → Put (answer_text a) k i l j
     → Put (search_text ceiling g) k i l j
-search-put g v ceiling a e p = rw (← (rw (take-replicate g.n max_vertices (pos 0) v.high) at e)) p
+search-put g v ceiling a e p =
+    rw (← (rw (take-replicate g.n max_vertices (pos 0) v.high, take-replicate {X = ℕ} g.n max_vertices 0 v.high) at e)) p
 
 -- ---- the part of an input that is its chart
 

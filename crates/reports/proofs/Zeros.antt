@@ -5,13 +5,14 @@ use Rattle.std.proofs.lemmas.List.{take-replicate}
 use Rattle.graph.specs.declared.Graph.{Graph}
 use Rattle.graph.specs.Limits.{max_edges}
 use Rattle.graph.specs.Valid.{Valid}
-use Rattle.onetree.specs.Answers.{Reply, rule_reply, rule_leaves}
+use Rattle.onetree.specs.Answers.{Reply}
+use Rattle.reduction.specs.Answers.{rule_reply_over, rule_leaves_over}
 use Rattle.reports.specs.Zeros.{part_length}
-use Rattle.reports.specs.Rulings.{zero_multipliers, plain_denominator, reply_text, rules_text}
+use Rattle.reports.specs.Rulings.{zero_multipliers, all_afloat, plain_denominator, reply_text, rules_text}
 
 pub rules_are : (g : Graph) → Valid g → (ceiling : ℤ) (reply : Reply) (left : List ℕ)
-    → reply ≡ rule_reply g (zero_multipliers g) ceiling plain_denominator (length {A = ℕ} (take g.m (replicate max_edges 0)))
-    → left ≡ rule_leaves g (zero_multipliers g) ceiling plain_denominator (take g.m (replicate max_edges 0))
+    → reply ≡ rule_reply_over g (zero_multipliers g) (all_afloat g) ceiling plain_denominator (length {A = ℕ} (take g.m (replicate max_edges 0)))
+    → left ≡ rule_leaves_over g (zero_multipliers g) (all_afloat g) ceiling plain_denominator (take g.m (replicate max_edges 0))
     → rules_text ceiling g ≡ reply_text g ceiling reply left
 unfolding rules_text
 rules_are g v ceiling reply left p q =

@@ -1,7 +1,8 @@
 -- The whole of what program 'rulings' prints, as a function of the whole of what it reads. Definitions only.
 use Rattle.std.specs.Prelude.{ℕ, zero, suc, List, [], ◌++◌, ℤ, pos, get_or, replicate}
 use Rattle.graph.specs.declared.Graph.{Graph}
-use Rattle.onetree.specs.Answers.{Reply, refused, none, bounded, rule_reply, rule_leaves}
+use Rattle.onetree.specs.Answers.{Reply, refused, none, bounded}
+use Rattle.reduction.specs.Answers.{rule_reply_over, rule_leaves_over}
 use Rattle.reports.specs.Text.{refused_line, dead_line, bound_line, edge_line}
 use Rattle.reports.specs.Input.{printed}
 
@@ -21,6 +22,10 @@ reply_text g ceiling (bounded bound) rulings = bound_line bound ceiling ++ edge_
 abbrev pub zero_multipliers : Graph → List ℤ
 zero_multipliers g = replicate g.n (pos 0)
 
+-- document 02, C-20: "the programs have none ashore"
+abbrev pub all_afloat : Graph → List ℕ
+all_afloat g = replicate g.n 0
+
 -- document 02, C-17: "With q = 1, which the programs use"
 abbrev pub plain_denominator : ℕ
 plain_denominator = 1
@@ -28,8 +33,8 @@ plain_denominator = 1
 -- what the rule call answers, and the rulings that it leaves in a list of m bytes
 unfoldable pub rules_text : ℤ → Graph → List ℕ
 rules_text ceiling g =
-    reply_text g ceiling (rule_reply g (zero_multipliers g) ceiling plain_denominator g.m)
-    (rule_leaves g (zero_multipliers g) ceiling plain_denominator (replicate g.m 0))
+    reply_text g ceiling (rule_reply_over g (zero_multipliers g) (all_afloat g) ceiling plain_denominator g.m)
+    (rule_leaves_over g (zero_multipliers g) (all_afloat g) ceiling plain_denominator (replicate g.m 0))
 
 abbrev pub rulings_text : List ℕ → List ℕ
 rulings_text input = printed rules_text input

@@ -7,7 +7,7 @@ use Rattle.machine.specs.Machine.{Opening, State, no_search}
 use Rattle.machine.specs.Calls.{Answer, refused, accepted, runs, tells, opens, run, tell, step, is_accepted}
 use Rattle.reports.specs.Text.{refused_line, verdict_line, nodes_line}
 use Rattle.reports.specs.Input.{printed}
-use Rattle.reports.specs.Rulings.{zero_multipliers, plain_denominator}
+use Rattle.reports.specs.Rulings.{zero_multipliers, all_afloat, plain_denominator}
 
 -- "one run with .. allowance 1,000,000"
 abbrev pub budget : ℕ
@@ -18,7 +18,7 @@ abbrev pub plain_settings : ℤ → Settings
 plain_settings ceiling = record { ceiling = ceiling; sweeps = 0; step = 0; denominator = plain_denominator; lifting = 0 }
 
 abbrev pub plain_opening : ℤ → Graph → Opening
-plain_opening ceiling g = record { graph = g; multipliers = zero_multipliers g; settings = plain_settings ceiling }
+plain_opening ceiling g = record { graph = g; multipliers = zero_multipliers g; ashore = all_afloat g; settings = plain_settings ceiling }
 
 -- the answer to print: a refused opening's own; else what tell gives after the run
 unfoldable pub last_answer : Opening → Answer

@@ -9,6 +9,9 @@ const CEILING_SIZE: usize = 8;
 // The multipliers of both programs.
 static NO_MULTIPLIERS: [i32; MAX_VERTICES] = [0; MAX_VERTICES];
 
+// Their list of the vertices ashore.
+static ALL_AFLOAT: [u8; MAX_VERTICES] = [0; MAX_VERTICES];
+
 // What a program reads: one byte more than the longest input.
 pub const INPUT_SIZE: usize = CEILING_SIZE + charts::MAX_SIZE + 1;
 
@@ -25,7 +28,7 @@ impl Input {
     ghost use Rattle.graph.specs.declared.Graph.{Graph};
     ghost use Rattle.reports.specs.Input.{printed};
     ghost use Rattle.reports.specs.Reading.{printed_of};
-    ghost use Rattle.reports.specs.Rulings.{zero_multipliers};
+    ghost use Rattle.reports.specs.Rulings.{zero_multipliers, all_afloat};
 
     // Ruled out: a refusal of the ceiling beside a fault of the chart.
     pub(crate) fn read(bytes: &[u8]) -> Result<Input, Refused>
@@ -46,5 +49,12 @@ impl Input {
         ensures { result.now ≡ zero_multipliers self.now.graph }
     {
         &NO_MULTIPLIERS[..usize::from(self.graph.n)]
+    }
+
+    // None ashore: a zero for each vertex.
+    pub(crate) fn ashore(&self) -> &'static [u8]
+        ensures { result.now ≡ all_afloat self.now.graph }
+    {
+        &ALL_AFLOAT[..usize::from(self.graph.n)]
     }
 }

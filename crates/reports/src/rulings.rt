@@ -42,15 +42,16 @@ impl Program for Rulings {
 
     ghost says = { rules_text };
 
-    // The rule call with zero multipliers, and the rulings that it leaves.
+    // The rule call with zero multipliers and none ashore, and the rulings that it leaves.
     fn text(input: &Input) -> Result<Text, Refused> {
         let g = &input.graph;
         let mut rulings = [0u8; MAX_EDGES];
         let rulings = &mut rulings[..usize::from(g.m)];
         let mut text = Text::new();
-        match onetree::rule(
+        match reduction::rule(
             g,
             input.multipliers(),
+            input.ashore(),
             input.ceiling,
             PLAIN_DENOMINATOR,
             rulings,

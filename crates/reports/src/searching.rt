@@ -13,7 +13,7 @@ use search::{Search, Verdict};
 // The budget of the one run.
 const BUDGET: u64 = 1_000_000;
 
-// The answer to print, with zero multipliers: a refused opening's, or what tell gives after one run.
+// The answer to print, with zero multipliers and none ashore: a refused opening's, or what tell gives after one run.
 fn last_answer(input: &Input) -> Result<Verdict, Refusal>
     ensures { tell_means result ≡ last_answer (plain_opening input.now.ceiling input.now.graph) }
 {
@@ -25,7 +25,7 @@ fn last_answer(input: &Input) -> Result<Verdict, Refusal>
         lifting: 0,
     };
     let mut search = Search::fresh();
-    search.open(&input.graph, input.multipliers(), settings)?;
+    search.open(&input.graph, input.multipliers(), input.ashore(), settings)?;
     // what the run answers, telling says too
     let _ran = search.run(BUDGET);
     search.tell()

@@ -18,10 +18,12 @@ use Rattle.tree_theory.specs.Inputs.{ceiling_fits, multipliers_fit, denominator_
 use Rattle.machine.specs.declared.Settings.{Settings}
 use Rattle.machine.specs.Machine.{Opening, trimmed, Node, Progress, open_top, ran, opening_of}
 use Rattle.machine.specs.Runs.{ran-opens, ran_empty, ran_full}
+use Rattle.machine.specs.Kept.{active_size}
+use Rattle.machine.specs.Active.{active_most}
 use Rattle.mark_rows.specs.MarkRows.{rows_of, row_words, node_words, required_in}
 use Rattle.machine.specs.Calls.{fault}
-use Rattle.search.specs.Record.{max_nodes, rows_at, carried_size, no_settings, multipliers_at, has_tour, opening_in}
-use Rattle.search.specs.Canonical.{Zeros, GraphTidy, used_in, StackTidy, CarriedTidy, Tidy, Idle, StackFits, CarriedFits, Bits, Fits}
+use Rattle.search.specs.Record.{max_nodes, rows_at, carried_size, no_settings, multipliers_at, has_tour, opening_in, active_in}
+use Rattle.search.specs.Canonical.{Zeros, GraphTidy, used_in, StackTidy, CarriedTidy, Tidy, Idle, StackFits, touching_in, StackStruck, CarriedFits, Bits, Fits}
 use Rattle.search.specs.CheckLoops.{says-le, says_eq}
 use Rattle.search.specs.CheckParts as parts
 use Rattle.std.specs.Int.Count.{ones}
@@ -33,7 +35,7 @@ use Rattle.mark_rows.proofs.Building.{partly_free, partly_required, partly_exclu
 use Rattle.search.specs.Begun.{begun_trimmed}
 use Rattle.search.specs.Pushing.{Put, rows_top, carried_top}
 use Rattle.search.specs.Accepted.{range_fits, range_denominator}
-use Rattle.search.specs.Runs.TopNode.{Holds, Top, place as place_of_top, holds_upper, holds_depth, holds_count, holds_settings, holds_valid, top-high, waits, old-words, old-carried}
+use Rattle.search.specs.Runs.TopNode.{Holds, Top, place as place_of_top, holds_upper, holds_depth, holds_count, holds_settings, top-high, waits, old-words, old-carried}
 use Rattle.search.specs.declared.Search.{Search}
 
 -- ---- words that are zero
@@ -116,13 +118,14 @@ module _ (n depth used : ℕ) (e : List ℤ) (u : InUse depth used) where
 -- ---- all but the stack, part by part
 
 -- the opening that these parts of a record hold
-abbrev pub opening_with : Graph → List ℤ → Settings → Opening
-opening_with g d t = opening_of g (fit g.n (pos 0) d) t
+abbrev pub opening_with : Graph → List ℤ → List ℕ → Settings → Opening
+opening_with g d l t = opening_of g (fit g.n (pos 0) d) (fit g.n 0 l) t
 
 -- of `Tidy`
-pub record FieldsTidy (g : Graph) (d : List ℤ) (h : Bool) (w : List ℕ) : Type 0 where
+pub record FieldsTidy (g : Graph) (d : List ℤ) (l : List ℕ) (h : Bool) (w : List ℕ) : Type 0 where
   pub graph : GraphTidy g
   pub multipliers : Zeros (pos 0) max_vertices g.n d
+  pub ashore : Zeros 0 max_vertices g.n l
   pub best : Zeros 0 max_edges (cond h g.m 0) w
 
 -- of `Fits`
@@ -130,13 +133,13 @@ pub record FieldsFit (o : Opening) (z : ℤ) (p : ℕ) (w : List ℕ) (k : ℕ) 
   pub opening : fault o ≡ 0
   pub lifting : o.settings.lifting ≤ 1
   pub upper : ceiling_fits z ≡ true
-  pub depth : p ≤ o.graph.n + 2
+  pub depth : p ≤ active_size o + 2
   pub best : Bits w
   pub count : k ≤ max_count
 
 abbrev pub Fitting : Search → Type 0
 Fitting s =
-    FieldsFit (opening_with s.graph s.multipliers s.settings) s.upper s.depth s.best s.count
+    FieldsFit (opening_with s.graph s.multipliers s.ashore s.settings) s.upper s.depth s.best s.count
 
 -- of `Idle`
 pub record FieldsIdle (a b : ℕ) (t : Settings) (z : ℤ) (p : ℕ) (h : Bool) (k : ℕ) : Type 0 where
@@ -149,30 +152,31 @@ pub record FieldsIdle (a b : ℕ) (t : Settings) (z : ℤ) (p : ℕ) (h : Bool) 
   pub count : k ≡ 0
 
 -- the last test of the zeros
-pub says_fields_tidy : (g : Graph) (d : List ℤ) (h : Bool) (w : List ℕ) (b : Bool) (k : ℕ) → GraphTidy g
-    → Zeros (pos 0) max_vertices g.n d → cond h g.m 0 ≡ k → Says b (Zeros 0 max_edges k w) → Says b (FieldsTidy g d h w)
-says_fields_tidy g d h w b k t z e =
-    says_both b {Q = FieldsTidy g d h w}
-    (λ y. record { graph = t; multipliers = z; best = subst (λ (j : ℕ). Zeros 0 max_edges j w) (sym e) y })
+pub says_fields_tidy : (g : Graph) (d : List ℤ) (l : List ℕ) (h : Bool) (w : List ℕ) (b : Bool) (k : ℕ) → GraphTidy g
+    → Zeros (pos 0) max_vertices g.n d → Zeros 0 max_vertices g.n l → cond h g.m 0 ≡ k → Says b (Zeros 0 max_edges k w)
+    → Says b (FieldsTidy g d l h w)
+says_fields_tidy g d l h w b k t z a e =
+    says_both b {Q = FieldsTidy g d l h w}
+    (λ y. record { graph = t; multipliers = z; ashore = a; best = subst (λ (j : ℕ). Zeros 0 max_edges j w) (sym e) y })
     (λ y. subst (λ (j : ℕ). Zeros 0 max_edges j w) e y.best)
 
 module _ (s : Search) where
-  pub tidy_fields : Tidy s → FieldsTidy s.graph s.multipliers (has_tour s) s.best
-  tidy_fields t = record { graph = t.graph; multipliers = t.multipliers; best = t.best }
+  pub tidy_fields : Tidy s → FieldsTidy s.graph s.multipliers s.ashore (has_tour s) s.best
+  tidy_fields t = record { graph = t.graph; multipliers = t.multipliers; ashore = t.ashore; best = t.best }
 
-  pub tidy_whole : FieldsTidy s.graph s.multipliers (has_tour s) s.best
-      → StackTidy s.depth s.stack → CarriedTidy s.graph.n s.depth s.carried → Tidy s
-  tidy_whole t l e = record { graph = t.graph; multipliers = t.multipliers; stack = l; carried = e; best = t.best }
+  pub tidy_whole : FieldsTidy s.graph s.multipliers s.ashore (has_tour s) s.best
+      → StackTidy s.depth s.stack → CarriedTidy (active_in s) s.depth s.carried → Tidy s
+  tidy_whole t l e = record { graph = t.graph; multipliers = t.multipliers; stack = l; carried = e; ashore = t.ashore; best = t.best }
 
   pub fits_fields : Fits s → Fitting s
   unfolding opening_in
   fits_fields t = record { opening = t.opening; lifting = t.lifting; upper = t.upper; depth = t.depth; best = t.best; count = t.count }
 
   -- the last test of an open record
-  pub says_fits : (b : Bool) → Fitting s → CarriedFits s.graph.n s.depth s.carried
+  pub says_fits : (b : Bool) → Fitting s → CarriedFits (active_in s) s.depth s.carried → StackStruck s.graph.m (touching_in s) s.depth s.stack
       → Says b (StackFits s.graph.m s.depth s.stack) → Says b (Fits s)
   unfolding opening_in
-  says_fits b t e =
+  says_fits b t e k =
       says_both b {Q = Fits s}
       (λ l. record {
         opening = t.opening;
@@ -180,6 +184,7 @@ module _ (s : Search) where
         upper = t.upper;
         depth = t.depth;
         stack = l;
+        struck = k;
         carried = e;
         best = t.best;
         count = t.count;
@@ -343,11 +348,13 @@ module _ (r : Search) (s : Progress) (h : Holds r s) where
     top_rows : rows_at r.stack (r.depth - 1) ≡ rows_of t.node.marks
     top_rows = rows_top t.node t.rest r.stack (r.depth - 1) (old-words r s h t) (place_of_top r s h t) (top-high r s h t)
 
-    pub top_fits : multipliers_fit (fit r.graph.n (pos 0) (multipliers_at max_vertices r.carried (r.depth - 1))) ≡ true
+    pub top_fits : multipliers_fit (fit (active_size s.opening) (pos 0) (multipliers_at max_vertices r.carried (r.depth - 1))) ≡ true
     top_fits =
         ap multipliers_fit
-        (ap (fit r.graph.n (pos 0)) (carried_top t.node t.rest r.carried (r.depth - 1) (old-carried r s h t) (place_of_top r s h t) (top-high r s h t))
-        ∙ fit_cut max_vertices r.graph.n (pos 0) t.node.multipliers (holds_valid r s h).high (waits r s h t).multipliers.long)
+        (ap (fit (active_size s.opening) (pos 0))
+        (carried_top t.node t.rest r.carried (r.depth - 1) (old-carried r s h t) (place_of_top r s h t) (top-high r s h t))
+        ∙ fit_cut max_vertices (active_size s.opening) (pos 0) t.node.multipliers
+        (omega (arith, active_most s.opening, h.kept.opening.valid.high)) (waits r s h t).multipliers.long)
         ∙ (waits r s h t).multipliers.fits
 
     -- a turn of the run

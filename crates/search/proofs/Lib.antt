@@ -1,4 +1,6 @@
 -- what is refused before all input
 pub mod Closed
+-- the list of the vertices ashore that a record lends
+pub mod Listed
 -- laws that no proof cites today
 mod Further

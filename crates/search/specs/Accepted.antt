@@ -1,4 +1,4 @@
--- An opening that the machine's state may hold is one without a fault: none of 15, 11, 12, 13, 14, 32 applies. So the check of a record need
+-- An opening that the machine's state may hold is one without a fault: none of 15, 11, 12, 13, 14, 32, 35 applies. So the check of a record need
 -- only ask for the fault, and for lifting as it is stored. Assumes nothing.
 use Rattle.std.specs.Prelude.{◌≡◌, refl, true, not, ℕ, zero, suc, ◌≤◌, eqb, length, ℤ}
 use Rattle.std.proofs.Common.{subst, arith, eq-eqb, le-leb}
@@ -7,6 +7,7 @@ use Rattle.integers.specs.Range.{InRange, within_range, range_within}
 use Rattle.graph.specs.Limits.{max_ceiling, max_sweeps, max_step, max_denominator}
 use Rattle.graph.specs.Meaning.{true_valid}
 use Rattle.tree_theory.specs.Inputs.{ceiling_fits, denominator_fits, denominator_fault}
+use Rattle.afloat.specs.Inputs.{fits_fault}
 use Rattle.machine.specs.Machine.{Opening, tidy, held}
 use Rattle.machine.specs.Calls.{fault}
 use Rattle.machine.specs.Trimmed.{Trim, trim_trimmed}
@@ -31,12 +32,14 @@ accepted_fault o a =
     rw (
       true_valid o.graph a.valid,
       eq-eqb (length o.multipliers) o.graph.n a.long,
+      eq-eqb (length o.ashore) o.graph.n a.ashore_long,
       a.multipliers,
       range_fits o.settings.ceiling a.ceiling,
       le-leb o.settings.sweeps max_sweeps a.sweeps,
       le-leb o.settings.step max_step a.step,
+      range_denominator o.settings.denominator a.denominator,
     )
-    (range_denominator o.settings.denominator a.denominator)
+    (fits_fault o.ashore o.graph.n a.ashore_fit)
 
 -- lifting that is 0 or 1 is stored as it is
 tidy_bit : (k : ℕ) → k ≤ 1 → bit (not (eqb k 0)) ≡ k
@@ -50,6 +53,7 @@ unfolding held tidy
 held_same o t b = λ i. record {
   graph = trim_trimmed o.graph t i;
   multipliers = o.multipliers;
+  ashore = o.ashore;
   settings = record {
     ceiling = o.settings.ceiling;
     sweeps = o.settings.sweeps;

@@ -1,8 +1,8 @@
--- The record that an accepted opening leaves, from what its code makes: the trimmed graph, the padded multipliers, and one node in the
--- stack's words. Assumes nothing.
-use Rattle.std.specs.Prelude.{◌≡◌, Bool, true, false, ℕ, length, get_or, ℤ, pos}
+-- The record that an accepted opening leaves, from what its code makes: the trimmed graph, the padded lists, and one node in the stack's words.
+-- Assumes nothing.
+use Rattle.std.specs.Prelude.{◌≡◌, Bool, true, false, ℕ, ◌≤◌, length, get_or, ℤ, pos}
 use Rattle.std.proofs.Math.Path.{refl}
-use Rattle.std.proofs.Common.{sym, ap, ◌∙◌, subst}
+use Rattle.std.proofs.Common.{sym, ap, ◌∙◌, subst, arith}
 use mathlib.Core.List.{List, [], ◌∷◌}
 use mir.Val as words
 use Rattle.lists.specs.Bools.{bit}
@@ -14,9 +14,10 @@ use Rattle.graph.specs.Limits.{max_vertices, max_edges}
 use Rattle.graph.specs.Network.{free, mark_of, network}
 use Rattle.graph.specs.Places.{network_mark}
 use Rattle.graph.specs.Valid.{Valid}
-use Rattle.tree_theory.specs.Multipliers.{Ranged, fit_ranged}
 use Rattle.machine.specs.declared.Settings.{Settings}
-use Rattle.machine.specs.Machine.{Node, node_of, marks_of, Opening, Progress, lifts, trimmed, tidy, held, begin, opening_of}
+use Rattle.afloat.specs.Over.{ashore, ashore_fits, marks_over}
+use Rattle.afloat.specs.Lists.{reduced_list}
+use Rattle.machine.specs.Machine.{Node, node_of, marks_of, Opening, active_network, active_multipliers, Progress, lifts, trimmed, tidy, held, begin, opening_of}
 use Rattle.machine.specs.Outcomes.{no_tour}
 use Rattle.machine.specs.Calls.{fault}
 use Rattle.machine.specs.Trimmed.{valid-trimmed}
@@ -32,7 +33,7 @@ use Rattle.search.specs.declared.opening.Opening as arguments
 
 -- what the arguments of an opening are in the machine
 abbrev pub asked : arguments.Opening → Opening
-asked o = opening_of o.g.now o.multipliers.now o.settings
+asked o = opening_of o.g.now o.multipliers.now o.ashore.now o.settings
 
 -- ---- sizes
 
@@ -46,18 +47,22 @@ module _ (o : Opening) (h : fault o ≡ 0) where
   unfolding held
   begun_trimmed = (accepts-held o h).valid
 
-  pub begun_long : length o.multipliers ≡ (trimmed o.graph).n
+  -- the list is such as an opening accepts
+  pub begun_list : length o.ashore ≡ (trimmed o.graph).n
   unfolding held
-  begun_long = (accepts-held o h).long
+  begun_list = (accepts-held o h).ashore_long
 
-  pub begun_ranged : Ranged o.multipliers
+  pub begun_fits : ashore_fits o.ashore (trimmed o.graph).n ≡ true
   unfolding held
-  begun_ranged = fit_ranged o.multipliers (accepts-held o h).multipliers
+  begun_fits = (accepts-held o h).ashore_fit
+
+  pub begun_few : length o.ashore ≤ max_vertices
+  begun_few = omega (arith, begun_list, begun_trimmed.high)
 
 -- ---- the node
 
 -- the marks of a graph are those of its bytes
-graph-marks : (g : Graph) → marks_in g.m g.mark ≡ marks_of (network g)
+pub graph-marks : (g : Graph) → marks_in g.m g.mark ≡ marks_of (network g)
 unfolding marks_of network marks_in
 graph-marks g =
     fill_is g.m (λ j. mark_of (get_or g.mark j 0)) (row g.m (network g).mark) free (row-size g.m (network g).mark)
@@ -84,14 +89,20 @@ settings_stored t ceiling lifting ec el = λ i. record {
 -- the search that an opening begins, written out
 begins : Opening → Progress
 begins o =
-    record { opening = o; upper = o.settings.ceiling; stack = node_of o.multipliers (marks_of (network o.graph)) ∷ []; incumbent = no_tour; count = 0 }
+    record {
+      opening = o;
+      upper = o.settings.ceiling;
+      stack = node_of (active_multipliers o) (marks_of (active_network o)) ∷ [];
+      incumbent = no_tour;
+      count = 0;
+    }
 
 begins_is : (o : Opening) → begins o ≡ begin o
 unfolding begins begin
 begins_is o = refl
 
 holds : Opening → Opening
-holds o = opening_of (trimmed o.graph) o.multipliers (tidy o.settings)
+holds o = opening_of (trimmed o.graph) o.multipliers o.ashore (tidy o.settings)
 
 holds_is : (o : Opening) → holds o ≡ held o
 unfolding holds held
@@ -99,8 +110,9 @@ holds_is o = refl
 
 module _ (o : Opening) (h : fault o ≡ 0) (g : Graph) (eg : g ≡ trimmed o.graph) (d : List ℤ)
     (ed : d ≡ fit max_vertices (pos 0) o.multipliers) (settings : Settings) (es : settings ≡ tidy o.settings) (ceiling : ℤ)
-    (ec : ceiling ≡ o.settings.ceiling) (x l : List ℕ)
-    (rows : x ≡ rows_of (marks_in g.m g.mark)) (put : PutRows 0 x (replicate stack_size 0) l) (e : List ℤ) (carry : PutCarried 0 d (replicate carried_size (pos 0)) e) where
+    (ec : ceiling ≡ o.settings.ceiling) (x l : List ℕ) (rows : x ≡ rows_of (marks_over (ashore o.ashore) (network g)))
+    (put : PutRows 0 x (replicate stack_size 0) l) (f e : List ℤ) (ef : f ≡ fit max_vertices (pos 0) (reduced_list (ashore o.ashore) g.n o.multipliers))
+    (carry : PutCarried 0 f (replicate carried_size (pos 0)) e) (b : List ℕ) (eb : b ≡ fit max_vertices 0 o.ashore) where
   -- what the code makes
   abbrev pub made : Search
   made =
@@ -114,29 +126,35 @@ module _ (o : Opening) (h : fault o ≡ 0) (g : Graph) (eg : g ≡ trimmed o.gra
         multipliers = d;
         carried = e;
         best = replicate max_edges 0;
+        ashore = b;
         «open» = 1;
         has_best = 0;
       }
 
-  marks : x ≡ rows_of (marks_of (network (trimmed o.graph)))
-  marks = rows ∙ ap rows_of (graph-marks g) ∙ ap (λ (t : Graph). rows_of (marks_of (network t))) eg
+  marks : x ≡ rows_of (marks_of (active_network (holds o)))
+  unfolding holds marks_of marks_over
+  marks = rows ∙ ap (λ (t : Graph). rows_of (marks_over (ashore o.ashore) (network t))) eg
+
+  multipliers : f ≡ fit max_vertices (pos 0) (active_multipliers (holds o))
+  unfolding holds
+  multipliers = ef ∙ ap (λ (t : Graph). fit max_vertices (pos 0) (reduced_list (ashore o.ashore) t.n o.multipliers)) eg
 
   -- the node that it stores
   first : Node
-  first = node_of o.multipliers (marks_of (network (trimmed o.graph)))
+  first = node_of (active_multipliers (holds o)) (marks_of (active_network (holds o)))
 
-  stack : l ≡ stack_words (node_of o.multipliers (marks_of (network (trimmed o.graph))) ∷ [])
+  stack : l ≡ stack_words (node_of (active_multipliers (holds o)) (marks_of (active_network (holds o))) ∷ [])
   unfolding first
   stack =
       pushed 0 (replicate stack_size 0) l [] refl first (cells_empty node_words stack_size rows_places word_at 0 no_bits)
       (subst (λ (y : List ℕ). PutRows 0 y (replicate stack_size 0) l) marks put)
 
-  carries : e ≡ carried_of (node_of o.multipliers (marks_of (network (trimmed o.graph))) ∷ [])
+  carries : e ≡ carried_of (node_of (active_multipliers (holds o)) (marks_of (active_network (holds o))) ∷ [])
   unfolding first
   carries =
       carried_pushed 0 (replicate carried_size (pos 0)) e [] refl first
       (cells_empty max_vertices carried_size carried_places multiplier_at (pos 0) (λ j. refl))
-      (subst (λ (y : List ℤ). PutCarried 0 y (replicate carried_size (pos 0)) e) ed carry)
+      (subst (λ (y : List ℤ). PutCarried 0 y (replicate carried_size (pos 0)) e) multipliers carry)
 
   made_is : made ≡ record_of (begins (holds o))
   unfolding record_of begins holds tidy has_incumbent best_bytes
@@ -150,6 +168,7 @@ module _ (o : Opening) (h : fault o ≡ 0) (g : Graph) (eg : g ≡ trimmed o.gra
     carried = carries i;
     stack = stack i;
     best = replicate max_edges 0;
+    ashore = eb i;
     «open» = 1;
     has_best = 0;
   }

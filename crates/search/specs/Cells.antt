@@ -11,9 +11,10 @@ use Rattle.std.proofs.lemmas.List.{length-replicate}
 use Rattle.lists.specs.Fill.{fit, fill-size, fill-at, fill_is, replicate-at}
 use Rattle.graph.specs.Limits.{max_vertices, max_edges}
 use Rattle.tree_theory.specs.Inputs.{multipliers_fit}
+use Rattle.tree_theory.specs.OneTree.{Edges}
 use Rattle.machine.specs.Machine.{Node, node_of}
 use Rattle.machine.specs.Requireds.{requireds}
-use Rattle.machine.specs.Kept.{Waits, Nodes}
+use Rattle.machine.specs.Kept.{Waits, Nodes, Off, AllOff}
 use Rattle.mark_rows.specs.MarkRows.{node_words, rows_of, marks_in_rows}
 use Rattle.mark_rows.specs.SixWords.{rows_size, marks-length}
 use Rattle.mark_rows.proofs.SixWords.{rows_back}
@@ -204,6 +205,20 @@ module _ (n m : ℕ) (l : List ℕ) (e : List ℤ) where
     },
     nodes_of d (λ p b. h p (omega arith)) (λ p b. k p (omega arith)),
   )
+
+  -- in each node an edge in c is excluded
+  pub nodes_off : (c : Edges) (d : ℕ) → ((p : ℕ) → p < d → Off m c (marks_at m l p)) → AllOff m c (nodes n m l e d)
+  unfolding nodes
+  nodes_off c zero h = tt
+  nodes_off c (suc d) h = (h d (omega arith), nodes_off c d (λ p b. h p (omega arith)))
+
+pub node_off : (m : ℕ) (c : Edges) (st : List Node) → AllOff m c st → (p : ℕ) → p < length st → Off m c (node_at st p).marks
+node_off m c [] w p h = absurd (omega arith)
+node_off m c (x ∷ rest) w p h = go (dec_le (suc p) (length rest)) (node_off m c rest w.1 p)
+  where
+    go : Dec (p < length rest) → (p < length rest → Off m c (node_at rest p).marks) → Off m c (node_at (x ∷ rest) p).marks
+    go (yes b) below = rw (lower_node x rest p (omega arith)) (below b)
+    go (no b) below = let e : p ≡ length rest = omega arith in rw (e, top_node x rest) w.0
 
 -- node p of a stack
 pub node_waits : (n m : ℕ) (st : List Node) → Nodes n m st → (p : ℕ) → p < length st → Waits n m p (node_at st p)

@@ -8,17 +8,21 @@ use Rattle.std.proofs.Math.ListN.{get_or}
 use Rattle.std.proofs.Math.IntN.{ℤ_discrete}
 use Rattle.graph.specs.Limits.{max_vertices, max_edges, max_count}
 use Rattle.graph.specs.declared.Graph.{Graph}
+use Rattle.graph.specs.Network.{Mark, free, required, excluded}
+use Rattle.tree_theory.specs.OneTree.{Edges}
 use Rattle.tree_theory.specs.Inputs.{multipliers_fit, ceiling_fits}
 use Rattle.machine.specs.declared.Settings.{Settings}
+use Rattle.machine.specs.Machine.{Marks}
 use Rattle.machine.specs.Requireds.{requireds}
+use Rattle.machine.specs.Kept.{Off}
 use Rattle.machine.specs.Calls.{fault}
 use Rattle.lists.specs.Bools.{and_no_left}
 use Rattle.lists.specs.Fill.{fill-size, fit-size}
 use Rattle.bits.specs.Rows.{digit, digit_past}
 use Rattle.bits.specs.Pairs.{Clear, Apart}
 use Rattle.mark_rows.specs.MarkRows.{row_words, node_words, required_in, excluded_in, RowsFit}
-use Rattle.search.specs.Record.{max_nodes, stack_size, no_settings, rows_at, marks_at, multipliers_at, is_open, has_tour, opening_in}
-use Rattle.search.specs.Canonical.{Zeros, GraphTidy, used_in, StackTidy, CarriedTidy, Tidy, Idle, NodeFits, StackFits, CarriedFits, Bits, Fits, Flags, Stands, Canonical}
+use Rattle.search.specs.Record.{max_nodes, stack_size, no_settings, rows_at, marks_at, multipliers_at, is_open, has_tour, opening_in, active_in}
+use Rattle.search.specs.Canonical.{Zeros, GraphTidy, used_in, StackTidy, CarriedTidy, Tidy, Idle, NodeFits, StackFits, touching_in, StackStruck, CarriedFits, Bits, Fits, Flags, Stands, Canonical}
 use Rattle.search.specs.declared.Search.{Search}
 
 -- ---- what decides
@@ -127,18 +131,28 @@ no_settings_lem t =
     ))
     (both (ℤ_discrete _ _) (both (ℕ_discrete _ _) (both (ℕ_discrete _ _) (both (ℕ_discrete _ _) (ℕ_discrete _ _)))))
 
+-- a mark that excludes
+is_struck : (x : Mark) → Dec (x ≡ excluded)
+is_struck free = no (λ e. let z : free ≡ excluded = e in cc)
+is_struck required = no (λ e. let z : required ≡ excluded = e in cc)
+is_struck excluded = yes refl
+
+off : (m : ℕ) (c : Edges) (x : Marks) → Dec (Off m c x)
+off m c x =
+    below m (λ k. c (suc k) ≡ true → get_or x k free ≡ excluded) (λ k. implies (bool (c (suc k)) true) (is_struck (get_or x k free)))
+
 module _ (s : Search) where
   tidy : Dec (Tidy s)
   tidy =
       map_dec
       {A = GraphTidy s.graph × (Zeros (pos 0) max_vertices s.graph.n s.multipliers
-      × (StackTidy s.depth s.stack × (CarriedTidy s.graph.n s.depth s.carried
-      × Zeros 0 max_edges (cond (has_tour s) s.graph.m 0) s.best)))}
-      (λ t. record { graph = t.0; multipliers = t.1.0; stack = t.1.1.0; carried = t.1.1.1.0; best = t.1.1.1.1 })
-      (λ t. (t.graph, (t.multipliers, (t.stack, (t.carried, t.best)))))
+      × (StackTidy s.depth s.stack × (CarriedTidy (active_in s) s.depth s.carried
+      × (Zeros 0 max_vertices s.graph.n s.ashore × Zeros 0 max_edges (cond (has_tour s) s.graph.m 0) s.best))))}
+      (λ t. record { graph = t.0; multipliers = t.1.0; stack = t.1.1.0; carried = t.1.1.1.0; ashore = t.1.1.1.1.0; best = t.1.1.1.1.1 })
+      (λ t. (t.graph, (t.multipliers, (t.stack, (t.carried, (t.ashore, t.best))))))
       (both (graph_tidy s.graph) (both (zeros_z max_vertices s.graph.n s.multipliers)
-      (both (zeros stack_size (node_words * s.depth) s.stack) (both (carried_tidy s.graph.n s.depth s.carried)
-      (zeros max_edges (cond (has_tour s) s.graph.m 0) s.best)))))
+      (both (zeros stack_size (node_words * s.depth) s.stack) (both (carried_tidy (active_in s) s.depth s.carried)
+      (both (zeros max_vertices s.graph.n s.ashore) (zeros max_edges (cond (has_tour s) s.graph.m 0) s.best))))))
 
   idle : Dec (Idle s)
   idle =
@@ -165,24 +179,27 @@ module _ (s : Search) where
   fits : Dec (Fits s)
   fits =
       map_dec
-      {A = (fault (opening_in s) ≡ 0) × ((s.settings.lifting ≤ 1) × ((ceiling_fits s.upper ≡ true) × ((s.depth ≤ s.graph.n + 2)
-      × (StackFits s.graph.m s.depth s.stack × (CarriedFits s.graph.n s.depth s.carried
-      × (Bits s.best × (s.count ≤ max_count)))))))}
+      {A = (fault (opening_in s) ≡ 0) × ((s.settings.lifting ≤ 1) × ((ceiling_fits s.upper ≡ true) × ((s.depth ≤ active_in s + 2)
+      × (StackFits s.graph.m s.depth s.stack × (StackStruck s.graph.m (touching_in s) s.depth s.stack
+      × (CarriedFits (active_in s) s.depth s.carried × (Bits s.best × (s.count ≤ max_count))))))))}
       (λ t. record {
         opening = t.0;
         lifting = t.1.0;
         upper = t.1.1.0;
         depth = t.1.1.1.0;
         stack = t.1.1.1.1.0;
-        carried = t.1.1.1.1.1.0;
-        best = t.1.1.1.1.1.1.0;
-        count = t.1.1.1.1.1.1.1;
+        struck = t.1.1.1.1.1.0;
+        carried = t.1.1.1.1.1.1.0;
+        best = t.1.1.1.1.1.1.1.0;
+        count = t.1.1.1.1.1.1.1.1;
       })
-      (λ t. (t.opening, (t.lifting, (t.upper, (t.depth, (t.stack, (t.carried, (t.best, t.count))))))))
+      (λ t. (t.opening, (t.lifting, (t.upper, (t.depth, (t.stack, (t.struck, (t.carried, (t.best, t.count)))))))))
       (both (ℕ_discrete _ _) (both (dec_le _ _) (both (bool _ _) (both (dec_le _ _)
       (both (below s.depth (λ p. NodeFits s.graph.m s.stack p) node_fits)
-      (both (below s.depth (λ p. multipliers_fit (multipliers_at s.graph.n s.carried p) ≡ true) (λ p. bool _ _))
-      (both (below max_edges (λ i. get_or s.best i 0 ≤ 1) (λ i. dec_le _ _)) (dec_le _ _))))))))
+      (both (below s.depth (λ p. Off s.graph.m (touching_in s) (marks_at s.graph.m s.stack p))
+      (λ p. off s.graph.m (touching_in s) (marks_at s.graph.m s.stack p)))
+      (both (below s.depth (λ p. multipliers_fit (multipliers_at (active_in s) s.carried p) ≡ true) (λ p. bool _ _))
+      (both (below max_edges (λ i. get_or s.best i 0 ≤ 1) (λ i. dec_le _ _)) (dec_le _ _)))))))))
 
   stands : (b : Bool) → Dec (Stands b s)
   stands true = fits

@@ -13,17 +13,22 @@ use Rattle.lists.specs.Fill.{fit, fit_at, fit-fill, fit_cut, replicate-at, repli
 use Rattle.graph.specs.Limits.{max_vertices, max_edges}
 use Rattle.graph.specs.declared.Graph.{Graph}
 use Rattle.graph.specs.Edgeless.{edgeless}
+use Rattle.graph.specs.Network.{network}
+use Rattle.thinning.specs.Ranks.{rank}
+use Rattle.afloat.specs.Over.{active, ashore, touched}
 use Rattle.machine.specs.Machine.{Marks, Node, Progress, State, no_search, searching}
+use Rattle.tree_theory.specs.OneTree.{Edges}
 use Rattle.tree_theory.specs.Inputs.{multipliers_fit}
 use Rattle.machine.specs.Requireds.{requireds}
 use Rattle.machine.specs.Calls.{fault}
 use Rattle.machine.specs.Trimmed.{Trim}
-use Rattle.machine.specs.Kept.{Kept, KeptState, depth_most}
+use Rattle.machine.specs.Kept.{active_size, Off, touching, Kept, KeptState, depth_most}
+use Rattle.machine.specs.Active.{active_most}
 use Rattle.mark_rows.specs.MarkRows.{node_words, rows_of, SixWords, RowsFit}
 use Rattle.mark_rows.proofs.SixWords.{rows_fit, rows_again}
-use Rattle.search.specs.Record.{max_nodes, stack_size, carried_size, fresh, node_at, cell, rows_at, marks_at, multipliers_at, nodes, word_at, multiplier_at, stack_words, carried_of, best_of, has_incumbent, best_bytes, is_open, has_tour, opening_in, progress_of, decode, record_of, encode}
-use Rattle.search.specs.Cells.{rows_places, carried_places, cells_at, cells_is, each-place, rows_at-size, rows_at_lem, multipliers_at_lem, multipliers_size, nodes-size, nodes-at, nodes_back, nodes_of, node_waits, node_narrow, rows_there, marks_back, multipliers_back, no_word, carried_past, cell_none}
-use Rattle.search.specs.Canonical.{Zeros, StackTidy, CarriedTidy, used_in, Tidy, Idle, Fits, Flags, Stands, Canonical}
+use Rattle.search.specs.Record.{max_nodes, stack_size, carried_size, fresh, node_at, cell, rows_at, marks_at, multipliers_at, nodes, word_at, multiplier_at, stack_words, carried_of, best_of, has_incumbent, best_bytes, is_open, has_tour, opening_in, active_in, progress_of, decode, record_of, encode}
+use Rattle.search.specs.Cells.{rows_places, carried_places, cells_at, cells_is, each-place, rows_at-size, rows_at_lem, multipliers_at_lem, multipliers_size, nodes-size, nodes-at, nodes_back, nodes_of, nodes_off, node_off, node_waits, node_narrow, rows_there, marks_back, multipliers_back, no_word, carried_past, cell_none}
+use Rattle.search.specs.Canonical.{Zeros, StackTidy, CarriedTidy, used_in, touching_in, Tidy, Idle, Fits, Flags, Stands, Canonical}
 use Rattle.search.specs.Accepted.{fits_range, range_fits, accepted_fault, fault_accepted}
 use Rattle.search.specs.Incumbents.{byte_back, flag_off, best_back, best-bits, best_zeros, best_sized, has_back, bytes_back}
 use Rattle.search.specs.declared.Search.{Search}
@@ -38,19 +43,34 @@ module _ (s : Progress) (h : Kept s) where
   opening_multipliers =
       fit_cut max_vertices s.opening.graph.n (pos 0) s.opening.multipliers h.opening.valid.high h.opening.long
 
+  opening_ashore : fit s.opening.graph.n 0 (fit max_vertices 0 s.opening.ashore) ≡ s.opening.ashore
+  opening_ashore = fit_cut max_vertices s.opening.graph.n 0 s.opening.ashore h.opening.valid.high h.opening.ashore_long
+
   opening_back : opening_in (record_of s) ≡ s.opening
   unfolding opening_in record_of
-  opening_back = λ i. record { graph = s.opening.graph; multipliers = opening_multipliers i; settings = s.opening.settings }
+  opening_back = λ i.
+      record { graph = s.opening.graph; multipliers = opening_multipliers i; ashore = opening_ashore i; settings = s.opening.settings }
+
+  active_back : active_in (record_of s) ≡ active_size s.opening
+  unfolding record_of
+  active_back = ap (λ (l : List ℕ). rank (active (ashore l)) s.opening.graph.n) opening_ashore
+
+  touching_back : touching_in (record_of s) ≡ touching s.opening
+  unfolding record_of
+  touching_back = ap (λ (l : List ℕ). touched (ashore l) (network s.opening.graph)) opening_ashore
+
+  narrow : active_size s.opening ≤ max_vertices
+  narrow = omega (arith, active_most s.opening, h.opening.valid.high)
 
   word : (p : ℕ) → p < length s.stack → (j : ℕ) → j < node_words
       → get_or (stack_words s.stack) (node_words * p + j) 0 ≡ cell word_at s.stack p j
   word p b j c = cells_at node_words stack_size rows_places word_at 0 s.stack p j (omega (arith, depth_most s h)) c
 
-  number : (p : ℕ) → p < length s.stack → (j : ℕ) → j < s.opening.graph.n
+  number : (p : ℕ) → p < length s.stack → (j : ℕ) → j < active_size s.opening
       → get_or (carried_of s.stack) (max_vertices * p + j) (pos 0) ≡ cell multiplier_at s.stack p j
   number p b j c =
       cells_at max_vertices carried_size carried_places multiplier_at (pos 0) s.stack p j (omega (arith, depth_most s h))
-      (omega (arith, h.opening.valid.high))
+      (omega (arith, narrow))
 
   progress_back : progress_of (record_of s) ≡ s
   unfolding progress_of record_of
@@ -58,7 +78,8 @@ module _ (s : Progress) (h : Kept s) where
     opening = opening_back i;
     upper = s.upper;
     stack =
-        nodes_back s.opening.graph.n s.opening.graph.m (stack_words s.stack) (carried_of s.stack) s.stack few h.nodes word number i;
+        (ap (λ (k : ℕ). nodes k s.opening.graph.m (stack_words s.stack) (carried_of s.stack) (length s.stack)) active_back
+        ∙ nodes_back (active_size s.opening) s.opening.graph.m (stack_words s.stack) (carried_of s.stack) s.stack few h.nodes word number) i;
     incumbent =
         (ap (λ (b : Bool). best_of s.opening.graph.m b (best_bytes s.incumbent)) (bit_back (has_incumbent s.incumbent))
         ∙ best_back s.opening.graph.m s.incumbent few h.sized) i;
@@ -70,16 +91,16 @@ module _ (s : Progress) (h : Kept s) where
       each-place node_words stack_size rows_places (λ i. node_words * length s.stack ≤ i → get_or (stack_words s.stack) i 0 ≡ 0)
       (λ p b j c u. cells_at node_words stack_size rows_places word_at 0 s.stack p j b c ∙ no_word s.stack p j (omega arith))
 
-  carried_tidy : CarriedTidy s.opening.graph.n (length s.stack) (carried_of s.stack)
+  carried_tidy : CarriedTidy (active_size s.opening) (length s.stack) (carried_of s.stack)
   carried_tidy p b j d c =
       multipliers_at_lem max_vertices (carried_of s.stack) p j d
       ∙ cells_at max_vertices carried_size carried_places multiplier_at (pos 0) s.stack p j b d
       ∙ go (dec_le (suc p) (length s.stack)) c
     where
-      go : Dec (p < length s.stack) → used_in s.opening.graph.n (length s.stack) p ≤ j → cell multiplier_at s.stack p j ≡ pos 0
+      go : Dec (p < length s.stack) → used_in (active_size s.opening) (length s.stack) p ≤ j → cell multiplier_at s.stack p j ≡ pos 0
       go (yes l) u =
-          let v : s.opening.graph.n ≤ j = (rw (lt-ltb p (length s.stack) l) at u) in
-          carried_past s.stack p j (omega (arith, (node_narrow s.opening.graph.n s.opening.graph.m s.stack h.nodes p).1))
+          let v : active_size s.opening ≤ j = (rw (lt-ltb p (length s.stack) l) at u) in
+          carried_past s.stack p j (omega (arith, (node_narrow (active_size s.opening) s.opening.graph.m s.stack h.nodes p).1))
       go (no l) u = cell_none multiplier_at s.stack p j (omega arith)
 
   record_tidy : Tidy (record_of s)
@@ -95,7 +116,8 @@ module _ (s : Progress) (h : Kept s) where
         λ i b c. fit_at max_vertices (pos 0) s.opening.multipliers i b
         ∙ get_or-eq_default s.opening.multipliers (pos 0) (omega (arith, h.opening.long));
     stack = stack_tidy;
-    carried = carried_tidy;
+    carried = subst (λ (k : ℕ). CarriedTidy k (length s.stack) (carried_of s.stack)) (sym active_back) carried_tidy;
+    ashore = λ i b c. fit_at max_vertices 0 s.opening.ashore i b ∙ get_or-eq_default s.opening.ashore 0 (omega (arith, h.opening.ashore_long));
     best =
         subst (λ (b : Bool). Zeros 0 max_edges (cond b s.opening.graph.m 0) (best_bytes s.incumbent))
         (sym (bit_back (has_incumbent s.incumbent))) (best_zeros s.opening.graph.m s.incumbent h.sized);
@@ -107,16 +129,22 @@ module _ (s : Progress) (h : Kept s) where
     opening = ap fault opening_back ∙ accepted_fault s.opening h.opening;
     lifting = h.opening.lifting;
     upper = range_fits s.upper h.upper;
-    depth = h.depth;
-    stack = λ p b. let f = node_waits s.opening.graph.n s.opening.graph.m s.stack h.nodes p b in (
+    depth = omega (arith, h.depth, active_back);
+    stack = λ p b. let f = node_waits (active_size s.opening) s.opening.graph.m s.stack h.nodes p b in (
       subst (RowsFit s.opening.graph.m) (sym (rows_there (stack_words s.stack) s.stack p (word p b)))
           (rows_fit s.opening.graph.m (node_at s.stack p).marks few f.long),
       subst (λ (x : Marks). p ≤ requireds x)
           (sym (marks_back s.opening.graph.m (stack_words s.stack) s.stack p few f.long (word p b))) f.required,
     );
-    carried = λ p b. let f = node_waits s.opening.graph.n s.opening.graph.m s.stack h.nodes p b in
-        ap multipliers_fit
-        (multipliers_back s.opening.graph.n (carried_of s.stack) s.stack p f.multipliers.long (number p b))
+    struck = λ p b. let f = node_waits (active_size s.opening) s.opening.graph.m s.stack h.nodes p b in
+        subst (λ (c : Edges). Off s.opening.graph.m c (marks_at s.opening.graph.m (stack_words s.stack) p)) (sym touching_back)
+        (subst (Off s.opening.graph.m (touching s.opening))
+        (sym (marks_back s.opening.graph.m (stack_words s.stack) s.stack p few f.long (word p b)))
+        (node_off s.opening.graph.m (touching s.opening) s.stack h.struck p b));
+    carried = λ p b. let f = node_waits (active_size s.opening) s.opening.graph.m s.stack h.nodes p b in
+        ap (λ (k : ℕ). multipliers_fit (multipliers_at k (carried_of s.stack) p)) active_back
+        ∙ ap multipliers_fit
+        (multipliers_back (active_size s.opening) (carried_of s.stack) s.stack p f.multipliers.long (number p b))
         ∙ f.multipliers.fits;
     best = best-bits s.incumbent;
     count = h.count;
@@ -137,6 +165,7 @@ fresh_canonical = record {
     stack = λ i b c. replicate-at {A = ℕ} stack_size 0 i;
     carried = λ p b j d c.
         multipliers_at_lem max_vertices (replicate carried_size (pos 0)) p j d ∙ replicate-at {A = ℤ} carried_size (pos 0) (max_vertices * p + j);
+    ashore = λ i b c. replicate-at {A = ℕ} max_vertices 0 i;
     best = λ i b c. replicate-at {A = ℕ} max_edges 0 i;
   };
   stands = record {
@@ -182,6 +211,7 @@ pub record Sized (r : Search) : Type 0 where
   pub carried : length r.carried ≡ carried_size
   pub stack : length r.stack ≡ stack_size
   pub best : length r.best ≡ max_edges
+  pub ashore : length r.ashore ≡ max_vertices
 
 -- a stack's words have 64 bits
 abbrev pub Words : List ℕ → Type 0
@@ -198,6 +228,7 @@ pub record Typed (r : Search) : Type 0 where
   pub stack : length r.stack ≡ stack_size
   pub words : (i : ℕ) → words.Fits w64 (get_or r.stack i 0)
   pub best : length r.best ≡ max_edges
+  pub ashore : length r.ashore ≡ max_vertices
 
 -- zero up to the end is zero for good
 zeros_past : {A : Type 0} (z : A) (n from : ℕ) (l : List A) → length l ≡ n → Zeros z n from l → (i : ℕ) → from ≤ i → get_or l i z ≡ z
@@ -218,6 +249,7 @@ typed_of r z w = record {
   stack = z.stack;
   words = w;
   best = z.best;
+  ashore = z.ashore;
 }
 
 -- where no search is open, the words are zero
@@ -248,6 +280,7 @@ module _ (r : Search) (t : Typed r) (f : Flags r) (u : Tidy r) where
     stack = replicate_is stack_size 0 r.stack t.stack (λ k b. u.stack k b (omega (arith, d.depth))) i;
     has_best = sym (flag_off r.has_best f.best d.best) i;
     best = replicate_is max_edges 0 r.best t.best (λ k b. u.best k b (rw d.best (omega arith))) i;
+    ashore = replicate_is max_vertices 0 r.ashore t.ashore (λ k b. u.ashore k b (omega (arith, d.n))) i;
     count = sym d.count i;
   }
     where
@@ -283,46 +316,46 @@ module _ (r : Search) (t : Typed r) (f : Flags r) (u : Tidy r) where
     valid_few = (fault_accepted (opening_in r) (unfold opening_in in trim) (unfold opening_in in w.lifting) w.opening).valid.few
 
     cell_back : (p : ℕ) → p < max_nodes → (j : ℕ) → j < node_words
-        → cell word_at (nodes r.graph.n r.graph.m r.stack r.carried r.depth) p j ≡ get_or r.stack (node_words * p + j) 0
+        → cell word_at (nodes (active_in r) r.graph.m r.stack r.carried r.depth) p j ≡ get_or r.stack (node_words * p + j) 0
     unfolding cell marks_at
     cell_back p b j c = go (dec_le (suc p) r.depth)
       where
-        here : p < r.depth → rows_of (node_at (nodes r.graph.n r.graph.m r.stack r.carried r.depth) p).marks ≡ rows_at r.stack p
+        here : p < r.depth → rows_of (node_at (nodes (active_in r) r.graph.m r.stack r.carried r.depth) p).marks ≡ rows_at r.stack p
         here d =
-            ap (λ (x : Node). rows_of x.marks) (nodes-at r.graph.n r.graph.m r.stack r.carried r.depth p d)
+            ap (λ (x : Node). rows_of x.marks) (nodes-at (active_in r) r.graph.m r.stack r.carried r.depth p d)
             ∙ rows_again r.graph.m (rows_at r.stack p) valid_few (six p) (w.stack p d).0
 
         go : Dec (p < r.depth)
-            → word_at (node_at (nodes r.graph.n r.graph.m r.stack r.carried r.depth) p) j ≡ get_or r.stack (node_words * p + j) 0
+            → word_at (node_at (nodes (active_in r) r.graph.m r.stack r.carried r.depth) p) j ≡ get_or r.stack (node_words * p + j) 0
         go (yes d) = ap (λ (l : List ℕ). get_or l j 0) (here d) ∙ rows_at_lem r.stack p j c
         go (no d) =
-            no_word (nodes r.graph.n r.graph.m r.stack r.carried r.depth) p j
-            (omega (arith, nodes-size r.graph.n r.graph.m r.stack r.carried r.depth))
+            no_word (nodes (active_in r) r.graph.m r.stack r.carried r.depth) p j
+            (omega (arith, nodes-size (active_in r) r.graph.m r.stack r.carried r.depth))
             ∙ sym (u.stack (node_words * p + j) (omega arith) (omega arith))
 
     carried_back : (p : ℕ) → p < max_nodes → (j : ℕ) → j < max_vertices
-        → cell multiplier_at (nodes r.graph.n r.graph.m r.stack r.carried r.depth) p j ≡ get_or r.carried (max_vertices * p + j) (pos 0)
+        → cell multiplier_at (nodes (active_in r) r.graph.m r.stack r.carried r.depth) p j ≡ get_or r.carried (max_vertices * p + j) (pos 0)
     unfolding cell
-    carried_back p b j c = go (dec_le (suc p) r.depth) (dec_le (suc j) r.graph.n)
+    carried_back p b j c = go (dec_le (suc p) r.depth) (dec_le (suc j) (active_in r))
       where
-        here : p < r.depth → multiplier_at (node_at (nodes r.graph.n r.graph.m r.stack r.carried r.depth) p) j
-            ≡ get_or (multipliers_at r.graph.n r.carried p) j (pos 0)
-        here d = ap (λ (x : Node). multiplier_at x j) (nodes-at r.graph.n r.graph.m r.stack r.carried r.depth p d)
+        here : p < r.depth → multiplier_at (node_at (nodes (active_in r) r.graph.m r.stack r.carried r.depth) p) j
+            ≡ get_or (multipliers_at (active_in r) r.carried p) j (pos 0)
+        here d = ap (λ (x : Node). multiplier_at x j) (nodes-at (active_in r) r.graph.m r.stack r.carried r.depth p d)
 
-        zero_there : used_in r.graph.n r.depth p ≤ j → get_or r.carried (max_vertices * p + j) (pos 0) ≡ pos 0
+        zero_there : used_in (active_in r) r.depth p ≤ j → get_or r.carried (max_vertices * p + j) (pos 0) ≡ pos 0
         zero_there k = sym (multipliers_at_lem max_vertices r.carried p j c) ∙ u.carried p b j c k
 
-        go : Dec (p < r.depth) → Dec (j < r.graph.n)
-            → multiplier_at (node_at (nodes r.graph.n r.graph.m r.stack r.carried r.depth) p) j
+        go : Dec (p < r.depth) → Dec (j < active_in r)
+            → multiplier_at (node_at (nodes (active_in r) r.graph.m r.stack r.carried r.depth) p) j
             ≡ get_or r.carried (max_vertices * p + j) (pos 0)
-        go (yes d) (yes e) = here d ∙ multipliers_at_lem r.graph.n r.carried p j e
+        go (yes d) (yes e) = here d ∙ multipliers_at_lem (active_in r) r.carried p j e
         go (yes d) (no e) =
             here d
-            ∙ get_or-eq_default (multipliers_at r.graph.n r.carried p) (pos 0) (omega (arith, multipliers_size r.graph.n r.carried p))
+            ∙ get_or-eq_default (multipliers_at (active_in r) r.carried p) (pos 0) (omega (arith, multipliers_size (active_in r) r.carried p))
             ∙ sym (zero_there (rw (lt-ltb p r.depth d) (omega arith)))
         go (no d) e =
-            cell_none multiplier_at (nodes r.graph.n r.graph.m r.stack r.carried r.depth) p j
-            (omega (arith, nodes-size r.graph.n r.graph.m r.stack r.carried r.depth))
+            cell_none multiplier_at (nodes (active_in r) r.graph.m r.stack r.carried r.depth) p j
+            (omega (arith, nodes-size (active_in r) r.graph.m r.stack r.carried r.depth))
             ∙ sym (zero_there (rw (le-ltb p r.depth (omega arith)) (omega arith)))
 
     open_back : is_open r ≡ true → record_of (progress_of r) ≡ r
@@ -335,15 +368,16 @@ module _ (r : Search) (t : Typed r) (f : Flags r) (u : Tidy r) where
           (zeros_past (pos 0) max_vertices r.graph.n r.multipliers t.multipliers u.multipliers) i;
       settings = r.settings;
       upper = r.upper;
-      depth = nodes-size r.graph.n r.graph.m r.stack r.carried r.depth i;
+      depth = nodes-size (active_in r) r.graph.m r.stack r.carried r.depth i;
       carried =
           cells_is max_vertices carried_size carried_places multiplier_at (pos 0)
-          (nodes r.graph.n r.graph.m r.stack r.carried r.depth) r.carried t.carried carried_back i;
+          (nodes (active_in r) r.graph.m r.stack r.carried r.depth) r.carried t.carried carried_back i;
       stack =
-          cells_is node_words stack_size rows_places word_at 0 (nodes r.graph.n r.graph.m r.stack r.carried r.depth) r.stack
+          cells_is node_words stack_size rows_places word_at 0 (nodes (active_in r) r.graph.m r.stack r.carried r.depth) r.stack
           t.stack cell_back i;
       has_best = (ap bit (has_back r.graph.m (has_tour r) r.best) ∙ byte_back r.has_best f.best) i;
       best = bytes_back r.graph.m (has_tour r) r.best t.best w.best u.best i;
+      ashore = fit-fill max_vertices r.graph.n 0 r.ashore t.ashore (zeros_past 0 max_vertices r.graph.n r.ashore t.ashore u.ashore) i;
       count = r.count;
     }
 
@@ -352,9 +386,10 @@ module _ (r : Search) (t : Typed r) (f : Flags r) (u : Tidy r) where
     open_kept = record {
       opening = fault_accepted (opening_in r) (unfold opening_in in trim) (unfold opening_in in w.lifting) w.opening;
       upper = fits_range r.upper w.upper;
-      depth = unfold opening_in in rw (nodes-size r.graph.n r.graph.m r.stack r.carried r.depth) w.depth;
+      depth = unfold opening_in in rw (nodes-size (active_in r) r.graph.m r.stack r.carried r.depth) w.depth;
       nodes =
-          unfold opening_in in nodes_of r.graph.n r.graph.m r.stack r.carried r.depth (λ p b. (w.stack p b).1) (λ p b. w.carried p b);
+          unfold opening_in in nodes_of (active_in r) r.graph.m r.stack r.carried r.depth (λ p b. (w.stack p b).1) (λ p b. w.carried p b);
+      struck = unfold opening_in in nodes_off (active_in r) r.graph.m r.stack r.carried (touching_in r) r.depth (λ p b. w.struck p b);
       sized = unfold opening_in in best_sized r.graph.m (has_tour r) r.best;
       count = w.count;
     }

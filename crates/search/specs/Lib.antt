@@ -20,9 +20,12 @@ pub mod Accepted
 pub mod CheckLoops
 pub mod CheckParts
 pub mod CheckRows
+pub mod CheckStruck
 -- an opening
 pub mod Trimming
 pub mod Begun
+-- the vertices ashore, as code reads them
+pub mod Vertices
 -- a run
 pub mod Runs
 -- the calls, case by case

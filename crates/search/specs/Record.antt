@@ -7,12 +7,14 @@ use Rattle.graph.specs.Limits.{max_vertices, max_edges}
 use Rattle.graph.specs.Edgeless.{edgeless}
 use Rattle.machine.specs.declared.Settings.{Settings}
 use Rattle.machine.specs.Outcomes.{Incumbent, no_tour, a_tour}
+use Rattle.thinning.specs.Ranks.{rank}
+use Rattle.afloat.specs.Over.{active, ashore}
 use Rattle.machine.specs.Machine.{Marks, Node, node_of, Opening, Progress, State, no_search, searching, opening_of}
 use Rattle.mark_rows.specs.MarkRows.{node_words, rows_of, marks_in_rows}
 use Rattle.node.specs.Marks.{bytes_of_tour}
 use Rattle.search.specs.declared.Search.{Search}
 
--- a stack has room for 22 nodes, six words and 20 multipliers each: a search never has more than n + 2 waiting
+-- a stack has room for 22 nodes, six words and 20 multipliers each: at most two more wait than there are active vertices
 abbrev pub max_nodes : ℕ
 max_nodes = 22
 
@@ -39,13 +41,14 @@ fresh =
       multipliers = replicate max_vertices (pos 0);
       carried = replicate carried_size (pos 0);
       best = replicate max_edges 0;
+      ashore = replicate max_vertices 0;
       «open» = 0;
       has_best = 0;
     }
 
--- ---- the stack: node p, counted from 0 at the bottom, has six words from place 6 · p of the stack's words on, and its multiplier of
--- vertex j + 1 at place 20 · p + j of what the nodes carry. Document 02, C-19: "store a node's required legs in one row of 64-bit words and
--- its struck legs in another": three words of the one row, then three of the other (crate mark_rows)
+-- ---- the stack: node p, counted from 0 at the bottom, has six words from place 6 · p of the stack's words on, and its multiplier of the active
+-- vertex that is number j + 1 in their order at place 20 · p + j of what the nodes carry. Document 02, C-19: "store a node's required legs in one row
+-- of 64-bit words and its struck legs in another": three words of the one row, then three of the other (crate mark_rows)
 
 -- the words of node p
 unfoldable pub rows_at : List ℕ → ℕ → List ℕ
@@ -83,7 +86,7 @@ cell v st p j = v (node_at st p) j
 unfoldable pub cells : {A : Type 0} → ℕ → ℕ → (Node → ℕ → A) → List Node → List A
 cells w size v st = fill size (λ i. cell v st (i / w) (i % w))
 
--- word j of its rows, and the multiplier of vertex j + 1; 0 where there is none
+-- word j of its rows, and the multiplier of the active vertex j + 1; 0 where there is none
 abbrev pub word_at : Node → ℕ → ℕ
 word_at x j = get_or (rows_of x.marks) j 0
 
@@ -125,9 +128,17 @@ is_open s = eqb s.«open» 1
 abbrev pub has_tour : Search → Bool
 has_tour s = eqb s.has_best 1
 
+-- the bytes of its list of the vertices ashore: the first n. Document 02, C-20: "a list of n bytes, 1 for ashore, 0 for afloat"
+abbrev pub ashore_in : Search → List ℕ
+ashore_in s = fit s.graph.n 0 s.ashore
+
 -- the opening that a record holds; the multipliers are the first n
 unfoldable pub opening_in : Search → Opening
-opening_in s = opening_of s.graph (fit s.graph.n (pos 0) s.multipliers) s.settings
+opening_in s = opening_of s.graph (fit s.graph.n (pos 0) s.multipliers) (ashore_in s) s.settings
+
+-- the number of its active vertices: a node carries a multiplier for each
+abbrev pub active_in : Search → ℕ
+active_in s = rank (active (ashore (ashore_in s))) s.graph.n
 
 -- the search that an open record holds
 unfoldable pub progress_of : Search → Progress
@@ -135,7 +146,7 @@ progress_of s =
     record {
       opening = opening_in s;
       upper = s.upper;
-      stack = nodes s.graph.n s.graph.m s.stack s.carried s.depth;
+      stack = nodes (active_in s) s.graph.m s.stack s.carried s.depth;
       incumbent = best_of s.graph.m (has_tour s) s.best;
       count = s.count;
     }
@@ -156,6 +167,7 @@ record_of s =
       multipliers = fit max_vertices (pos 0) s.opening.multipliers;
       carried = carried_of s.stack;
       best = best_bytes s.incumbent;
+      ashore = fit max_vertices 0 s.opening.ashore;
       «open» = 1;
       has_best = bit (has_incumbent s.incumbent);
     }

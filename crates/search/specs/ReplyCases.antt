@@ -15,7 +15,7 @@ use Rattle.graph.specs.Network.{network}
 use Rattle.tree_theory.specs.Arrays as onetree
 use Rattle.tours.specs.Tours.{cost}
 use Rattle.machine.specs.Outcomes.{no_tour, a_tour}
-use Rattle.machine.specs.Machine.{Opening, State, no_search, searching, held, begin, cost_of, finished}
+use Rattle.machine.specs.Machine.{Opening, active_network, State, no_search, searching, held, begin, cost_of, finished}
 use Rattle.machine.specs.Calls.{Call, lent_by, accepts, opens, run, tell, show, close, Verdict, going_on, none, best, refused, accepted, tells, fault, opened_by, verdict, tour_bytes, shown_by, step}
 use Rattle.machine.specs.Calls as machine
 use Rattle.machine.specs.Kept.{Kept, KeptState}
@@ -227,12 +227,13 @@ module _ (s : Search) where
           → reply s tell ≡ same (tells (best (cost (network s.graph) (onetree.bytes s.best))) s.count)
       tell_best h k = told (best (cost (network s.graph) (onetree.bytes s.best))) (finds ∙ ap best paid)
         where
-          finds : verdict (progress_of s) ≡ best (cost_of (network (progress_of s).opening.graph) (bits s.graph.m s.best))
+          finds : verdict (progress_of s) ≡ best (cost_of (active_network (progress_of s).opening) (bits s.graph.m s.best))
           finds = unfold verdict in rw (empty h, best_is k)
 
-          paid : cost_of (network (progress_of s).opening.graph) (bits s.graph.m s.best)
+          -- an edge costs what it costs in the graph
+          paid : cost_of (active_network (progress_of s).opening) (bits s.graph.m s.best)
               ≡ cost (network s.graph) (onetree.bytes s.best)
-          paid = unfold cost_of progress_of opening_in in cost-bits s.graph s.best
+          paid = unfold cost_of cost progress_of opening_in in (unfold cost in cost-bits s.graph s.best)
 
       -- show
 
@@ -283,6 +284,10 @@ module _ (s : Search) where
 
           written : fit s.graph.m 0 s.best ≡ tour_bytes (bits s.graph.m s.best)
           written = tour_bytes_lem s.graph.m s.best (λ i b. fitting.best i (omega (arith, few)))
+
+      -- the arguments of an open record are such as an opening accepts
+      pub opening_fits : fault (opening_in s) ≡ 0
+      opening_fits = fitting.opening
 
       -- the graph of an open record keeps to 'Legs and marks'
       pub graph-valid : Valid s.graph

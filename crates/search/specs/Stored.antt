@@ -8,7 +8,7 @@ use Rattle.tree_theory.specs.Inputs.{ceiling_fits}
 use Rattle.machine.specs.Machine.{Opening, lifts, tidy, Progress, State, no_search, searching, held}
 use Rattle.machine.specs.Calls.{fault}
 use Rattle.machine.specs.Trimmed.{Trim, trimmed_trim}
-use Rattle.machine.specs.Kept.{Nodes, Sized, KeptState}
+use Rattle.machine.specs.Kept.{active_size, Nodes, AllOff, touching, Sized, KeptState}
 use Rattle.search.specs.Record.{decode, encode}
 use Rattle.search.specs.Canonical.{Canonical}
 use Rattle.search.specs.Check.{check, check_yes, check_is}
@@ -22,8 +22,10 @@ pub record Fitting (s : Progress) : Type 0 where
   pub accepted : fault s.opening ≡ 0
   pub trim : held s.opening ≡ s.opening
   pub upper : ceiling_fits s.upper ≡ true
-  pub depth : length s.stack ≤ s.opening.graph.n + 2
-  pub nodes : Nodes s.opening.graph.n s.opening.graph.m s.stack
+  pub depth : length s.stack ≤ active_size s.opening + 2
+  pub nodes : Nodes (active_size s.opening) s.opening.graph.m s.stack
+  -- each node excludes what touches a vertex ashore
+  pub struck : AllOff s.opening.graph.m (touching s.opening) s.stack
   pub sized : Sized s.opening.graph.m s.incumbent
   pub count : s.count ≤ max_count
 
@@ -45,6 +47,7 @@ kept_fitting (searching s) h = record {
   upper = range_fits s.upper h.upper;
   depth = h.depth;
   nodes = h.nodes;
+  struck = h.struck;
   sized = h.sized;
   count = h.count;
 }
@@ -64,6 +67,7 @@ fitting_kept (searching s) h = record {
   upper = fits_range s.upper h.upper;
   depth = h.depth;
   nodes = h.nodes;
+  struck = h.struck;
   sized = h.sized;
   count = h.count;
 }

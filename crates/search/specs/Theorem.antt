@@ -6,7 +6,7 @@ use Rattle.std.proofs.Common.{ap, inl, inr}
 use Rattle.lists.specs.Bools.{by_cases}
 use Rattle.lists.specs.Members.{◌∈◌}
 use Rattle.graph.specs.declared.refusals.Refusal.{Refusal}
-use Rattle.graph.specs.declared.refusals.Refusal.TheVariants.{NotOpen, AlreadyOpen, NodesWait, Graph, Length, Multiplier, Ceiling, Settings, Denominator, Record}
+use Rattle.graph.specs.declared.refusals.Refusal.TheVariants.{NotOpen, AlreadyOpen, NodesWait, Graph, Length, Multiplier, Ceiling, Settings, Denominator, Ashore, Record}
 use Rattle.graph.specs.declared.refusals.Refusal.TheVariants.{NoTour as no-tour}
 use Rattle.graph.specs.Refusals.{number, number-injective}
 use Rattle.machine.specs.Outcomes.{Incumbent, no_tour, a_tour}
@@ -121,7 +121,8 @@ known_meant c k (inr (inr (inr (inr (inr (inr (inl e))))))) = numbered c Multipl
 known_meant c k (inr (inr (inr (inr (inr (inr (inr (inl e)))))))) = numbered c Ceiling k e
 known_meant c k (inr (inr (inr (inr (inr (inr (inr (inr (inl e))))))))) = numbered c Settings k e
 known_meant c k (inr (inr (inr (inr (inr (inr (inr (inr (inr (inl e)))))))))) = numbered c Denominator k e
-known_meant c k (inr (inr (inr (inr (inr (inr (inr (inr (inr (inr x10)))))))))) = elim x10 [ ]
+known_meant c k (inr (inr (inr (inr (inr (inr (inr (inr (inr (inr (inl e))))))))))) = numbered c Ashore k e
+known_meant c k (inr (inr (inr (inr (inr (inr (inr (inr (inr (inr (inr x11))))))))))) = elim x11 [ ]
 
 open_meant : (o : Opening) (k : ℕ) → fault o ≡ k → Meant (opens o) (opened_by o k).answer
 unfolding opened_by

@@ -17,6 +17,7 @@ mod opening;
 mod record;
 mod running;
 mod stack;
+mod vertices;
 
 use cost::tour_cost;
 use graph::{Graph, MAX_EDGES, MAX_VERTICES, Refusal, ValidGraph};
@@ -28,20 +29,21 @@ use opening::Opening;
 // As specs/Limits.antt of crate graph has it.
 pub(crate) const MAX_COUNT: u64 = 9_223_372_036_854_775_807;
 
-// Room for the nodes that wait, six words each: a search never has more than n + 2 of them.
+// Room for the nodes that wait, six words each: at most two more than there are active vertices.
 pub const MAX_NODES: usize = MAX_VERTICES + 2;
 
 pub const STACK_SIZE: usize = NODE_WORDS * MAX_NODES;
 
-// And for the multipliers that they carry, one for each vertex.
+// And for the multipliers that they carry, one for each active vertex.
 pub const CARRIED_SIZE: usize = MAX_VERTICES * MAX_NODES;
 
 // The search record. Where a search is open: the arguments of its opening, the upper bound, the count of nodes opened, the stack (node p
 // from the bottom has six words from place NODE_WORDS * p on, three with a bit for each required edge and three with one for each excluded
-// edge, and carries a multiplier for each vertex from place MAX_VERTICES * p on), and the incumbent (1 in, 0 out). The flags `open` and
-// `has_best` are bytes, 1 yes and 0 no. The fields stand by width, so that no byte lies between them. docs/RECORD.md states the check that
-// every call makes of it. Bytes for flags, flat arrays and a depth beside them, since include/planner.h and docs/RECORD.md declare them so, field by
-// field: the code reads the incumbent as an `Option` (`incumbent`), and a node by `get` and `put` alone.
+// edge, and carries a multiplier for each active vertex, in their order, from place MAX_VERTICES * p on), the incumbent (1 in, 0 out), and the list of
+// the vertices ashore (1 ashore, 0 afloat). The flags `open` and `has_best` are bytes, 1 yes and 0 no. The fields stand by width, so that no byte lies
+// between them. docs/RECORD.md states the check that every call makes of it. Bytes for flags, flat arrays and a depth beside them, since
+// include/planner.h and docs/RECORD.md declare them so, field by field: the code reads the incumbent as an `Option` (`incumbent`), and a node by `get`
+// and `put` alone.
 #[repr(C)]
 #[derive(Clone, Copy, Debug, PartialEq, Eq)]
 pub struct Search {
@@ -49,11 +51,12 @@ pub struct Search {
     pub upper: i64,
     pub count: u64,
     pub stack: [u64; STACK_SIZE],
-    pub depth: u32,
+    pub depth: u64,
     pub graph: Graph,
     pub multipliers: [i32; MAX_VERTICES],
     pub carried: [i32; CARRIED_SIZE],
     pub best: [u8; MAX_EDGES],
+    pub ashore: [u8; MAX_VERTICES],
     pub open: u8,
     pub has_best: u8,
 }
@@ -102,6 +105,7 @@ impl Search {
             multipliers: [0; MAX_VERTICES],
             carried: [0; CARRIED_SIZE],
             best: [0; MAX_EDGES],
+            ashore: [0; MAX_VERTICES],
             open: 0,
             has_best: 0,
         }
@@ -133,22 +137,24 @@ impl Search {
     }
 
     // Opening.
-    // Ruled out: a record that holds a byte of the graph past its edges; an upper bound that is not the ceiling; a part of a refused opening
-    // in the record.
+    // Ruled out: a record that holds a byte of the graph past its edges; an upper bound that is not the ceiling; a first node that leaves in an edge that
+    // touches a vertex ashore; a part of a refused opening in the record.
     pub fn open(
         &mut self,
         g: &Graph,
         multipliers: &[i32],
+        ashore: &[u8],
         settings: Settings,
     ) -> Result<(), Refusal>
-        ensures answer { means result ≡ (reply self.old (Calls.opens (opening_of g.now multipliers.now settings))).answer }
-        ensures left { self.new ≡ (reply self.old (Calls.opens (opening_of g.now multipliers.now settings))).search }
+        ensures answer { means result ≡ (reply self.old (Calls.opens (opening_of g.now multipliers.now ashore.now settings))).answer }
+        ensures left { self.new ≡ (reply self.old (Calls.opens (opening_of g.now multipliers.now ashore.now settings))).search }
     {
         Refusal::Record.unless(self.is_sound())?;
         Refusal::AlreadyOpen.unless(self.open != 1)?;
         let asked = Opening {
             g,
             multipliers,
+            ashore,
             settings,
         };
         asked.fault()?;
@@ -156,7 +162,8 @@ impl Search {
         Ok(())
     }
 
-    // Running. The record is worked on where it lies: nothing of it is copied for the call, and for a node only its rows and multipliers.
+    // Running. The record is worked on where it lies: nothing of it is copied for the call, and for a node only its rows and multipliers. The graph of the
+    // active vertices is made once for the call, and only where some are inactive.
     // Ruled out: a node opened beyond the budget; a count of nodes that were not opened; a node that is opened with marks or multipliers made
     // below another; a record changed by a refusal.
     pub fn run(&mut self, budget: u64) -> Result<Progress, Refusal>
@@ -167,11 +174,12 @@ impl Search {
         // once for all nodes: each overwrites what the one before left
         let mut node = Workspace::blank();
         let mut lists = PassLists::blank();
+        let afloat = self.active_graph();
         for _ in 0..budget {
             if self.depth == 0 || self.count >= MAX_COUNT {
                 break;
             }
-            self.open_top(&mut node, &mut lists);
+            self.open_top(&afloat, &mut node, &mut lists);
         }
         if self.depth == 0 {
             return Ok(Progress::Finished(self.count));

@@ -1,26 +1,29 @@
 // The record's own check, refusal 24: specs/Canonical.antt says what it asks, docs/RECORD.md says it in words.
-ghost use Rattle.std.specs.Prelude.{◌≡◌, ◌-◌, ◌*◌, ◌^◌, ◌<◌, ◌≤◌, true, eqb, pos, bit_and};
+ghost use Rattle.std.specs.Prelude.{◌≡◌, ◌-◌, ◌*◌, ◌^◌, ◌<◌, ◌≤◌, ℕ, true, eqb, pos, bit_and};
 ghost use Rattle.lists.specs.Bools.{Says};
 ghost use Rattle.graph.specs.Limits.{max_vertices, max_edges};
 ghost use Rattle.machine.specs.Calls.{fault};
 ghost use Rattle.bits.specs.Rows.{row_ones};
 ghost use Rattle.mark_rows.specs.MarkRows.{row_words, required_in};
 ghost use Rattle.mark_rows.specs.SixWords.{WordsFit};
-ghost use Rattle.search.specs.Record.{max_nodes, multipliers_at, opening_in};
+ghost use Rattle.search.specs.Record.{max_nodes, rows_at, multipliers_at, opening_in, active_in};
 ghost use Rattle.tree_theory.specs.Inputs.{multipliers_fit};
-ghost use Rattle.search.specs.Canonical.{Zeros, GraphTidy, CarriedTidy, NodeFits, StackFits, CarriedFits, Bits, Tidy, Fits, Idle};
+ghost use Rattle.search.specs.Canonical.{Zeros, GraphTidy, CarriedTidy, NodeFits, StackFits, touching_in, StackStruck, CarriedFits, Bits, Tidy, Fits, Idle};
 ghost use Rattle.search.specs.Inverse.{Words, GraphSized, Sized, Typed};
 ghost use Rattle.search.specs.Check.{check};
+ghost use Rattle.search.specs.CheckStruck.{Covers};
 
 use crate::opening::Opening;
 use crate::stack::get;
+use crate::vertices::struck_rows;
 use crate::{CARRIED_SIZE, MAX_COUNT, MAX_NODES, STACK_SIZE, Search};
 use graph::{Graph, MAX_EDGES, MAX_VERTICES};
 use machine::Settings;
 use node::{NODE_WORDS, ROW_WORDS, WORD_BITS};
+use reduction::Afloat;
 
 // A number that may be 0. std's `PartialEq` and `Default` promise less of a type that is not known: what equals its default need not be it.
-trait Number: Copy {
+pub(crate) trait Number: Copy {
     ghost zero: { Self };
 
     fn is_zero(self) -> bool
@@ -53,7 +56,7 @@ impl Number for i32 {
 
 // Is every place from `from` on zero? By `&`: a loop with no way out in the middle takes many places at a time, where `all` was tried and takes up
 // to ten times as long. A record that is not yet checked may say a `from` past the last place.
-fn zero_from<T: Number, const N: usize>(a: &[T; N], from: usize) -> bool
+pub(crate) fn zero_from<T: Number, const N: usize>(a: &[T; N], from: usize) -> bool
     ensures { Says result (Zeros T.zero N from a.now) }
 {
     a[..][from.min(N)..]
@@ -153,6 +156,31 @@ fn stack_fits(stack: &[u64; STACK_SIZE], m: usize, depth: usize) -> bool
     (0..depth).all(|p| node_fits(stack, m, p))
 }
 
+// Has the excluded row of a node every bit of another's?
+fn excludes(rows: &[u64; NODE_WORDS], struck: &[u64; NODE_WORDS]) -> bool
+    ensures { Says result (Covers rows.now struck.now) }
+{
+    (0..ROW_WORDS).all(|i| rows[ROW_WORDS + i] & struck[ROW_WORDS + i] == struck[ROW_WORDS + i])
+}
+
+// Has that of node p?
+fn node_excludes(stack: &[u64; STACK_SIZE], struck: &[u64; NODE_WORDS], p: usize) -> bool
+    requires { p < max_nodes }
+    ensures { Says result (Covers (rows_at stack.now p) struck.now) }
+{
+    let rows: [u64; NODE_WORDS] = get(stack, p);
+    excludes(&rows, struck)
+}
+
+// Has that of each node of the stack?
+fn nodes_exclude(stack: &[u64; STACK_SIZE], struck: &[u64; NODE_WORDS], depth: usize) -> bool
+    requires { depth ≤ max_nodes }
+    ensures covers { Says result ((p : ℕ) → p < depth → Covers (rows_at stack.now p) struck.now) }
+    ensures words { Words stack.now }
+{
+    (0..depth).all(|p| node_excludes(stack, struck, p))
+}
+
 // Are the n multipliers that node p carries such as an opening accepts?
 fn multipliers_fit_at(carried: &[i32; CARRIED_SIZE], n: usize, p: usize) -> bool
     requires { (n ≤ max_vertices) × (p < max_nodes) }
@@ -171,8 +199,9 @@ fn carried_fits(carried: &[i32; CARRIED_SIZE], n: usize, depth: usize) -> bool
 }
 
 impl Search {
-    // Zero at every place that is not used: past the edges, the vertices and the nodes, and where there is no incumbent.
-    fn is_tidy(&self) -> bool
+    // Zero at every place that is not used: past the edges, the vertices, the active vertices and the nodes, and where there is no incumbent.
+    fn is_tidy(&self, active: usize) -> bool
+        requires { active ≡ active_in self.now }
         ensures tidy { Says result (Tidy self.now) }
         ensures sized { Sized self.now }
     {
@@ -182,9 +211,10 @@ impl Search {
         let shown = if self.has_best == 1 { m } else { 0 };
         graph_tidy(&self.graph)
             && zero_from(&self.multipliers, n)
-            && zero_from(&self.stack, NODE_WORDS * depth)
-            && carried_tidy(&self.carried, n, depth)
+            && zero_from(&self.stack, NODE_WORDS * depth.min(MAX_NODES))
+            && carried_tidy(&self.carried, active, depth)
             && zero_from(&self.best, shown)
+            && zero_from(&self.ashore, n)
     }
 
     // With `is_tidy`, the fresh record: by fields, since `*self == Search::fresh()` would make a record and read each array again, as `is_tidy` just
@@ -210,31 +240,56 @@ impl Search {
             && Opening {
                 g: &self.graph,
                 multipliers: &self.multipliers[..n],
+                ashore: &self.ashore[..n],
                 settings: self.settings,
             }
             .fault()
             .is_ok()
     }
 
-    // Are the fields of an open record such as a search has them? The last two tests require what those before say, which one chain of `&&` was
+    // Does each node of the stack exclude what touches a vertex ashore? Word by word, against the first node of the graph without its marks, which
+    // excludes these edges and no others.
+    fn is_struck(&self) -> bool
+        requires { (fault (opening_in self.now) ≡ 0) × (self.now.depth ≤ max_nodes) }
+        ensures { Says result (StackStruck self.now.graph.m (touching_in self.now) self.now.depth self.now.stack) }
+    {
+        if zero_from(&self.ashore, 0) {
+            return true;
+        }
+        let n = usize::from(self.graph.n);
+        let unmarked = Graph {
+            mark: [0; MAX_EDGES],
+            ..self.graph
+        };
+        let afloat = Afloat {
+            graph: &unmarked,
+            ashore: &self.ashore[..n],
+        };
+        nodes_exclude(&self.stack, &struck_rows(&afloat), self.depth as usize)
+    }
+
+    // Are the fields of an open record such as a search has them? The last three tests require what those before say, which one chain of `&&` was
     // tried for and does not hand on: each fact stands behind a join.
-    fn fits(&self) -> bool
+    fn fits(&self, active: usize) -> bool
+        requires { active ≡ active_in self.now }
         ensures fits { Says result (Fits self.now) }
         ensures words { result ≡ true → Words self.now.stack }
     {
-        let n = usize::from(self.graph.n);
         let m = usize::from(self.graph.m);
         let depth = self.depth as usize;
         if !self.opening_fits()
             || self.settings.lifting > 1
             || !onetree::ceiling_fits(self.upper)
-            || depth > n + 2
+            || depth > active + 2
             || !bits(&self.best)
             || self.count > MAX_COUNT
         {
             return false;
         }
-        carried_fits(&self.carried, n, depth) && stack_fits(&self.stack, m, depth)
+        if !carried_fits(&self.carried, active, depth) || !stack_fits(&self.stack, m, depth) {
+            return false;
+        }
+        self.is_struck()
     }
 
     // Does the record stand for a state of the machine? A flag is 0 or 1, and no other byte. One chain of `&&` was tried: as in `fits`.
@@ -242,11 +297,12 @@ impl Search {
         ensures checked { result ≡ check self.now }
         ensures typed { check self.now ≡ true → Typed self.now }
     {
-        if self.open > 1 || self.has_best > 1 || !self.is_tidy() {
+        let active = self.active();
+        if self.open > 1 || self.has_best > 1 || !self.is_tidy(active) {
             return false;
         }
         if self.open == 1 {
-            return self.fits();
+            return self.fits(active);
         }
         self.is_idle()
     }

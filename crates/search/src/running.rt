@@ -2,19 +2,27 @@
 ghost use Rattle.std.specs.Prelude.{◌≡◌};
 ghost use Rattle.machine.specs.Machine.{Progress, open_top};
 ghost use Rattle.search.specs.Record.{record_of};
+ghost use Rattle.search.specs.Runs.ActiveGraph.{GraphIs};
 ghost use Rattle.search.specs.Runs.TopNode.{Holds, Top};
 
 use crate::Search;
 use crate::stack::{get, put};
+use graph::Graph;
 use machine::Settings;
 use node::{Fate, Workspace};
 use onetree::PassLists;
 
 impl Search {
-    // The top node is opened, and what it comes to stands in its place. The graph's own marks count for nothing here: a node has its own.
-    pub(crate) fn open_top(&mut self, node: &mut Workspace, lists: &mut PassLists)
-        requires { (s : Progress) × Holds self.old s × Top s }
-        ensures { (s : Progress) → Holds self.old s → Top s → self.new ≡ record_of (open_top s s.stack) }
+    // The top node is opened, and what it comes to stands in its place. `afloat` is the graph of the active vertices, or none where the record's own is. The
+    // graph's own marks count for nothing here: a node has its own.
+    pub(crate) fn open_top(
+        &mut self,
+        afloat: &Option<Graph>,
+        node: &mut Workspace,
+        lists: &mut PassLists,
+    )
+        requires { (s : Progress) × Holds self.old s × Top s × GraphIs s.opening afloat.now }
+        ensures { (s : Progress) → Holds self.old s → Top s → GraphIs s.opening afloat.now → self.new ≡ record_of (open_top s s.stack) }
     {
         let p = self.depth as usize - 1;
         let multipliers = get(&self.carried, p);
@@ -24,7 +32,8 @@ impl Search {
         };
         node.rows = get(&self.stack, p);
         // No fault comes here: what a search holds fits an opening.
-        let fate = node::open(&self.graph, &multipliers, settings, node, lists).unwrap();
+        let g = afloat.as_ref().unwrap_or(&self.graph);
+        let fate = node::open(g, &multipliers, settings, node, lists).unwrap();
         put(&mut self.stack, p, &node.rows);
         put(&mut self.carried, p, &node.last);
         self.depth -= 1;

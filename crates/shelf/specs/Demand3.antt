@@ -1,7 +1,8 @@
 -- DEMAND 3, over whole lists of opening, run, tell, show, close, save and back calls from fresh records, refused calls included: the statement,
 -- once, for every way in which an answer of the machine can be said (`f`). Nothing is proved here. Two ways are: this crate's `demand_3` has what
 -- the answers mean (`means` of crate search and the like), crate ffi's `demand_3_exported` the numbers. What it speaks of is defined in tours'
--- Tours (a tour), machine's Machine, Calls and Demand3 (the machine, its calls, what a finished search says), shelf_theory's Shelves (saved states) and ShelfRecords (the calls on two records).
+-- Tours (a tour), afloat's Over (one over the vertices afloat), machine's Machine, Calls and Demand3 (the machine, its calls, what a finished search
+-- says), shelf_theory's Shelves (saved states) and ShelfRecords (the calls on two records).
 use Rattle.std.specs.Prelude.{◌≡◌, true, false, List, ℕ, suc, ◌-◌, ◌^◌, ◌≤◌}
 use Rattle.graph.specs.Network.{network}
 use Rattle.tours.specs.OneNetwork.{OneNetwork}
@@ -66,9 +67,10 @@ pub record Demand3 {A : Type 0} (f : machine.Answer → A) : Type 0 where
   pub equal : (cs : List AnyCall) → AsTheMachine (calls_said f) cs
   -- "Take two such lists that each leave a finished hunt, both of one sea (its legs in any order) and opened with one ceiling, whatever
   -- dues, sweeps and steps the two have. Tell gives both the same verdict: .."; so whatever denominators (document 02, C-17), and with lifting or
-  -- without (C-13). C-23: "With legs numbered alike, finished hunts now agree on the round as well as its cost."
+  -- without (C-13). C-23: "With legs numbered alike, finished hunts now agree on the round as well as its cost." C-20: "two hunts agree when their
+  -- lists are the same"
   pub agree : (cs ds : List AnyCall) (o p : Opening) → LeavesFinished cs o → LeavesFinished ds p
-      → OneNetwork (network o.graph) (network p.graph) → o.settings.ceiling ≡ p.settings.ceiling
+      → OneNetwork (network o.graph) (network p.graph) → o.ashore ≡ p.ashore → o.settings.ceiling ≡ p.settings.ceiling
       → (v : Verdict) × SaysAfter f cs o v × SaysAfter f ds p v
       × (NumberedAlike (network o.graph) (network p.graph) → ShowAlikeAfter f cs ds)
   -- "A hunt whose accepted run calls allow at least 2^(k+1) − 1 nodes in all, k legs being free at the start and k at most 62, is
@@ -89,5 +91,5 @@ TellsAfter f cs v = (count : ℕ) × ((calls_said f).answer (record_of (calls_sa
 abbrev pub LiftedAgrees : {A : Type 0} → (machine.Answer → A) → Type 0
 LiftedAgrees f = (lifted unlifted : List AnyCall) (o p : Opening) → LeavesFinished lifted o → LeavesFinished unlifted p
     → lifts o.settings ≡ true → lifts p.settings ≡ false
-    → OneNetwork (network o.graph) (network p.graph) → o.settings.ceiling ≡ p.settings.ceiling
+    → OneNetwork (network o.graph) (network p.graph) → o.ashore ≡ p.ashore → o.settings.ceiling ≡ p.settings.ceiling
     → (v : Verdict) × TellsAfter f lifted v × TellsAfter f unlifted v

@@ -8,7 +8,7 @@
 //!
 //! let graph = Graph::from_edges(3, &[Edge::free(1, 2, 4), Edge::free(1, 3, 3), Edge::free(2, 3, 2)]);
 //! let mut search = Search::fresh();
-//! search.open(&graph, &[0; 3], Settings { ceiling: 100, sweeps: 0, step: 0, denominator: 1, lifting: 0 })?;
+//! search.open(&graph, &[0; 3], &[0; 3], Settings { ceiling: 100, sweeps: 0, step: 0, denominator: 1, lifting: 0 })?;
 //! search.run(1_000_000)?;
 //! assert_eq!(search.tell()?.verdict, Verdict::Best(9));
 //! assert_eq!(search.show()?, [true; 3]);
@@ -58,6 +58,7 @@ impl Refusal {
             32 => "the denominator is not 1 to 1,000",
             33 => "a name that is not 1 to 8",
             34 => "nothing is saved under the name",
+            35 => "vertices ashore: each byte is 0 or 1, vertex 1 is afloat, and at least three vertices are",
             36 => "edges that are not a tour of all vertices in sailing order from vertex 1",
             37 => "a student number or a spread out of range",
             38 => "a window that is not 1 to 32",
@@ -224,7 +225,7 @@ pub enum Ruling {
     Bar,
     /// It was required before.
     Required,
-    /// It was excluded before.
+    /// It was excluded before, or touches a vertex ashore.
     Excluded,
 }
 
@@ -249,25 +250,41 @@ pub enum Ruled {
     Within { bound: i64, rulings: Vec<Ruling> },
 }
 
-/// The least 1-tree of a graph under n multipliers; 15, 11, 12, 32. Multipliers and bounds count in parts of a cost's unit, `denominator` of them to
-/// the unit (1 to 1,000; with 1 they count as costs do).
+/// The least 1-tree of a graph under n multipliers; 15, 11, 12, 32, 35. Multipliers and bounds count in parts of a cost's unit, `denominator` of them
+/// to the unit (1 to 1,000; with 1 they count as costs do).
+///
+/// `ashore`, here and below, has a byte for each vertex, 1 ashore and 0 afloat. Trees and tours are over the vertices afloat: vertex 1 and at least
+/// two others. An edge that touches another counts as excluded, whatever its mark, and such a vertex's multiplier as 0.
 ///
 /// ```
 /// use planner::{tree, Edge, Graph, Tree};
 ///
 /// let graph = Graph::from_edges(3, &[Edge::free(1, 2, 4), Edge::free(1, 3, 3), Edge::free(2, 3, 2)]);
-/// assert_eq!(tree(&graph, &[0; 3], 1)?, Tree::Found { bound: 9, edges: vec![true; 3] });
-/// assert_eq!(tree(&graph, &[0; 3], 10)?, Tree::Found { bound: 90, edges: vec![true; 3] });
+/// assert_eq!(tree(&graph, &[0; 3], &[0; 3], 1)?, Tree::Found { bound: 9, edges: vec![true; 3] });
+/// assert_eq!(tree(&graph, &[0; 3], &[0; 3], 10)?, Tree::Found { bound: 90, edges: vec![true; 3] });
+/// assert_eq!(tree(&graph, &[0; 3], &[0, 0, 1], 1).unwrap_err().number, 35);
+///
+/// let costs = [(1, 2, 4), (1, 3, 3), (1, 4, 5), (2, 3, 2), (2, 4, 6), (3, 4, 1)];
+/// let sea = Graph::from_edges(4, &costs.map(|(a, b, cost)| Edge::free(a, b, cost)));
+/// let edges = vec![true, true, false, true, false, false];
+/// assert_eq!(tree(&sea, &[0; 4], &[0, 0, 0, 1], 1)?, Tree::Found { bound: 9, edges });
 /// # Ok::<(), planner::Refusal>(())
 /// ```
-pub fn tree(graph: &Graph, multipliers: &[i32], denominator: u64) -> Result<Tree, Refusal> {
+pub fn tree(
+    graph: &Graph,
+    multipliers: &[i32],
+    ashore: &[u8],
+    denominator: u64,
+) -> Result<Tree, Refusal> {
     let mut out = vec![0; graph.places()];
-    // SAFETY: `multipliers` and `out` have the lengths that are passed with them; only `out` is written, and it is borrowed here alone.
+    // SAFETY: the lists have the lengths that are passed with them; only `out` is written, and it is borrowed here alone.
     let said = unsafe {
         raw::planner_tree(
             *graph,
             multipliers.as_ptr(),
             multipliers.len(),
+            ashore.as_ptr(),
+            ashore.len(),
             denominator,
             out.as_mut_ptr(),
             out.len(),
@@ -276,10 +293,12 @@ pub fn tree(graph: &Graph, multipliers: &[i32], denominator: u64) -> Result<Tree
     Tree::of(said, &out)
 }
 
-/// The least 1-tree of a copy of the graph in which a free edge, numbered from 1, is required or excluded; 15, 11, 12, 32, 30, 31.
+/// The least 1-tree of a copy of the graph in which a free edge, numbered from 1, is required or excluded; 15, 11, 12, 32, 35, 30, 31. What counts as
+/// free is the edge's mark in the graph, even where it touches a vertex ashore.
 pub fn preview(
     graph: &Graph,
     multipliers: &[i32],
+    ashore: &[u8],
     denominator: u64,
     edge: usize,
     mark: Mark,
@@ -291,6 +310,8 @@ pub fn preview(
             *graph,
             multipliers.as_ptr(),
             multipliers.len(),
+            ashore.as_ptr(),
+            ashore.len(),
             denominator,
             edge,
             mark as u32,
@@ -345,7 +366,7 @@ pub fn simulate(
 }
 
 /// A search for each pair of sweeps and step, 1 to 16 of them, each with the whole budget: the count of nodes with which it finishes, or none
-/// if it is still going on; 15, 11, 12, 13, 14, 32.
+/// if it is still going on; 15, 11, 12, 13, 14, 32, 35.
 ///
 /// ```
 /// use planner::{compare, Edge, Graph, Terms};
@@ -353,13 +374,14 @@ pub fn simulate(
 /// let costs = [(1, 2, 4), (1, 3, 3), (1, 4, 5), (2, 3, 2), (2, 4, 6), (3, 4, 1)];
 /// let graph = Graph::from_edges(4, &costs.map(|(a, b, cost)| Edge::free(a, b, cost)));
 /// let terms = Terms { ceiling: 12, budget: 1_000, denominator: 1, lifting: 0 };
-/// assert_eq!(compare(&graph, &[0; 4], terms, &[(0, 0), (2, 1)])?, [Some(5), Some(1)]);
-/// assert_eq!(compare(&graph, &[0; 4], Terms { lifting: 1, ..terms }, &[(0, 0)])?, [Some(3)]);
+/// assert_eq!(compare(&graph, &[0; 4], &[0; 4], terms, &[(0, 0), (2, 1)])?, [Some(5), Some(1)]);
+/// assert_eq!(compare(&graph, &[0; 4], &[0; 4], Terms { lifting: 1, ..terms }, &[(0, 0)])?, [Some(3)]);
 /// # Ok::<(), planner::Refusal>(())
 /// ```
 pub fn compare(
     graph: &Graph,
     multipliers: &[i32],
+    ashore: &[u8],
     terms: Terms,
     pairs: &[(u32, u32)],
 ) -> Result<Vec<Option<u64>>, Refusal> {
@@ -372,6 +394,8 @@ pub fn compare(
             *graph,
             multipliers.as_ptr(),
             multipliers.len(),
+            ashore.as_ptr(),
+            ashore.len(),
             terms,
             sweeps.as_ptr(),
             sweeps.len(),
@@ -385,10 +409,12 @@ pub fn compare(
     Ok(report.into_iter().map(|k| (k != 0).then_some(k)).collect())
 }
 
-/// What a ceiling rules for each edge, under n multipliers; 15, 11, 12, 13, 32. The ceiling counts as costs do, whatever the denominator.
+/// What a ceiling rules for each edge, under n multipliers; 15, 11, 12, 13, 32, 35. The ceiling counts as costs do, whatever the denominator.
+/// An edge that touches a vertex ashore is excluded before.
 pub fn rule(
     graph: &Graph,
     multipliers: &[i32],
+    ashore: &[u8],
     ceiling: i64,
     denominator: u64,
 ) -> Result<Ruled, Refusal> {
@@ -399,6 +425,8 @@ pub fn rule(
             *graph,
             multipliers.as_ptr(),
             multipliers.len(),
+            ashore.as_ptr(),
+            ashore.len(),
             ceiling,
             denominator,
             out.as_mut_ptr(),
@@ -485,7 +513,7 @@ impl Told {
     }
 }
 
-/// A search for the cheapest tour. It owns its record, 4,472 bytes on the heap.
+/// A search for the cheapest tour. It owns its record, 4,496 bytes on the heap.
 #[derive(Clone, Debug)]
 pub struct Search {
     record: Box<Record>,
@@ -515,20 +543,23 @@ impl Search {
         &self.record
     }
 
-    /// Opens a search of a graph with n multipliers; 24, 21, 15, 11, 12, 13, 14, 32.
+    /// Opens a search of a graph with n multipliers and a byte for each vertex, 1 ashore and 0 afloat; 24, 21, 15, 11, 12, 13, 14, 32, 35.
     pub fn open(
         &mut self,
         graph: &Graph,
         multipliers: &[i32],
+        ashore: &[u8],
         settings: Settings,
     ) -> Result<(), Refusal> {
-        // SAFETY: the record is borrowed here alone; `multipliers` has the length that is passed with it and is only read.
+        // SAFETY: the record is borrowed here alone; the lists have the lengths that are passed with them and are only read.
         let said = unsafe {
             raw::planner_open(
                 &mut *self.record,
                 *graph,
                 multipliers.as_ptr(),
                 multipliers.len(),
+                ashore.as_ptr(),
+                ashore.len(),
                 settings,
             )
         };
@@ -622,7 +653,7 @@ impl Shelf {
 ///
 /// let graph = Graph::from_edges(3, &[Edge::free(1, 2, 4), Edge::free(1, 3, 3), Edge::free(2, 3, 2)]);
 /// let mut class = Dispatcher::fresh();
-/// let place = class.add(&graph, &[0; 3], Settings { ceiling: 100, sweeps: 0, step: 0, denominator: 1, lifting: 0 })?;
+/// let place = class.add(&graph, &[0; 3], &[0; 3], Settings { ceiling: 100, sweeps: 0, step: 0, denominator: 1, lifting: 0 })?;
 /// assert_eq!(class.turn(1_000)?, Some(place));
 /// assert_eq!(class.tell(place)?.verdict, Verdict::Best(9));
 /// assert_eq!(class.turn(1_000)?, None);
@@ -657,20 +688,23 @@ impl Dispatcher {
         &self.places
     }
 
-    /// Opens a search at the free place with the smallest number, which is answered; 24, 41, 15, 11, 12, 13, 14, 32.
+    /// Opens a search at the free place with the smallest number, which is answered; 24, 41, 15, 11, 12, 13, 14, 32, 35.
     pub fn add(
         &mut self,
         graph: &Graph,
         multipliers: &[i32],
+        ashore: &[u8],
         settings: Settings,
     ) -> Result<usize, Refusal> {
-        // SAFETY: the dispatcher is borrowed here alone; `multipliers` has the length that is passed with it and is only read.
+        // SAFETY: the dispatcher is borrowed here alone; the lists have the lengths that are passed with them and are only read.
         let said = unsafe {
             raw::planner_add(
                 &mut *self.places,
                 *graph,
                 multipliers.as_ptr(),
                 multipliers.len(),
+                ashore.as_ptr(),
+                ashore.len(),
                 settings,
             )
         };

@@ -94,7 +94,8 @@ pub struct Terms {
     pub lifting: u64,
 }
 
-/// The record that the calls on a search work on (docs/RECORD.md). With contents that fail its check every call is refused 24.
+/// The record that the calls on a search work on (docs/RECORD.md). With contents that fail its check every call is refused 24. A node's
+/// multipliers are those of the vertices afloat alone, in their order.
 #[repr(C)]
 #[derive(Clone, PartialEq, Eq, Debug)]
 pub struct Record {
@@ -102,11 +103,12 @@ pub struct Record {
     pub upper: i64,
     pub count: u64,
     pub stack: [u64; NODES * 2 * ROW],
-    pub depth: u32,
+    pub depth: u64,
     pub graph: Graph,
     pub multipliers: [i32; VERTICES],
     pub carried: [i32; NODES * VERTICES],
     pub best: [u8; EDGES],
+    pub ashore: [u8; VERTICES],
     pub open: u8,
     pub has_best: u8,
 }
@@ -141,9 +143,9 @@ layout!(Settings, 32, ceiling at 0, sweeps at 8, step at 12, denominator at 16, 
 layout!(Sailed, 32, number at 0, place at 8, total at 16, state at 24);
 layout!(Terms, 32, ceiling at 0, budget at 8, denominator at 16, lifting at 24);
 layout!(
-    Record, 4_472,
-    settings at 0, upper at 32, count at 40, stack at 48, depth at 1_104, graph at 1_108, multipliers at 2_440, carried at 2_520, best at 4_280,
-    open at 4_470, has_best at 4_471
+    Record, 4_496,
+    settings at 0, upper at 32, count at 40, stack at 48, depth at 1_104, graph at 1_112, multipliers at 2_444, carried at 2_524, best at 4_284,
+    ashore at 4_474, open at 4_494, has_best at 4_495
 );
 
 layout!(Places, PLACES * std::mem::size_of::<Record>(), places at 0);
@@ -158,6 +160,8 @@ extern "C" {
         g: Graph,
         multipliers: *const i32,
         multipliers_length: usize,
+        ashore: *const u8,
+        ashore_length: usize,
         denominator: u64,
         out: *mut u8,
         length: usize,
@@ -166,6 +170,8 @@ extern "C" {
         g: Graph,
         multipliers: *const i32,
         multipliers_length: usize,
+        ashore: *const u8,
+        ashore_length: usize,
         denominator: u64,
         edge: usize,
         mark: u32,
@@ -176,6 +182,8 @@ extern "C" {
         g: Graph,
         multipliers: *const i32,
         multipliers_length: usize,
+        ashore: *const u8,
+        ashore_length: usize,
         ceiling: i64,
         denominator: u64,
         out: *mut u8,
@@ -202,6 +210,8 @@ extern "C" {
         g: Graph,
         multipliers: *const i32,
         multipliers_length: usize,
+        ashore: *const u8,
+        ashore_length: usize,
         terms: Terms,
         sweeps: *const u32,
         sweeps_length: usize,
@@ -216,6 +226,8 @@ extern "C" {
         g: Graph,
         multipliers: *const i32,
         multipliers_length: usize,
+        ashore: *const u8,
+        ashore_length: usize,
         settings: Settings,
     ) -> Reply;
     pub fn planner_run(s: *mut Record, budget: u64) -> Reply;
@@ -231,6 +243,8 @@ extern "C" {
         g: Graph,
         multipliers: *const i32,
         multipliers_length: usize,
+        ashore: *const u8,
+        ashore_length: usize,
         settings: Settings,
     ) -> Reply;
     pub fn planner_turn(d: *mut Turns, p: u64) -> Reply;

@@ -245,10 +245,7 @@ fn measure() -> Result<(), String> {
             .ok_or(format!("{program} is missing or needs more than is stated"))?;
         println!("{program}: {}; stated {STATED_OF_PROGRAMS}", 1024 * kib);
     }
-    let over: Vec<_> = deepest
-        .iter()
-        .filter(|(_, used)| **used > STATED)
-        .collect();
+    let over: Vec<_> = deepest.iter().filter(|(_, used)| **used > STATED).collect();
     match deepest.iter().max_by_key(|(_, bytes)| **bytes) {
         Some((name, bytes)) if over.is_empty() && deepest.len() == CALLS => {
             println!("deepest call {name}, {bytes}; stated {STATED}");

@@ -1,4 +1,5 @@
-//! Prints lists of calls with what the library answers, for tests/stored: made once, by the build whose answers are to be kept.
+//! Prints lists of calls with what the library answers, for tests/stored: made once, by the build whose answers are to be kept. Without a word those
+//! of the build before C-19; with `lifted` those before C-20: trees, rulings and previews, and lifted hunts.
 
 use planner_tests::document::graph::{Edge, Graph, FREE};
 use planner_tests::generate::{self, number, pairs, Spread};
@@ -22,6 +23,9 @@ struct Script {
 }
 
 fn main() {
+    if std::env::args().nth(1).as_deref() == Some("lifted") {
+        return lifted();
+    }
     let mut script = Script {
         random: Random::new(0x0043_2d31_39),
         desk: Desk::fresh(),
@@ -43,7 +47,66 @@ fn main() {
     }
 }
 
+/// The lists with lifting, and the calls on a sea.
+fn lifted() {
+    let mut script = Script {
+        random: Random::new(0x0043_2d32_30),
+        desk: Desk::fresh(),
+        graph: Graph::from_edges(0, &[]),
+    };
+    for vertices in 3..=20 {
+        for kind in 0..6 {
+            script.say("fresh");
+            script.sea(vertices, kind);
+            script.trees();
+            script.hunts();
+        }
+    }
+}
+
 impl Script {
+    /// Trees, rulings under ceilings about the bound, and previews.
+    fn trees(&mut self) {
+        let m = self.graph.m;
+        for q in [1, 7] {
+            self.say(&format!("tree {q}"));
+            for _ in 0..2 {
+                let ceiling = self.cheap() + self.random.pick(&[-3, 0, 5, 20, 60, 400]);
+                self.say(&format!("rule {ceiling} {q}"));
+                let (leg, mark) = (1 + self.below(m + 1), 1 + self.below(2));
+                self.say(&format!("preview {q} {leg} {mark}"));
+            }
+        }
+    }
+
+    /// A lifted hunt in portions, saved and brought back; another with the same settings and without lifting; and a comparison.
+    fn hunts(&mut self) {
+        let (settings, m) = (self.settings(), self.graph.m);
+        for lifting in [1, 0] {
+            self.say(&format!("open {settings} {lifting}"));
+            for budget in [1, 3] {
+                self.say(&format!("run {budget}"));
+                self.say("save 2");
+            }
+            self.say("run 30");
+            self.say("back 2");
+            self.say("run 90");
+            self.say("tell");
+            self.say(&format!("show {m}"));
+            self.say("close");
+        }
+        let words: Vec<&str> = settings.split(' ').collect();
+        let (ceiling, sweeps, step, q) = (words[0], words[1], words[2], words[3]);
+        self.say(&format!("compare {ceiling} 40 {q} 1 {sweeps}/{step} 3/1"));
+        for lifting in [0, 1] {
+            self.say(&format!("add {settings} {lifting}"));
+            self.say("turn 4");
+        }
+        self.say("turn 9");
+        self.say("tellat 1");
+        self.say("tellat 2");
+    }
+
     /// Does a line, and prints it with its answer.
     fn say(&mut self, text: &str) {
         match self.desk.make(text) {

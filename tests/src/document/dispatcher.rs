@@ -143,6 +143,9 @@ impl Dispatcher {
         if let machine::Answer::Refused(refusal) = machine.call(opening) {
             return Err(refusal);
         }
+        if let (false, Some(search)) = (self.law.added_with_list, &mut machine.search) {
+            search.ashore.fill(0);
+        }
         self.places[place - 1] = machine;
         Ok(Answer::Placed(place))
     }

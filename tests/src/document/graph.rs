@@ -19,7 +19,7 @@ pub struct Edge {
     pub mark: u8,
 }
 
-/// A chart value, with any contents. Edge k stands at place k - 1.
+/// A chart value, with any contents. Edge k stands at place k - 1. What a call's list ashore makes of it (ashore.rs) is one too.
 #[derive(Clone, PartialEq, Eq)]
 pub struct Graph {
     pub n: usize,
@@ -28,6 +28,8 @@ pub struct Graph {
     pub b: [u8; PLACES],
     pub cost: [i32; PLACES],
     pub mark: [u8; PLACES],
+    /// Document 02's C-20: "some buoys are ashore", a bit each, that of buoy v being bit v. No chart says so.
+    pub ashore: u32,
 }
 
 impl Graph {
@@ -40,6 +42,7 @@ impl Graph {
             b: [0; PLACES],
             cost: [0; PLACES],
             mark: [0; PLACES],
+            ashore: 0,
         };
         for (k, edge) in edges.iter().enumerate() {
             graph.set(k, *edge);
@@ -68,6 +71,20 @@ impl Graph {
         (0..self.m.min(PLACES)).map(|k| self.edge(k)).collect()
     }
 
+    pub fn is_afloat(&self, vertex: usize) -> bool {
+        self.ashore >> vertex & 1 == 0
+    }
+
+    /// The vertices that are afloat.
+    pub fn afloat(&self) -> impl Iterator<Item = usize> + '_ {
+        (1..=self.n).filter(|vertex| self.is_afloat(*vertex))
+    }
+
+    /// Whether edge k touches a vertex ashore.
+    pub fn touches_ashore(&self, k: usize) -> bool {
+        !self.is_afloat(self.a[k].into()) || !self.is_afloat(self.b[k].into())
+    }
+
     pub fn marks(&self) -> Vec<u8> {
         self.edges().iter().map(|edge| edge.mark).collect()
     }
@@ -93,6 +110,10 @@ impl Graph {
 impl fmt::Debug for Graph {
     fn fmt(&self, f: &mut fmt::Formatter) -> fmt::Result {
         write!(f, "graph n {} m {} (a-b cost mark):", self.n, self.m)?;
+        if self.ashore != 0 {
+            let ashore = (1..=self.n).filter(|vertex| !self.is_afloat(*vertex));
+            write!(f, " ashore {:?};", ashore.collect::<Vec<_>>())?;
+        }
         for edge in self.edges() {
             write!(f, " {}-{} {} {};", edge.a, edge.b, edge.cost, edge.mark)?;
         }

@@ -143,6 +143,42 @@ pub struct Law {
     /// C-13: a record's is no higher
     pub max_lifting: u64,
 
+    /// C-20: "35 when a byte is above 1, buoy 1 is ashore, or fewer than three are afloat"
+    pub max_ashore: u8,
+    pub first_afloat: bool,
+    pub least_afloat: usize,
+    /// C-20: "The list's length comes under 11."
+    pub ashore_length: bool,
+    /// C-20: "it follows 32": it is tested before no other number, but for the preview's 30
+    pub ashore_before: u32,
+    /// C-20: "in the preview, comes before 30"
+    pub ashore_before_leg: bool,
+    /// C-20: 12 judges all dues, those of buoys ashore too
+    pub dues_ashore_judged: bool,
+    /// C-20: "A leg touching such a buoy counts as struck, whatever its mark"
+    pub touched_struck: bool,
+    pub touched_required_struck: bool,
+    /// C-20: and is ruled and told so: 4, and no leg of a tree
+    pub touched_ruled_struck: bool,
+    pub touched_in_no_tree: bool,
+    /// C-20: "only the preview's 31 still goes by the mark in the chart"
+    pub free_by_chart: bool,
+    /// C-20: "the buoy's due counts as 0 and no pass changes it"
+    pub due_ashore_zero: bool,
+    pub due_ashore_stays: bool,
+    /// C-20: "rounds and 1-trees are over the afloat buoys, with as many legs as there are afloat"
+    pub legs_of_afloat: bool,
+    pub round_of_afloat: bool,
+    /// C-20: "two hunts agree when their lists are the same"
+    pub agree_by_list: bool,
+    /// C-20: the legs that are free when a hunt opens, by which the allowance is counted, touch no buoy ashore
+    pub budget_of_untouched: bool,
+    /// C-20: "Tree, rule, preview and opening take a list": a hunt keeps it, saved and brought back, at a dispatcher's place, compared, lifted
+    pub saved_with_list: bool,
+    pub added_with_list: bool,
+    pub compared_with_list: bool,
+    pub lifted_with_list: bool,
+
     /// C-12: "ends as soon as those buoys are connected": with no part left to join
     pub parts_left: usize,
     /// C-12: and looks at no leg beyond
@@ -256,7 +292,7 @@ pub struct Law {
 
     /// a record's flags are 0 or 1
     pub max_flag: u8,
-    /// its depth is at most n + 2
+    /// its depth is at most two above the vertices afloat
     pub nodes_above_vertices: usize,
     /// its node p has p required edges, less so many
     pub required_short: usize,
@@ -276,6 +312,16 @@ pub struct Law {
     pub carried_fit: bool,
     /// and are zero past n
     pub carried_zero_past_n: bool,
+    /// C-20: a node carries the multipliers of the vertices afloat alone, in their order, and zero past these
+    pub carried_of_afloat: bool,
+    pub carried_zero_past_afloat: bool,
+    /// C-20: in every node the edges that touch a vertex ashore are excluded
+    pub touched_excluded: bool,
+    /// C-20: a record's list is zero past n, and such as an opening accepts
+    pub ashore_zero_past_n: bool,
+    pub ashore_checked: bool,
+    /// C-20: above these alone
+    pub depth_of_afloat: bool,
 
     /// C-18: "names 1 to 8"
     pub max_name: usize,
@@ -374,6 +420,28 @@ impl Law {
         lifting_bits: u64::MAX,
         lifting_kept_as_bit: true,
         max_lifting: 1,
+        max_ashore: 1,
+        first_afloat: true,
+        least_afloat: 3,
+        ashore_length: true,
+        ashore_before: 0,
+        ashore_before_leg: true,
+        dues_ashore_judged: true,
+        touched_struck: true,
+        touched_required_struck: true,
+        touched_ruled_struck: true,
+        touched_in_no_tree: true,
+        free_by_chart: true,
+        due_ashore_zero: true,
+        due_ashore_stays: true,
+        legs_of_afloat: true,
+        round_of_afloat: true,
+        agree_by_list: true,
+        budget_of_untouched: true,
+        saved_with_list: true,
+        added_with_list: true,
+        compared_with_list: true,
+        lifted_with_list: true,
         parts_left: 0,
         looked_beyond: 0,
         required_first: true,
@@ -438,6 +506,12 @@ impl Law {
         both_rows_counted: true,
         carried_fit: true,
         carried_zero_past_n: true,
+        carried_of_afloat: true,
+        carried_zero_past_afloat: true,
+        touched_excluded: true,
+        ashore_zero_past_n: true,
+        ashore_checked: true,
+        depth_of_afloat: true,
         max_name: 8,
         open_before_name: true,
         save_replaces: true,

@@ -361,6 +361,14 @@ impl<'a> Lifting<'a> {
 /// The rulings of a pass that lifts, from its ordinary ones. "Lifted rulings are applied with the pass's own and dues go back afterwards."
 pub fn lift(pass: &Pass, ordinary: &[u8]) -> Lifted {
     let law = pass.law;
+    let mut sea = pass.graph.clone();
+    if !law.lifted_with_list {
+        sea.ashore = 0;
+    }
+    let pass = &Pass {
+        graph: &sea,
+        ..*pass
+    };
     let mut lifted = Lifted {
         rulings: ordinary.to_vec(),
         closes: false,

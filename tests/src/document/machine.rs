@@ -1,12 +1,13 @@
 //! 'The hunt' as a machine: its state, the calls, their answers, and the refusals 11 to 15 and 20 to
 //! 23. (24 never comes up: nobody else writes the record.)
 
+use super::ashore::{dues, haul, none};
 use super::graph::{Graph, EXCLUDED, FREE, REQUIRED};
 use super::law::Law;
 use super::lifting::{self, Pass};
 use super::rulings::{self, ceiling_fits, Ruled, BAR, FORCE};
 use super::tours::{cost, is_tour};
-use super::tree::{self, Method};
+use super::tree::{self, Given, Method};
 use super::{refuse, Refusal};
 
 /// The machine's state while a search is open: "the arguments of the accepted opening with the
@@ -15,6 +16,8 @@ use super::{refuse, Refusal};
 pub struct Search {
     pub graph: Graph,
     pub multipliers: Vec<i32>,
+    /// C-20's list
+    pub ashore: Vec<u8>,
     /// the opening's; nothing changes it
     pub ceiling: i64,
     pub sweeps: u32,
@@ -45,6 +48,7 @@ pub enum Call {
     Open {
         graph: Box<Graph>,
         multipliers: Vec<i32>,
+        ashore: Vec<u8>,
         ceiling: i64,
         sweeps: u32,
         step: u32,
@@ -61,6 +65,22 @@ pub enum Call {
         length: usize,
     },
     Close,
+}
+
+impl Call {
+    /// An opening under zero dues, with one pass a node and no buoy ashore.
+    pub fn plain(graph: &Graph, ceiling: i64, denominator: u64, lifting: u64) -> Call {
+        Call::Open {
+            multipliers: vec![0; graph.n],
+            ashore: none(graph).to_vec(),
+            graph: Box::new(graph.clone()),
+            ceiling,
+            sweeps: 0,
+            step: 0,
+            denominator,
+            lifting,
+        }
+    }
 }
 
 #[derive(Clone, Copy, PartialEq, Eq, Debug)]
@@ -144,20 +164,20 @@ impl Search {
             mut multipliers,
         } = node;
         if !law.multipliers_inherited {
-            multipliers = self.multipliers.clone();
+            multipliers = dues(law, &self.multipliers, &self.ashore);
         }
         if let (false, Some(shared)) = (law.multipliers_apart, &self.shared) {
             multipliers = shared.clone();
         }
         for pass in 0..=self.sweeps {
-            let graph = self.graph.with_marks(&marks);
+            let graph = haul(law, &self.graph, &self.ashore).with_marks(&marks);
             let top = self.top(law);
             let tree = match tree::least(law, method, &graph, &multipliers, self.denominator) {
                 Some(tree) if tree.bound < top => tree,
                 Some(tree) if tree.bound == top && law.equal_bound_stays => tree,
                 _ => return,
             };
-            if is_tour(&graph, &tree.edges) {
+            if is_tour(&graph, &tree.edges) && (law.round_of_afloat || graph.ashore == 0) {
                 self.find(law, tree.edges);
                 return;
             }
@@ -282,14 +302,15 @@ fn apply(marks: &mut [u8], rulings: &[u8]) {
 }
 
 /// "each d(i), i ≥ 2, gains step × (g − 2), g being the number of the tree's legs that touch buoy i,
-/// and is held to its range"
+/// and is held to its range". Of C-20: "the buoy's due counts as 0 and no pass changes it".
 pub fn adjust(law: &Law, graph: &Graph, edges: &[u8], step: u32, multipliers: &mut [i32]) {
     let mut touching = vec![0i64; graph.n + 1];
     for k in (0..graph.m).filter(|k| edges[*k] == 1) {
         touching[graph.a[k] as usize] += 1;
         touching[graph.b[k] as usize] += 1;
     }
-    for vertex in 2..=graph.n {
+    let gains = |vertex: &usize| graph.is_afloat(*vertex) || !law.due_ashore_stays;
+    for vertex in (2..=graph.n).filter(gains) {
         let gained = multipliers[vertex - 1] as i64 + step as i64 * (touching[vertex] - 2);
         let held = gained.clamp(-law.max_multiplier, law.max_multiplier);
         let kept = if law.multipliers_held { held } else { gained };
@@ -347,12 +368,13 @@ impl Machine {
         }
     }
 
-    /// Refusals 21, 15, 11, 12, 13, 14 and, of C-17, 32; then "Opening piles one node, the chart's marks; count 0, no
-    /// best, U the ceiling." Document 02, C-16: "the first node still has the opening dues".
+    /// Refusals 21, 15, 11, 12, 13, 14 and, of C-17, 32, of C-20 35; then "Opening piles one node, the chart's marks; count 0, no
+    /// best, U the ceiling." Document 02, C-16: "the first node still has the opening dues"; C-20: "counts as struck, .. and opening piles it so".
     fn open(&mut self, call: &Call) -> Result<Answer, Refusal> {
         let Call::Open {
             graph,
             multipliers,
+            ashore,
             ceiling,
             sweeps,
             step,
@@ -366,19 +388,27 @@ impl Machine {
             return refuse(21, 0);
         }
         let (law, q) = (&self.law, *denominator);
-        tree::admit(law, graph, multipliers, q, None)?;
-        tree::admit_denominator_before(law, q, 13)?;
+        let given = Given {
+            graph,
+            multipliers,
+            ashore,
+            q,
+        };
+        tree::admit(law, &given, None)?;
+        tree::admit_early(law, &given, 13)?;
         if !ceiling_fits(law, *ceiling) {
             return refuse(13, 0);
         }
-        tree::admit_denominator_before(law, q, 14)?;
+        tree::admit_early(law, &given, 14)?;
         if *sweeps > law.max_sweeps || *step > law.max_step {
             return refuse(14, 0);
         }
-        tree::admit_denominator(law, q)?;
+        tree::admit_last(law, &given)?;
+        let (sea, first) = given.sea(law);
         self.search = Some(Search {
             graph: Graph::from_edges(graph.n, &graph.edges()),
             multipliers: multipliers.clone(),
+            ashore: ashore.clone(),
             ceiling: *ceiling,
             sweeps: *sweeps,
             step: *step,
@@ -386,8 +416,8 @@ impl Machine {
             lifting: kept(law, *lifting),
             upper: *ceiling,
             stack: vec![Node {
-                marks: graph.marks(),
-                multipliers: multipliers.clone(),
+                marks: sea.marks(),
+                multipliers: first,
             }],
             incumbent: None,
             count: 0,

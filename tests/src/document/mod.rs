@@ -3,6 +3,7 @@
 //! graph (chart, sea), vertex (buoy), edge (leg), excluded (struck), tour (round), multipliers (dues),
 //! search (hunt), stack (pile), incumbent (best).
 
+pub mod ashore;
 pub mod chart;
 pub mod dispatcher;
 pub mod former;

@@ -5,7 +5,7 @@ use super::graph::Graph;
 use super::law::Law;
 use super::machine::{Answer, Call, Machine, Verdict};
 use super::rulings::{self, Ruled};
-use super::tree::Method;
+use super::tree::{Given, Method};
 use super::{refuse, Refusal};
 
 /// "a ceiling [..] and then a chart", and of document 02's C-14 "an i64 little-endian ceiling from now
@@ -32,14 +32,15 @@ fn refused(refusal: Refusal) -> String {
     format!("refused {} at {}\n", refusal.number, refusal.place)
 }
 
-/// Program 'rulings'. C-17: "q = 1, which the programs use".
+/// Program 'rulings'. C-17: "q = 1, which the programs use"; C-20: "the programs have none ashore".
 pub fn rulings(law: &Law, input: &[u8]) -> String {
     let (ceiling, graph) = match split(law, input) {
         Ok(parts) => parts,
         Err(refusal) => return refused(refusal),
     };
     let zeros = vec![0; graph.n];
-    match rulings::call(law, Method::Kruskal, &graph, &zeros, 1, ceiling, graph.m) {
+    let given = Given::afloat(&graph, &zeros, 1);
+    match rulings::call(law, Method::Kruskal, &given, ceiling, graph.m) {
         Err(refusal) => refused(refusal),
         Ok(Ruled::Infeasible) => "dead\n".to_string(),
         Ok(Ruled::Bound { bound, rulings }) => {
@@ -61,15 +62,7 @@ pub fn search(law: &Law, input: &[u8]) -> String {
         Err(refusal) => return refused(refusal),
     };
     let mut machine = Machine::new(law, Method::Kruskal);
-    let open = Call::Open {
-        multipliers: vec![0; graph.n],
-        graph: Box::new(graph),
-        ceiling,
-        sweeps: 0,
-        step: 0,
-        denominator: 1,
-        lifting: 0,
-    };
+    let open = Call::plain(&graph, ceiling, 1, 0);
     if let Answer::Refused(refusal) = machine.call(&open) {
         return refused(refusal);
     }

@@ -3,8 +3,8 @@
 use super::graph::{Graph, EXCLUDED, FREE, REQUIRED};
 use super::law::Law;
 use super::tree::{
-    admit, admit_denominator, admit_denominator_before, all_one_trees, bound, kruskal, least,
-    order, told, top, Method,
+    admit, admit_early, admit_last, all_one_trees, bound, kruskal, least, order, told, top, Given,
+    Method,
 };
 use super::{refuse, Refusal};
 
@@ -133,27 +133,36 @@ pub fn ceiling_fits(law: &Law, ceiling: i64) -> bool {
     (-law.max_ceiling..=law.max_ceiling).contains(&ceiling)
 }
 
-/// The rule call on a lent list of `length` bytes. C-17 adds 32 at the end.
+/// The rule call on a lent list of `length` bytes. C-17 adds 32 at the end, and C-20 35.
 pub fn call(
     law: &Law,
     method: Method,
-    graph: &Graph,
-    multipliers: &[i32],
-    q: u64,
+    given: &Given,
     ceiling: i64,
     length: usize,
 ) -> Result<Ruled, Refusal> {
-    admit(law, graph, multipliers, q, Some(length))?;
-    admit_denominator_before(law, q, 13)?;
+    admit(law, given, Some(length))?;
+    admit_early(law, given, 13)?;
     if !ceiling_fits(law, ceiling) {
         return refuse(13, 0);
     }
-    admit_denominator(law, q)?;
-    Ok(match rule(law, method, graph, multipliers, q, ceiling) {
-        Ruled::Bound { bound, rulings } => Ruled::Bound {
-            bound: told(law, bound, q),
-            rulings,
+    admit_last(law, given)?;
+    let (sea, multipliers) = given.sea(law);
+    Ok(
+        match rule(law, method, &sea, &multipliers, given.q, ceiling) {
+            Ruled::Bound { bound, rulings } => Ruled::Bound {
+                bound: told(law, bound, given.q),
+                rulings: answered(law, given, &sea, rulings),
+            },
+            Ruled::Infeasible => Ruled::Infeasible,
         },
-        Ruled::Infeasible => Ruled::Infeasible,
-    })
+    )
+}
+
+/// The rulings as they are answered: a bent law's go by the mark that a touched leg has in the chart.
+fn answered(law: &Law, given: &Given, sea: &Graph, mut rulings: Vec<u8>) -> Vec<u8> {
+    for k in (0..sea.m).filter(|k| sea.touches_ashore(*k) && !law.touched_ruled_struck) {
+        rulings[k] = ruling(given.graph.mark[k], false, true);
+    }
+    rulings
 }

@@ -5,7 +5,7 @@ use super::law::Law;
 use super::machine::{Answer, Call, Machine};
 use super::rulings::ceiling_fits;
 use super::tours::is_tour;
-use super::tree::{self, Method};
+use super::tree::{self, Given, Method};
 use super::{refuse, Refusal};
 
 /// "The result has each leg's time, the total and the last state."
@@ -128,6 +128,8 @@ pub fn simulate(law: &Law, graph: &Graph, asked: &Asked) -> Result<Sailing, Refu
 pub struct Trial {
     pub graph: Graph,
     pub multipliers: Vec<i32>,
+    /// C-20's list, every hunt's
+    pub ashore: Vec<u8>,
     pub ceiling: i64,
     pub budget: u64,
     pub denominator: u64,
@@ -141,41 +143,25 @@ pub struct Trial {
 
 /// "it reports the count with which each pair's hunt finishes, or 0 if still going on after the whole allowance. .. No pairs, or more than 16, come
 /// under 11, as do .. a report list without one entry a pair." It takes the arguments of opening, so of C-13 whether it lifts, and of C-17
-/// q, and 32 comes after 14.
+/// q, and 32 comes after 14, and of C-20 the list, and 35 comes after 32.
 pub fn compare(law: &Law, method: Method, trial: &Trial) -> Result<Vec<u64>, Refusal> {
-    let pairs = trial.sweeps.len();
-    let wrong_pairs = !(1..=law.max_pairs).contains(&pairs)
-        || trial.steps.len() != pairs
-        || trial.length != pairs;
-    let (graph, multipliers) = (&trial.graph, &trial.multipliers);
-    if wrong_pairs && (fits(law, graph) || !law.value_before_length) {
-        return refuse(11, 0);
-    }
-    let q = trial.denominator;
-    tree::admit(law, graph, multipliers, q, None)?;
-    tree::admit_denominator_before(law, q, 13)?;
-    if !ceiling_fits(law, trial.ceiling) {
-        return refuse(13, 0);
-    }
-    tree::admit_denominator_before(law, q, 14)?;
+    admit(law, trial)?;
+    let ashore = match law.compared_with_list {
+        true => trial.ashore.clone(),
+        false => vec![0; trial.graph.n],
+    };
     let mut counts = Vec::new();
     let mut left = trial.budget;
-    let openings = trial.sweeps.iter().zip(&trial.steps);
-    for (sweeps, step) in openings.clone() {
-        if *sweeps > law.max_sweeps || *step > law.max_step {
-            return refuse(14, 0);
-        }
-    }
-    tree::admit_denominator(law, q)?;
-    for (sweeps, step) in openings {
+    for (sweeps, step) in trial.sweeps.iter().zip(&trial.steps) {
         let mut machine = Machine::new(law, method);
         machine.call(&Call::Open {
-            graph: Box::new(graph.clone()),
-            multipliers: multipliers.clone(),
+            graph: Box::new(trial.graph.clone()),
+            multipliers: trial.multipliers.clone(),
+            ashore: ashore.clone(),
             ceiling: trial.ceiling,
             sweeps: *sweeps,
             step: *step,
-            denominator: q,
+            denominator: trial.denominator,
             lifting: trial.lifting,
         });
         let Answer::Ran { finished, count } = machine.call(&Call::Run { budget: left }) else {
@@ -187,4 +173,33 @@ pub fn compare(law: &Law, method: Method, trial: &Trial) -> Result<Vec<u64>, Ref
         }
     }
     Ok(counts)
+}
+
+/// The refusals of an opening, each pair's 14 among them.
+fn admit(law: &Law, trial: &Trial) -> Result<(), Refusal> {
+    let pairs = trial.sweeps.len();
+    let wrong_pairs = !(1..=law.max_pairs).contains(&pairs)
+        || trial.steps.len() != pairs
+        || trial.length != pairs;
+    let given = Given {
+        graph: &trial.graph,
+        multipliers: &trial.multipliers,
+        ashore: &trial.ashore,
+        q: trial.denominator,
+    };
+    if wrong_pairs && (fits(law, &trial.graph) || !law.value_before_length) {
+        return refuse(11, 0);
+    }
+    tree::admit(law, &given, None)?;
+    tree::admit_early(law, &given, 13)?;
+    if !ceiling_fits(law, trial.ceiling) {
+        return refuse(13, 0);
+    }
+    tree::admit_early(law, &given, 14)?;
+    for (sweeps, step) in trial.sweeps.iter().zip(&trial.steps) {
+        if *sweeps > law.max_sweeps || *step > law.max_step {
+            return refuse(14, 0);
+        }
+    }
+    tree::admit_last(law, &given)
 }

@@ -85,9 +85,12 @@ impl Shelved {
             true => name - 1,
             false => name % PLACES,
         };
-        let Some(saved) = self.saved[from].clone() else {
+        let Some(mut saved) = self.saved[from].clone() else {
             return refuse(34, 0);
         };
+        if !self.law.saved_with_list {
+            saved.ashore.fill(0);
+        }
         if self.law.back_replaces || self.machine.search.is_none() {
             self.machine.search = Some(saved);
         }

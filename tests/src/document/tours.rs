@@ -14,7 +14,7 @@ pub fn cost(graph: &Graph, edges: &[u8]) -> i64 {
     chosen.map(|k| graph.cost[k] as i64).sum()
 }
 
-/// "A round is n legs that form one closed trip through all n buoys."
+/// "A round is n legs that form one closed trip through all n buoys." Of document 02's C-20: "A round now visits every buoy that is afloat."
 pub fn is_tour(graph: &Graph, edges: &[u8]) -> bool {
     let mut beside: Vec<Vec<usize>> = vec![Vec::new(); graph.n + 1];
     for k in (0..graph.m).filter(|k| edges[*k] == 1) {
@@ -22,7 +22,8 @@ pub fn is_tour(graph: &Graph, edges: &[u8]) -> bool {
         beside[a].push(b);
         beside[b].push(a);
     }
-    if (1..=graph.n).any(|vertex| beside[vertex].len() != 2) {
+    let wanted = |vertex: usize| if graph.is_afloat(vertex) { 2 } else { 0 };
+    if !graph.is_afloat(1) || (1..=graph.n).any(|vertex| beside[vertex].len() != wanted(vertex)) {
         return false;
     }
     let (mut before, mut at, mut steps) = (1, beside[1][0], 1);
@@ -31,7 +32,7 @@ pub fn is_tour(graph: &Graph, edges: &[u8]) -> bool {
         (before, at) = (at, beside[at][ahead]);
         steps += 1;
     }
-    steps == graph.n
+    steps == graph.afloat().count()
 }
 
 /// "It is allowed if it has every required leg and no struck one."
@@ -55,7 +56,7 @@ pub fn first(graph: &Graph) -> Option<Tour> {
         })
 }
 
-/// Every tour of the graph, whatever its marks; each once.
+/// Every tour of the vertices afloat, whatever the marks; each once.
 pub fn all(graph: &Graph) -> Vec<Tour> {
     let mut number = vec![vec![None; graph.n + 1]; graph.n + 1];
     for k in 0..graph.m {
@@ -78,7 +79,7 @@ fn extend(
     tours: &mut Vec<Tour>,
 ) {
     let last = path[path.len() - 1];
-    if path.len() == graph.n {
+    if path.len() == graph.afloat().count() {
         if let (Some(k), true) = (number[last][1], path[1] < last) {
             let mut edges = vec![0; graph.m];
             taken.iter().for_each(|k| edges[*k] = 1);
@@ -90,7 +91,7 @@ fn extend(
         }
         return;
     }
-    for vertex in 2..=graph.n {
+    for vertex in graph.afloat().skip(1) {
         let Some(k) = number[last][vertex] else {
             continue;
         };

@@ -1,5 +1,6 @@
 //! 'The 1-tree': the least one by definition, by Kruskal and by Prim.
 
+use super::ashore::{self, dues, haul, legs};
 use super::graph::{fits, Graph, EXCLUDED, FREE, REQUIRED};
 use super::law::Law;
 use super::{refuse, Refusal};
@@ -9,6 +10,34 @@ use super::{refuse, Refusal};
 pub struct Tree {
     pub bound: i64,
     pub edges: Vec<u8>,
+}
+
+/// What every call about 1-trees takes.
+#[derive(Clone, Copy, Debug)]
+pub struct Given<'a> {
+    pub graph: &'a Graph,
+    pub multipliers: &'a [i32],
+    /// Document 02, C-20: "a list of n bytes, 1 for ashore, 0 for afloat"
+    pub ashore: &'a [u8],
+    pub q: u64,
+}
+
+impl<'a> Given<'a> {
+    /// With no buoy ashore.
+    pub fn afloat(graph: &'a Graph, multipliers: &'a [i32], q: u64) -> Given<'a> {
+        Given {
+            graph,
+            multipliers,
+            ashore: ashore::none(graph),
+            q,
+        }
+    }
+
+    /// The chart that the list makes, and its dues.
+    pub fn sea(&self, law: &Law) -> (Graph, Vec<i32>) {
+        let sea = haul(law, self.graph, self.ashore);
+        (sea, dues(law, self.multipliers, self.ashore))
+    }
 }
 
 /// How the least tree is found.
@@ -59,7 +88,7 @@ pub fn told(law: &Law, bound: i64, q: u64) -> i64 {
 }
 
 /// "A 1-tree is n legs: two at buoy 1, and n − 2 among buoys 2 to n that connect them all. It has
-/// every required leg and no struck one."
+/// every required leg and no struck one." Of document 02's C-20: "1-trees are over the afloat buoys, with as many legs as there are afloat".
 pub fn is_one_tree(law: &Law, graph: &Graph, edges: &[u8]) -> bool {
     let mut at_first = 0;
     let mut others = Vec::new();
@@ -74,12 +103,18 @@ pub fn is_one_tree(law: &Law, graph: &Graph, edges: &[u8]) -> bool {
             others.push((graph.a[k], graph.b[k]));
         }
     }
-    at_first == 2 && others.len() == graph.n - 2 && connect_all(graph.n, &others)
+    at_first == 2 && others.len() + 2 == legs(law, graph) && connect_all(law, graph, &others)
 }
 
-/// Whether every vertex from 2 to n can be reached from vertex 2.
-fn connect_all(n: usize, edges: &[(u8, u8)]) -> bool {
-    let mut reached = 1u32 << 2;
+/// The vertices beside vertex 1 that a 1-tree connects.
+fn beside_first<'a>(law: &'a Law, graph: &'a Graph) -> impl Iterator<Item = usize> + 'a {
+    (2..=graph.n).filter(|vertex| graph.is_afloat(*vertex) || !law.legs_of_afloat)
+}
+
+/// Whether every vertex beside vertex 1 can be reached from the first of them.
+fn connect_all(law: &Law, graph: &Graph, edges: &[(u8, u8)]) -> bool {
+    let all: u32 = beside_first(law, graph).map(|vertex| 1 << vertex).sum();
+    let mut reached = all & all.wrapping_neg();
     loop {
         let before = reached;
         for (a, b) in edges {
@@ -89,7 +124,7 @@ fn connect_all(n: usize, edges: &[(u8, u8)]) -> bool {
             }
         }
         if reached == before {
-            return reached.count_ones() as usize == n - 1;
+            return all & !reached == 0;
         }
     }
 }
@@ -104,7 +139,7 @@ pub fn edges_of(set: u32, m: usize) -> Vec<u8> {
 pub fn all_one_trees(law: &Law, graph: &Graph, multipliers: &[i32], q: u64) -> Vec<(u32, i64)> {
     assert!(graph.m <= 16, "too many edges to go through all sets");
     (0..1u32 << graph.m)
-        .filter(|set| set.count_ones() as usize == graph.n)
+        .filter(|set| set.count_ones() as usize == legs(law, graph))
         .map(|set| (set, edges_of(set, graph.m)))
         .filter(|(_, edges)| is_one_tree(law, graph, edges))
         .map(|(set, edges)| (set, bound(law, graph, multipliers, q, &edges)))
@@ -191,7 +226,7 @@ pub fn kruskal(law: &Law, graph: &Graph, order: &[usize]) -> Option<Vec<u8>> {
     for k in marked(FREE) {
         tree.take(graph, k);
     }
-    (tree.at_first == 2 && tree.others == graph.n - 2).then_some(tree.edges)
+    (tree.at_first == 2 && tree.others + 2 == legs(law, graph)).then_some(tree.edges)
 }
 
 /// C-12: "the loop takes the free legs among these buoys by charged cost, of equals the lower number
@@ -210,7 +245,7 @@ pub fn looked(law: &Law, graph: &Graph, multipliers: &[i32], q: u64) -> (usize, 
             .copied()
             .filter(move |k| graph.a[*k] != 1 && graph.mark[*k] == mark)
     };
-    let enough = |tree: &Growing| tree.others + law.parts_left >= graph.n - 2;
+    let enough = |tree: &Growing| tree.others + law.parts_left + 2 >= legs(law, graph);
     let mut looked = 0;
     for k in among(REQUIRED) {
         if !law.required_first {
@@ -248,7 +283,7 @@ pub fn looked_by_definition(law: &Law, graph: &Graph, multipliers: &[i32], q: u6
     let required: Vec<_> = (0..graph.m).filter(among(REQUIRED)).map(pair).collect();
     let connects = |p: &usize| {
         let legs: Vec<_> = free[..*p].iter().chain(&required).copied().collect();
-        connect_all(graph.n, &legs)
+        connect_all(law, graph, &legs)
     };
     (0..free.len()).find(connects).unwrap_or(free.len())
 }
@@ -261,7 +296,7 @@ fn by_kruskal(law: &Law, graph: &Graph, multipliers: &[i32], q: u64) -> Option<T
     })
 }
 
-/// Prim from vertex 2: again and again the first edge that leaves the vertices reached, where
+/// Prim from the first vertex beside vertex 1: again and again the first edge that leaves the vertices reached, where
 /// required ones come before all others. A required edge left out would close a circle: no tree.
 fn by_prim(law: &Law, graph: &Graph, multipliers: &[i32], q: u64) -> Option<Tree> {
     let key = |k: &usize| {
@@ -276,8 +311,9 @@ fn by_prim(law: &Law, graph: &Graph, multipliers: &[i32], q: u64) -> Option<Tree
     edges[*first.first()?] = 1;
     edges[*first.get(1)?] = 1;
     let mut reached = [false; 21];
-    reached[2] = true;
-    for _ in 3..=graph.n {
+    let mut others = beside_first(law, graph);
+    reached[others.next()?] = true;
+    for _ in others {
         let leaving = usable().filter(|k| {
             let (a, b) = (graph.a[*k] as usize, graph.b[*k] as usize);
             a != 1 && reached[a] != reached[b]
@@ -318,32 +354,64 @@ pub fn denominator_fits(law: &Law, q: u64) -> bool {
 }
 
 /// C-17: "32 when q is out of range".
-pub fn admit_denominator(law: &Law, q: u64) -> Result<(), Refusal> {
+fn admit_denominator(law: &Law, q: u64) -> Result<(), Refusal> {
     match denominator_fits(law, q) {
         true => Ok(()),
         false => refuse(32, 0),
     }
 }
 
-/// The same, where a bent law tests it before another number.
-pub fn admit_denominator_before(law: &Law, q: u64, number: u32) -> Result<(), Refusal> {
-    match law.denominator_before == number {
-        true => admit_denominator(law, q),
+/// C-20: "35 when a byte is above 1, buoy 1 is ashore, or fewer than three are afloat".
+fn admit_ashore(law: &Law, ashore: &[u8]) -> Result<(), Refusal> {
+    match ashore::fits(law, ashore) {
+        true => Ok(()),
+        false => refuse(35, 0),
+    }
+}
+
+/// What a bent law tests before another number: 32 or 35.
+pub fn admit_early(law: &Law, given: &Given, number: u32) -> Result<(), Refusal> {
+    if law.denominator_before == number {
+        admit_denominator(law, given.q)?;
+    }
+    match law.ashore_before == number {
+        true => admit_ashore(law, given.ashore),
         false => Ok(()),
     }
 }
 
-/// Refusals 15, 11 and 12 "in this order"; `list` is the length of the lent list, if any. "The due range counts units",
-/// whatever q.
-pub fn admit(
-    law: &Law,
-    graph: &Graph,
-    multipliers: &[i32],
-    q: u64,
-    list: Option<usize>,
-) -> Result<(), Refusal> {
+/// C-17's 32, which C-20's 35 "follows".
+pub fn admit_last(law: &Law, given: &Given) -> Result<(), Refusal> {
+    admit_early(law, given, 32)?;
+    admit_denominator(law, given.q)?;
+    admit_ashore(law, given.ashore)
+}
+
+/// Whether these are dues: "The due range counts units", whatever q.
+pub fn multipliers_fit(law: &Law, multipliers: &[i32], q: u64) -> bool {
+    let times = if law.range_counts_units {
+        1
+    } else {
+        q.min(1_000) as i64
+    };
+    let range = -law.max_multiplier * times..=law.max_multiplier * times;
+    let all = multipliers.iter().all(|d| range.contains(&(*d as i64)));
+    all && (!law.first_multiplier_zero || multipliers[0] == 0)
+}
+
+/// Refusals 15, 11 and 12 "in this order"; `list` is the length of the lent list, if any. Of C-20 "The list's length comes under 11", and 12
+/// judges the dues as they are sent.
+pub fn admit(law: &Law, given: &Given, list: Option<usize>) -> Result<(), Refusal> {
+    let Given {
+        graph,
+        multipliers,
+        ashore,
+        q,
+    } = *given;
     let value = fits(law, graph);
-    let lengths = multipliers.len() == graph.n && list.is_none_or(|length| length == graph.m);
+    let lengths = multipliers.len() == graph.n
+        && (ashore.len() == graph.n || !law.ashore_length)
+        && list.is_none_or(|length| length == graph.m);
     if law.value_before_length && !value {
         return refuse(15, 0);
     }
@@ -353,61 +421,67 @@ pub fn admit(
     if !value {
         return refuse(15, 0);
     }
-    admit_denominator_before(law, q, 12)?;
-    let times = if law.range_counts_units {
-        1
-    } else {
-        q.min(1_000) as i64
+    admit_early(law, given, 12)?;
+    let judged = match law.dues_ashore_judged {
+        true => multipliers.to_vec(),
+        false => dues(&Law::AS_WRITTEN, multipliers, ashore),
     };
-    let range = -law.max_multiplier * times..=law.max_multiplier * times;
-    let all = multipliers.iter().all(|d| range.contains(&(*d as i64)));
-    if !all || (law.first_multiplier_zero && multipliers[0] != 0) {
-        return refuse(12, 0);
+    match multipliers_fit(law, &judged, q) {
+        true => Ok(()),
+        false => refuse(12, 0),
     }
-    Ok(())
 }
 
-/// The tree as it is answered.
-fn answered(law: &Law, tree: Option<Tree>, q: u64) -> Option<Tree> {
-    tree.map(|tree| Tree {
-        bound: told(law, tree.bound, q),
-        ..tree
-    })
+/// The least tree of the chart that the list makes, as it is answered. The mark is that in the chart sent, or in the preview's copy of it.
+fn answered(law: &Law, method: Method, given: &Given) -> Option<Tree> {
+    let (sea, multipliers) = given.sea(law);
+    let mut tree = least(law, method, &sea, &multipliers, given.q)?;
+    tree.bound = told(law, tree.bound, given.q);
+    if !law.touched_in_no_tree {
+        let touched = (0..sea.m).filter(|k| sea.touches_ashore(*k));
+        touched
+            .filter(|k| given.graph.mark[*k] == REQUIRED)
+            .for_each(|k| tree.edges[k] = 1);
+    }
+    Some(tree)
 }
 
-/// The tree call on a lent list of `length` bytes; `None` is 'no tree'. C-17 adds 32 at the end.
+/// The tree call on a lent list of `length` bytes; `None` is 'no tree'. C-17 adds 32 at the end, and C-20 35.
 pub fn call(
     law: &Law,
     method: Method,
-    graph: &Graph,
-    multipliers: &[i32],
-    q: u64,
+    given: &Given,
     length: usize,
 ) -> Result<Option<Tree>, Refusal> {
-    admit(law, graph, multipliers, q, Some(length))?;
-    admit_denominator(law, q)?;
-    Ok(answered(law, least(law, method, graph, multipliers, q), q))
+    admit(law, given, Some(length))?;
+    admit_last(law, given)?;
+    Ok(answered(law, method, given))
 }
 
 /// Document 02's C-11: "It answers exactly as the tree call does on a copy of the chart with that
 /// mark". "30 when the leg is not 1 to m or the new mark not 1 or 2, and 31 when the leg is not free;
-/// they follow 15, 11 and 12 in that order." C-17: 32 is tested "in the preview, before 30".
+/// they follow 15, 11 and 12 in that order." C-17: 32 is tested "in the preview, before 30", and so is C-20's 35.
 pub fn preview(
     law: &Law,
     method: Method,
-    graph: &Graph,
-    multipliers: &[i32],
-    q: u64,
+    given: &Given,
     (leg, mark): (usize, u32),
     length: usize,
 ) -> Result<Option<Tree>, Refusal> {
-    admit(law, graph, multipliers, q, Some(length))?;
-    if law.denominator_before_leg {
-        admit_denominator(law, q)?;
+    admit(law, given, Some(length))?;
+    let graph = given.graph;
+    if law.ashore_before_leg && law.denominator_before_leg {
+        admit_last(law, given)?;
+    } else if law.denominator_before_leg {
+        admit_denominator(law, given.q)?;
     }
     let place = leg.wrapping_sub(law.first_leg);
     let known = place < graph.m && (1..=law.max_new_mark).contains(&mark);
-    let free = place < graph.m && graph.mark[place] == FREE;
+    let marks = match law.free_by_chart {
+        true => graph.clone(),
+        false => haul(law, graph, given.ashore),
+    };
+    let free = place < graph.m && marks.mark[place] == FREE;
     if !law.preview_free_last && place < graph.m && !free {
         return refuse(31, 0);
     }
@@ -417,11 +491,16 @@ pub fn preview(
     if !free {
         return refuse(31, 0);
     }
-    admit_denominator(law, q)?;
-    let q = if law.preview_scaled { q } else { 1 };
+    admit_last(law, given)?;
+    let q = if law.preview_scaled { given.q } else { 1 };
     let mut copy = graph.clone();
     if law.preview_marks {
         copy.mark[place] = mark as u8;
     }
-    Ok(answered(law, least(law, method, &copy, multipliers, q), q))
+    let remarked = Given {
+        graph: &copy,
+        q,
+        ..*given
+    };
+    Ok(answered(law, method, &remarked))
 }

@@ -1,6 +1,6 @@
 //! The calls on a dispatcher.
 
-use super::lent::Lent;
+use super::lent::{Lent, Lists};
 use super::{by_value, call, settings, Reply};
 use crate::document::dispatcher::Call;
 use crate::document::machine;
@@ -37,16 +37,20 @@ impl Dispatched {
         let said = match call {
             Call::Add(opening) => {
                 let machine::Call::Open {
-                    graph, multipliers, ..
+                    graph,
+                    multipliers,
+                    ashore,
+                    ..
                 } = opening
                 else {
                     unreachable!("a search is added by an opening");
                 };
                 let (g, t) = (by_value(graph), settings(opening));
-                let mut given = Lent::numbers(multipliers);
-                let m = given.pointer();
-                let said = call!(planner_add(d, g, m, multipliers.len(), t));
-                kept = given.kept(&Lent::numbers(multipliers));
+                let mut given = Lists::new(multipliers, ashore);
+                let (m, a) = given.pointers();
+                let (many, listed) = (multipliers.len(), ashore.len());
+                let said = call!(planner_add(d, g, m, many, a, listed, t));
+                kept = given.kept();
                 said
             }
             Call::Turn { portion } => call!(planner_turn(d, *portion)),

@@ -82,3 +82,31 @@ impl Lent {
         (!as_made).then(|| self.body().to_vec())
     }
 }
+
+/// Multipliers and a list ashore, which a call only reads.
+pub struct Lists<'a> {
+    sent: (&'a [i32], &'a [u8]),
+    multipliers: Lent,
+    ashore: Lent,
+}
+
+impl<'a> Lists<'a> {
+    pub fn new(multipliers: &'a [i32], ashore: &'a [u8]) -> Lists<'a> {
+        Lists {
+            sent: (multipliers, ashore),
+            multipliers: Lent::numbers(multipliers),
+            ashore: Lent::holding(ashore),
+        }
+    }
+
+    pub fn pointers(&mut self) -> (*const i32, *const u8) {
+        (self.multipliers.pointer(), self.ashore.pointer())
+    }
+
+    /// Whether both are as they were sent.
+    pub fn kept(&self) -> bool {
+        let (multipliers, ashore) = self.sent;
+        self.multipliers.kept(&Lent::numbers(multipliers))
+            && self.ashore.kept(&Lent::holding(ashore))
+    }
+}

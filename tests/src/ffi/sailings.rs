@@ -1,6 +1,6 @@
 //! The simulator and the comparison of settings.
 
-use super::lent::Lent;
+use super::lent::{Lent, Lists};
 use super::{by_value, call, terms};
 use crate::document::graph::Graph;
 use crate::document::sailing::{Asked, Trial};
@@ -56,20 +56,18 @@ pub struct ComparedReply {
 
 pub fn compare(trial: &Trial) -> ComparedReply {
     let g = by_value(&trial.graph);
-    let dues = || Lent::numbers(&trial.multipliers);
     let words = |list: &[u32]| Lent::words(list.iter().map(|x| x.to_ne_bytes()));
-    let (mut given, mut sweeps, mut steps) = (dues(), words(&trial.sweeps), words(&trial.steps));
+    let mut given = Lists::new(&trial.multipliers, &trial.ashore);
+    let (mut sweeps, mut steps) = (words(&trial.sweeps), words(&trial.steps));
     let mut report = Lent::new(8 * trial.length);
-    let (d, first, second, out) = (
-        given.pointer(),
-        sweeps.pointer(),
-        steps.pointer(),
-        report.pointer(),
-    );
+    let (d, ashore) = given.pointers();
+    let (first, second, out) = (sweeps.pointer(), steps.pointer(), report.pointer());
     let said = call!(planner_compare(
         g,
         d,
         trial.multipliers.len(),
+        ashore,
+        trial.ashore.len(),
         terms(trial),
         first,
         trial.sweeps.len(),
@@ -78,9 +76,8 @@ pub fn compare(trial: &Trial) -> ComparedReply {
         out,
         trial.length
     ));
-    let read = given.kept(&dues())
-        && sweeps.kept(&words(&trial.sweeps))
-        && steps.kept(&words(&trial.steps));
+    let read =
+        given.kept() && sweeps.kept(&words(&trial.sweeps)) && steps.kept(&words(&trial.steps));
     ComparedReply {
         said,
         report: report

@@ -1,6 +1,6 @@
 //! The calls on a search.
 
-use super::lent::Lent;
+use super::lent::{Lent, Lists};
 use super::{by_value, call, settings, Reply};
 use crate::document::machine::Call;
 use crate::record::{Record, SIZE};
@@ -32,13 +32,17 @@ impl Record {
         let mut kept = true;
         let said = match call {
             Call::Open {
-                graph, multipliers, ..
+                graph,
+                multipliers,
+                ashore,
+                ..
             } => {
                 let (g, t) = (by_value(graph), settings(call));
-                let mut given = Lent::numbers(multipliers);
-                let d = given.pointer();
-                let said = call!(planner_open(s, g, d, multipliers.len(), t));
-                kept = given.kept(&Lent::numbers(multipliers));
+                let mut given = Lists::new(multipliers, ashore);
+                let (d, a) = given.pointers();
+                let (many, listed) = (multipliers.len(), ashore.len());
+                let said = call!(planner_open(s, g, d, many, a, listed, t));
+                kept = given.kept();
                 said
             }
             Call::Run { budget } => call!(planner_run(s, *budget)),

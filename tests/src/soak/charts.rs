@@ -59,6 +59,16 @@ pub const VALUES: Kind = Kind {
         bends::LEG_BEFORE_DENOMINATOR,
         bends::LIFTED_UNASKED,
         bends::FLAG_WITHOUT_EFFECT,
+        bends::ASHORE_BYTE_OF_TWO,
+        bends::ASHORE_OF_ANY_LENGTH,
+        bends::ASHORE_BEFORE_DENOMINATOR,
+        bends::LEG_BEFORE_ASHORE,
+        bends::FREE_BY_LIST,
+        bends::TOUCHED_REQUIRED_STAY,
+        bends::TOUCHED_RULED_BY_MARK,
+        bends::DUE_ASHORE_COUNTS,
+        bends::LEGS_OF_ALL,
+        bends::COMPARED_WITHOUT_LIST,
     ],
 };
 
@@ -118,36 +128,25 @@ fn written(watch: &mut Watch, graph: &Graph, length: usize) -> Outcome {
 
 fn values(random: &mut Random, watch: &mut Watch) -> Outcome {
     let (small, wrong) = (!random.one_in(4), random.one_in(3));
-    let mut given = arguments(random, small, wrong);
-    exaggerate(random, &mut given);
-    let Arguments {
-        graph,
-        multipliers,
-        denominator: q,
-        ceiling,
-        length,
-    } = &given;
-    let input = || {
-        format!(
-            "{graph:?}, multipliers {multipliers:?}, denominator {q}, ceiling {ceiling}, a list of {length} bytes"
-        )
-    };
+    let mut sent = arguments(random, small, wrong);
+    exaggerate(random, &mut sent);
+    let (graph, ceiling, length) = (&sent.graph, sent.ceiling, sent.length);
+    let given = sent.given();
+    let input = || sent.shown();
     let expected = check::expected(watch.law, graph);
     watch.compare("check", input, expected, || ffi::check(graph))?;
-    written(watch, graph, *length)?;
-    let expected = tree::expected(watch.law, Method::Kruskal, graph, multipliers, *q, *length);
-    watch.compare("tree", input, expected, || {
-        trees::tree(graph, multipliers, *q, *length)
-    })?;
+    written(watch, graph, length)?;
+    let expected = tree::expected(watch.law, Method::Kruskal, &given, length);
+    watch.compare("tree", input, expected, || trees::tree(&given, length))?;
     let asked = preview::asked(random, graph);
     let (law, method) = (watch.law, Method::Kruskal);
-    let expected = preview::expected(law, method, graph, multipliers, *q, asked, *length);
+    let expected = preview::expected(law, method, &given, asked, length);
     watch.compare("preview", input, expected, || {
-        trees::preview(graph, multipliers, *q, asked, *length)
+        trees::preview(&given, asked, length)
     })?;
-    let expected = rule::expected(watch.law, Method::Kruskal, &given);
+    let expected = rule::expected(law, method, &given, ceiling, length);
     watch.compare("rule", input, expected, || {
-        trees::rule(graph, multipliers, *q, *ceiling, *length)
+        trees::rule(&given, ceiling, length)
     })?;
     logs(random, watch, graph)?;
     sailings(random, watch)
@@ -187,7 +186,7 @@ fn sailings(random: &mut Random, watch: &mut Watch) -> Outcome {
 /// The ends of every type, any contents at all, and lists that are wrong by one, empty or far too long.
 fn exaggerate(random: &mut Random, given: &mut Arguments) {
     let graph = &mut given.graph;
-    match random.below(17) {
+    match random.below(20) {
         0 => {
             let end = random.pick(&[i32::MIN, i32::MAX, 0]);
             given.multipliers.iter_mut().for_each(|d| *d ^= end);
@@ -211,6 +210,12 @@ fn exaggerate(random: &mut Random, given: &mut Arguments) {
         12 => given.length = random.pick(&[0, OVER_LONG]),
         13 => generate::junk_past_m(random, graph),
         14 => given.denominator = random.word() >> random.below(64),
+        15 => given.ashore = random.bytes(graph.n.min(20)),
+        16 => {
+            let length = random.pick(&[0, given.ashore.len() + 1, OVER_LONG]);
+            given.ashore.resize(length, 1);
+        }
+        17 => given.ashore.fill(random.pick(&[0, 1, 0xff])),
         _ => {}
     }
 }

@@ -3,9 +3,9 @@
 use std::collections::BTreeMap;
 
 /// Every number of a refusal in documents 01 and 02.
-pub const REFUSALS: [u32; 32] = [
-    1, 2, 3, 4, 5, 6, 7, 8, 9, 10, 11, 12, 13, 14, 15, 20, 21, 22, 23, 24, 30, 31, 32, 33, 34, 36,
-    37, 38, 39, 40, 41, 42,
+pub const REFUSALS: [u32; 33] = [
+    1, 2, 3, 4, 5, 6, 7, 8, 9, 10, 11, 12, 13, 14, 15, 20, 21, 22, 23, 24, 30, 31, 32, 33, 34, 35,
+    36, 37, 38, 39, 40, 41, 42,
 ];
 
 #[derive(Default)]

@@ -20,6 +20,7 @@ pub const DISPATCHERS: Kind = Kind {
         bends::FINISHED_GIVE_WAY,
         bends::SEVEN_PLACES_CHECKED,
         bends::LIFTED_UNASKED,
+        bends::ADDED_WITHOUT_LIST,
     ],
 };
 

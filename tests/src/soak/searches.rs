@@ -34,6 +34,10 @@ pub const RECORDS: Kind = Kind {
         bends::HIGHER_DENOMINATOR,
         bends::LIFTED_UNASKED,
         bends::LIFTING_OF_TWO,
+        bends::TWO_AFLOAT,
+        bends::ASHORE_BYTE_OF_TWO,
+        bends::TOUCHED_NOT_CHECKED,
+        bends::CARRIED_PAST_AFLOAT,
     ],
 };
 
@@ -61,6 +65,10 @@ pub const LISTS: Kind = Kind {
         bends::LIFTED_AT_UPPER_RULED,
         bends::LIFTED_DUES_STAY,
         bends::LIFTING_AS_SENT,
+        bends::DUE_ASHORE_COUNTS,
+        bends::DUE_ASHORE_GAINS,
+        bends::ROUND_OF_ALL,
+        bends::LIFTED_WITHOUT_LIST,
     ],
 };
 
@@ -75,6 +83,7 @@ pub const SHELVES: Kind = Kind {
         bends::CLOSE_EMPTIES,
         bends::NAMED_PLACE_CHECKED,
         bends::LIFTING_OF_TWO,
+        bends::SAVED_WITHOUT_LIST,
     ],
 };
 

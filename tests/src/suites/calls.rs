@@ -1,6 +1,7 @@
 //! Whole lists of calls on the reference machine, refused ones among them: with trees and rulings by
 //! definition and by Kruskal it gives the same answers and, after each call, the same state.
 
+use super::own_lifts::{minutes, turning_opening};
 use crate::bends;
 use crate::document::law::Law;
 use crate::document::machine::Machine;
@@ -37,18 +38,34 @@ pub const SUITE: Suite = Suite {
         bends::LIFTED_UNASKED,
         bends::LAST_PASS_LIFTS,
         bends::RELAXED_POLICY,
-        bends::SECOND_LIMIT_DROPPED,
         bends::LIFTED_AT_UPPER_RULED,
         bends::LIFTED_DUES_STAY,
         bends::LIFTING_ONE_BIT,
         bends::LIFTING_AS_SENT,
+        bends::ASHORE_BYTE_OF_TWO,
+        bends::FIRST_ASHORE,
+        bends::TWO_AFLOAT,
+        bends::ASHORE_OF_ANY_LENGTH,
+        bends::ASHORE_BEFORE_DENOMINATOR,
+        bends::TOUCHED_STAY,
+        bends::TOUCHED_REQUIRED_STAY,
+        bends::DUE_ASHORE_COUNTS,
+        bends::DUE_ASHORE_GAINS,
+        bends::LEGS_OF_ALL,
+        bends::ROUND_OF_ALL,
+        bends::LIFTED_WITHOUT_LIST,
     ],
 };
 
 fn run(law: &Law, tally: &mut Tally) -> Outcome {
     let random = &mut Random::new(0x0063_616c_6c73);
-    for _ in 0..2500 {
-        let list = generate::calls(random, 5, 10);
+    for round in 0..8_000 {
+        let mut list = generate::calls(random, 5, 10);
+        if round % 2 == 0 {
+            let graph = minutes(random);
+            let lifting = generate::lifting(random);
+            list.insert(0, turning_opening(random, &graph, lifting));
+        }
         let mut one = Machine::new(law, Method::Kruskal);
         let mut other = Machine::new(&Law::AS_WRITTEN, Method::Definition);
         for (i, call) in list.iter().enumerate() {

@@ -33,6 +33,17 @@ pub const SUITE: Suite = Suite {
         bends::FLAG_WITHOUT_EFFECT,
         bends::LIFTED_UNASKED,
         bends::LIFTING_ONE_BIT,
+        bends::ASHORE_BYTE_OF_TWO,
+        bends::FIRST_ASHORE,
+        bends::TWO_AFLOAT,
+        bends::ASHORE_OF_ANY_LENGTH,
+        bends::ASHORE_BEFORE_MULTIPLIERS,
+        bends::ASHORE_BEFORE_CEILING,
+        bends::ASHORE_BEFORE_STEP,
+        bends::ASHORE_BEFORE_DENOMINATOR,
+        bends::COMPARED_WITHOUT_LIST,
+        bends::DUE_ASHORE_GAINS,
+        bends::ROUND_OF_ALL,
     ],
 };
 
@@ -53,6 +64,7 @@ pub fn trial(random: &mut Random, wrong: bool) -> Trial {
     let Arguments {
         graph,
         multipliers,
+        ashore,
         denominator,
         ceiling,
         ..
@@ -62,6 +74,7 @@ pub fn trial(random: &mut Random, wrong: bool) -> Trial {
     let mut trial = Trial {
         graph,
         multipliers,
+        ashore,
         ceiling,
         budget: random.pick(&[0, 1, 2, 3, 5, 8, 40, 300]),
         denominator,
@@ -80,7 +93,7 @@ pub fn trial(random: &mut Random, wrong: bool) -> Trial {
 
 fn damage(random: &mut Random, trial: &mut Trial) {
     let last = trial.sweeps.len().saturating_sub(1);
-    match random.below(10) {
+    match random.below(12) {
         0 => generate::break_value(random, &mut trial.graph),
         1 => trial.multipliers.push(0),
         2 => generate::break_multipliers(random, &mut trial.multipliers),
@@ -93,6 +106,10 @@ fn damage(random: &mut Random, trial: &mut Trial) {
             trial.steps.resize(pairs, 0);
             trial.length = pairs;
         }
+        10 => generate::break_ashore(random, &mut trial.ashore),
+        11 => trial
+            .ashore
+            .resize(random.pick(&[0, 1, trial.graph.n + 1, 30]), 0),
         7 => trial.denominator = generate::wrong_denominator(random),
         8 if !trial.sweeps.is_empty() => trial.sweeps[last] = random.pick(&[16, 17, u32::MAX]),
         _ if !trial.steps.is_empty() => {
@@ -125,6 +142,7 @@ fn facts(law: &Law, tally: &mut Tally) -> Outcome {
         let trial = Trial {
             graph: four.clone(),
             multipliers: vec![0; 4],
+            ashore: vec![0; 4],
             ceiling,
             budget: 5,
             denominator: 1,

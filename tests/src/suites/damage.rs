@@ -1,6 +1,7 @@
 //! Records with damage, through the library: every call refuses 24, and changes nothing, exactly where the stated check fails.
 
 use crate::bends;
+use crate::document::ashore::{dues, haul};
 use crate::document::graph::{EXCLUDED, FREE, PLACES, REQUIRED};
 use crate::document::law::Law;
 use crate::document::machine::{Call, Machine, Node};
@@ -41,6 +42,14 @@ pub const SUITE: Suite = Suite {
         bends::RANGE_IN_MINUTES,
         bends::LIFTING_OF_TWO,
         bends::LIFTING_NOT_CHECKED,
+        bends::ASHORE_BYTE_OF_TWO,
+        bends::FIRST_ASHORE,
+        bends::TWO_AFLOAT,
+        bends::ASHORE_NOT_CHECKED,
+        bends::ASHORE_PAST_N,
+        bends::TOUCHED_NOT_CHECKED,
+        bends::CARRIED_PAST_AFLOAT,
+        bends::DEPTH_OF_ALL,
     ],
 };
 
@@ -84,7 +93,7 @@ pub fn harm(random: &mut Random, record: &mut Record) {
         1 => VERTICES * first_unused + random.below(VERTICES),
         _ => VERTICES * node + random.below(n),
     };
-    match random.below(22) {
+    match random.below(24) {
         0 => record.open = byte,
         1 => record.graph.n = random.pick(&[0, 2, 3, 4, 20, 21, 255]),
         2 => record.graph.m = random.pick(&[0, m - 1, m + 1, 190, 191, 255]),
@@ -98,8 +107,9 @@ pub fn harm(random: &mut Random, record: &mut Record) {
         10 => record.step = random.pick(&[0, 10_000, 10_001, u32::MAX]),
         11 => record.upper = wide,
         12 => {
-            let (n, m) = (n as u32, m as u32);
-            record.depth = random.pick(&[0, 1, 2, n + 2, n + 3, m + 2, 22, 23, 1 << 16, u32::MAX]);
+            let (n, m) = (random.pick(&[n, record.afloat()]) as u64, m as u64);
+            let far = random.pick(&[1 << 16, 1 << 32, record.depth ^ 1 << 32, u64::MAX]);
+            record.depth = random.pick(&[0, 1, 2, n + 2, n + 3, m + 2, 22, 23, far]);
         }
         13 => {
             let node = random.pick(&[first_unused, node, node]);
@@ -111,6 +121,8 @@ pub fn harm(random: &mut Random, record: &mut Record) {
         17 => clear_required(record, node),
         20 => record.stack[random.below(STACK)] = random.word(),
         21 => record.lifting = random.pick(&[0, 1, 2, 2, 256, 1 << 32, 1 << 63, u64::MAX]),
+        22 => record.ashore[random.below(n)] = random.pick(&[0, 1, 1, 2, 255]),
+        23 => record.ashore[random.below(VERTICES)] ^= 1,
         18 => {
             let wrong = generate::wrong_denominator(random);
             record.denominator = random.pick(&[1, 2, MAX_DENOMINATOR, wrong, wrong, wrong]);
@@ -231,8 +243,8 @@ fn flags(law: &Law, tally: &mut Tally, random: &mut Random) -> Outcome {
 }
 
 /// A search of n vertices in which so many nodes wait, node p with p required edges: then each node with one required edge fewer, with an edge in both
-/// rows, and with a bit past m in each row; each other node with a bit in it; each with multipliers at a limit and past it, with one of vertex 1 and
-/// with one past n; and other depths.
+/// rows, and with a bit past m in each row; each other node with a bit in it; each with multipliers at a limit and past it, with one of vertex 1, with
+/// one past the vertices afloat and one past n; each node with the mark of some edge turned; each byte of the list ashore; and other depths.
 fn stacks(law: &Law, tally: &mut Tally, random: &mut Random, n: usize, depth: usize) -> Outcome {
     let m = n * (n - 1) / 2;
     let record = waiting(random, n, depth);
@@ -271,9 +283,36 @@ fn stacks(law: &Law, tally: &mut Tally, random: &mut Random, n: usize, depth: us
         if n < VERTICES {
             carries(n + random.below(VERTICES - n), random.pick(&[-1, 1]))?;
         }
+        let afloat = record.afloat();
+        if afloat < n {
+            carries(afloat, random.pick(&[-1, 1]))?;
+            let mut harmed = record.clone();
+            let (sea, k) = (haul(law, &record.graph, &record.ashore), random.below(m));
+            let touched = (k..m).find(|k| sea.touches_ashore(*k)).unwrap_or(k);
+            let word = NODE * p + touched / 64;
+            harmed.stack[word + ROW] &= !(1 << (touched % 64));
+            if random.one_in(2) {
+                harmed.stack[word] |= 1 << (touched % 64);
+            }
+            judge(harmed)?;
+        }
     }
-    let depth = depth as u32;
-    for other in [depth + 1, 255, 256 + depth, (1 << 16) + depth, u32::MAX] {
+    for place in 0..VERTICES {
+        for byte in [1 - record.ashore[place], 2] {
+            let mut harmed = record.clone();
+            harmed.ashore[place] = byte;
+            judge(harmed)?;
+        }
+    }
+    let depth = depth as u64;
+    for other in [
+        depth + 1,
+        255,
+        256 + depth,
+        (1 << 16) + depth,
+        (1 << 32) + depth,
+        u64::MAX,
+    ] {
         let mut harmed = record.clone();
         harmed.depth = other;
         judge(harmed)?;
@@ -284,10 +323,15 @@ fn stacks(law: &Law, tally: &mut Tally, random: &mut Random, n: usize, depth: us
 /// An opening's record with its stack written anew; of few edges the upper nodes have all of them required.
 fn waiting(random: &mut Random, n: usize, depth: usize) -> Record {
     let m = n * (n - 1) / 2;
-    let mut machine = Machine::new(&Law::AS_WRITTEN, Method::Kruskal);
+    let (law, ashore) = (&Law::AS_WRITTEN, generate::ashore(random, n));
+    let graph = generate::graph_of(random, n, m);
+    let sea = haul(law, &graph, &ashore);
+    let mut untouched: Vec<usize> = (0..m).filter(|k| !sea.touches_ashore(*k)).collect();
+    let mut machine = Machine::new(law, Method::Kruskal);
     machine.call(&Call::Open {
-        graph: Box::new(generate::graph_of(random, n, m)),
+        graph: Box::new(graph),
         multipliers: generate::multipliers(random, n),
+        ashore: ashore.clone(),
         ceiling: 0,
         sweeps: 0,
         step: 0,
@@ -297,16 +341,17 @@ fn waiting(random: &mut Random, n: usize, depth: usize) -> Record {
     if let Some(search) = &mut machine.search {
         search.stack = (0..depth)
             .map(|p| {
-                let mut marks: Vec<u8> = (0..m)
-                    .map(|k| match k < p {
+                let mut marks = vec![EXCLUDED; m];
+                random.shuffle(&mut untouched);
+                for (i, k) in untouched.iter().enumerate() {
+                    marks[*k] = match i < p {
                         true => REQUIRED,
                         false => random.pick(&[FREE, EXCLUDED]),
-                    })
-                    .collect();
-                random.shuffle(&mut marks);
+                    };
+                }
                 Node {
                     marks,
-                    multipliers: generate::multipliers(random, n),
+                    multipliers: dues(law, &generate::multipliers(random, n), &ashore),
                 }
             })
             .collect();

@@ -7,13 +7,14 @@ use super::own_rulings::turning_ceiling;
 use super::searches::opening;
 use super::{compare, preview, records, rule, tree};
 use crate::bends;
+use crate::document::ashore::haul;
 use crate::document::former;
 use crate::document::graph::{Graph, FREE, REQUIRED};
 use crate::document::law::Law;
 use crate::document::machine::{Answer, Call, Machine, Verdict};
 use crate::document::sailing::Trial;
 use crate::document::tours;
-use crate::document::tree::Method;
+use crate::document::tree::{Given, Method};
 use crate::ffi::{bound, only, sailings, trees, Reply};
 use crate::generate::{self, Spread, MAX_CEILING, MAX_MULTIPLIER};
 use crate::random::Random;
@@ -42,6 +43,11 @@ pub const SUITE: Suite = Suite {
         bends::DENOMINATOR_BEFORE_CEILING,
         bends::DENOMINATOR_BEFORE_STEP,
         bends::LEG_BEFORE_DENOMINATOR,
+        bends::ASHORE_BEFORE_MULTIPLIERS,
+        bends::ASHORE_BEFORE_CEILING,
+        bends::ASHORE_BEFORE_STEP,
+        bends::ASHORE_BEFORE_DENOMINATOR,
+        bends::LEG_BEFORE_ASHORE,
     ],
 };
 
@@ -51,7 +57,7 @@ fn run(law: &Law, tally: &mut Tally) -> Outcome {
     let random = &mut Random::new(0x7172_6571_7561);
     halves(tally)?;
     every_q(law, tally)?;
-    for faults in 0..1 << 10 {
+    for faults in 0..1 << 11 {
         orders(law, tally, faults)?;
     }
     for round in 0..4_000 {
@@ -66,7 +72,7 @@ fn run(law: &Law, tally: &mut Tally) -> Outcome {
     Ok(())
 }
 
-fn said(said: Numbers, out: Option<&[u8]>) -> Reply {
+pub fn said(said: Numbers, out: Option<&[u8]>) -> Reply {
     Reply {
         said,
         out: out.map(|bytes| Hex(bytes.to_vec())),
@@ -79,31 +85,33 @@ fn halves(tally: &mut Tally) -> Outcome {
     let (four, dues) = (four(), [0, 0, 1, -1]);
     let input = || "document 01's sea, dues 0 0 1 -1, in halves".to_string();
     let (legs, struck) = ([1, 1, 0, 1, 0, 1], [0, 1, 1, 1, 0, 1]);
-    let got = trees::tree(&four, &dues, 2, 6);
+    let given = Given::afloat(&four, &dues, 2);
+    let got = trees::tree(&given, 6);
     tally.compare("tree", input, &said(bound(22), Some(&legs)), &got)?;
-    let got = trees::preview(&four, &dues, 2, (1, 2), 6);
+    let got = trees::preview(&given, (1, 2), 6);
     tally.compare("preview", input, &said(bound(23), Some(&struck)), &got)?;
-    let got = trees::rule(&four, &dues, 2, 10, 6);
+    let got = trees::rule(&given, 10, 6);
     tally.compare("ceiling 10", input, &said(only(NONE), None), &got)?;
-    let got = trees::rule(&four, &dues, 2, 11, 6);
+    let got = trees::rule(&given, 11, 6);
     let rulings = [1, 1, 2, 1, 2, 1];
     tally.compare("ceiling 11", input, &said(bound(22), Some(&rulings)), &got)
 }
 
 /// The arguments of every call, and what is asked beside.
-struct Case {
-    given: Arguments,
-    asked: (usize, u32),
-    sweeps: u32,
-    step: u32,
+pub struct Case {
+    pub given: Arguments,
+    pub asked: (usize, u32),
+    pub sweeps: u32,
+    pub step: u32,
 }
 
 impl Case {
-    fn four(denominator: u64) -> Case {
+    pub fn four(denominator: u64) -> Case {
         Case {
             given: Arguments {
                 graph: four(),
                 multipliers: vec![0; 4],
+                ashore: vec![0; 4],
                 denominator,
                 ceiling: 12,
                 length: 6,
@@ -118,6 +126,7 @@ impl Case {
         Call::Open {
             graph: Box::new(self.given.graph.clone()),
             multipliers: self.given.multipliers.clone(),
+            ashore: self.given.ashore.clone(),
             ceiling: self.given.ceiling,
             sweeps: self.sweeps,
             step: self.step,
@@ -130,6 +139,7 @@ impl Case {
         Trial {
             graph: self.given.graph.clone(),
             multipliers: self.given.multipliers.clone(),
+            ashore: self.given.ashore.clone(),
             ceiling: self.given.ceiling,
             budget: 40,
             denominator: self.given.denominator,
@@ -141,27 +151,22 @@ impl Case {
     }
 
     /// Each call's number, of the library, after it was held to the reference: tree, rule, preview, opening a fresh record, compare.
-    fn numbers(&self, law: &Law, tally: &mut Tally) -> Result<[u32; 5], Mismatch> {
-        let Arguments {
-            graph,
-            multipliers: dues,
-            denominator: q,
-            ceiling,
-            length,
-        } = &self.given;
+    pub fn numbers(&self, law: &Law, tally: &mut Tally) -> Result<[u32; 5], Mismatch> {
+        let (given, ceiling, length) = (self.given.given(), self.given.ceiling, self.given.length);
         let input = || {
             let (asked, sweeps, step) = (self.asked, self.sweeps, self.step);
-            format!("{graph:?}, {dues:?}, denominator {q}, ceiling {ceiling}, {asked:?}, sweeps {sweeps}, step {step}")
+            let given = self.given.shown();
+            format!("{given}, {asked:?}, sweeps {sweeps}, step {step}")
         };
         let method = Method::Kruskal;
-        let one = trees::tree(graph, dues, *q, *length);
-        let wanted = tree::expected(law, method, graph, dues, *q, *length);
+        let one = trees::tree(&given, length);
+        let wanted = tree::expected(law, method, &given, length);
         tally.compare("tree", input, &wanted, &one)?;
-        let two = trees::rule(graph, dues, *q, *ceiling, *length);
-        let wanted = rule::expected(law, method, &self.given);
+        let two = trees::rule(&given, ceiling, length);
+        let wanted = rule::expected(law, method, &given, ceiling, length);
         tally.compare("rule", input, &wanted, &two)?;
-        let three = trees::preview(graph, dues, *q, self.asked, *length);
-        let wanted = preview::expected(law, method, graph, dues, *q, self.asked, *length);
+        let three = trees::preview(&given, self.asked, length);
+        let wanted = preview::expected(law, method, &given, self.asked, length);
         tally.compare("preview", input, &wanted, &three)?;
         let mut record = Record::made_fresh();
         let four = record.call(&self.opening());
@@ -186,19 +191,21 @@ fn every_q(law: &Law, tally: &mut Tally) -> Outcome {
         let wanted = if taken { 0 } else { 32 };
         tally.compare("taken", input, &[wanted; 5], &numbers)?;
         let value = if taken { 10 * q as i64 } else { 0 };
-        let got = trees::tree(&four(), &[0; 4], q, 6).said.value;
+        let got = trees::tree(&Given::afloat(&four(), &[0; 4], q), 6)
+            .said
+            .value;
         tally.compare("bound", input, &value, &got)?;
     }
     Ok(())
 }
 
 /// The orders as the request has them; of an opening, what stands before 15 is the record's.
-const ORDERS: [(&str, &[u32]); 5] = [
-    ("tree", &[15, 11, 12, 32]),
-    ("rule", &[15, 11, 12, 13, 32]),
-    ("preview", &[15, 11, 12, 32, 30, 31]),
-    ("open", &[15, 11, 12, 13, 14, 32]),
-    ("compare", &[15, 11, 12, 13, 14, 32]),
+pub const ORDERS: [(&str, &[u32]); 5] = [
+    ("tree", &[15, 11, 12, 32, 35]),
+    ("rule", &[15, 11, 12, 13, 32, 35]),
+    ("preview", &[15, 11, 12, 32, 35, 30, 31]),
+    ("open", &[15, 11, 12, 13, 14, 32, 35]),
+    ("compare", &[15, 11, 12, 13, 14, 32, 35]),
 ];
 
 /// The calls' arguments with some of the faults, one a bit, and the numbers of those.
@@ -223,7 +230,10 @@ fn with_faults(faults: u32) -> (Case, Vec<u32>) {
         given.multipliers[3] = MAX_MULTIPLIER + 1;
     }
     if fault(4, 11) {
-        given.multipliers.push(0);
+        match has(0) {
+            true => given.multipliers.push(0),
+            false => given.ashore.push(0),
+        }
     }
     if fault(5, 13) {
         given.ceiling = MAX_CEILING + 1;
@@ -239,6 +249,11 @@ fn with_faults(faults: u32) -> (Case, Vec<u32>) {
     }
     if fault(9, 14) {
         case.step = 10_001;
+    }
+    if fault(10, 35) {
+        let unfit = [[0, 2, 0, 0], [1, 0, 0, 0], [0, 0, 1, 1]];
+        let which = faults.count_ones() as usize % unfit.len();
+        case.given.ashore[..4].copy_from_slice(&unfit[which]);
     }
     (case, present)
 }
@@ -281,23 +296,25 @@ fn ends(law: &Law, tally: &mut Tally, random: &mut Random, q: u64) -> Outcome {
     }
     let mut multipliers: Vec<i32> = (0..graph.n).map(|_| end(random)).collect();
     multipliers[0] = 0;
-    let input = || format!("{graph:?}, multipliers {multipliers:?}, denominator {q}");
-    let reply = trees::tree(&graph, &multipliers, q, graph.m);
+    let ashore = generate::ashore(random, graph.n);
+    let (graph, multipliers) = (&graph, &multipliers[..]);
+    let given = Given {
+        graph,
+        multipliers,
+        ashore: &ashore,
+        q,
+    };
+    let input = || format!("{given:?}");
+    let reply = trees::tree(&given, graph.m);
     let method = Method::Definition;
-    let wanted = tree::expected(law, method, &graph, &multipliers, q, graph.m);
+    let wanted = tree::expected(law, method, &given, graph.m);
     tally.compare("tree", input, &wanted, &reply)?;
     let below = reply.said.value.div_euclid(q as i64);
-    let turn = turning_ceiling(random, &graph, &multipliers, q);
+    let (sea, dues) = given.sea(&Law::AS_WRITTEN);
+    let turn = turning_ceiling(random, &sea, &dues, q);
     for ceiling in [below - 1, below, below + 1, turn] {
-        let given = Arguments {
-            graph: graph.clone(),
-            multipliers: multipliers.clone(),
-            denominator: q,
-            ceiling,
-            length: graph.m,
-        };
-        let got = trees::rule(&graph, &multipliers, q, ceiling, graph.m);
-        let wanted = rule::expected(law, method, &given);
+        let got = trees::rule(&given, ceiling, graph.m);
+        let wanted = rule::expected(law, method, &given, ceiling, graph.m);
         tally.compare("rule", input, &wanted, &got)?;
         let dead = reply.said.number == NONE || ceiling * (q as i64) < reply.said.value;
         tally.compare("dead", input, &dead, &(got.said.number == NONE))?;
@@ -315,20 +332,22 @@ fn agree(law: &Law, tally: &mut Tally, random: &mut Random) -> Outcome {
             graph.cost[k] = generate::number(random, spread, MAX_MULTIPLIER);
         }
     }
-    let allowed = tours::all(&graph)
+    let ashore = generate::ashore(random, graph.n);
+    let sea = haul(&Law::AS_WRITTEN, &graph, &ashore);
+    let allowed = tours::all(&sea)
         .into_iter()
-        .filter(|tour| tours::is_allowed(&graph, &tour.edges));
+        .filter(|tour| tours::is_allowed(&sea, &tour.edges));
     let best = allowed.map(|tour| tour.cost).min();
     let ceiling = generate::ceiling(random, best.unwrap_or(0));
     let verdict = match best {
         Some(cost) if cost <= ceiling => (BEST, cost),
         _ => (NO_TOUR, 0),
     };
-    let free = graph.marks().iter().filter(|mark| **mark == FREE).count();
+    let free = sea.marks().iter().filter(|mark| **mark == FREE).count();
     let budget = (1u64 << (free + 1)) - 1;
     for q in QS {
         let shuffled = generate::shuffled(random, &graph);
-        let mut open = opening(random, &shuffled, ceiling);
+        let mut open = opening(random, &shuffled, &ashore, ceiling);
         if let Call::Open { denominator, .. } = &mut open {
             *denominator = q;
         }
@@ -367,14 +386,15 @@ fn with_one(tally: &mut Tally, random: &mut Random) -> Outcome {
         unreachable!("an opening");
     };
     let input = || format!("{open:?}");
-    let got = trees::tree(&graph, dues, 1, graph.m);
+    let given = Given::afloat(&graph, dues, 1);
+    let got = trees::tree(&given, graph.m);
     tally.compare("tree", input, &answered(&former::tree(&graph, dues)), &got)?;
-    let got = trees::rule(&graph, dues, 1, *ceiling, graph.m);
+    let got = trees::rule(&given, *ceiling, graph.m);
     let former = former::rule(&graph, dues, *ceiling);
     tally.compare("rule", input, &answered(&former), &got)?;
     for (place, mark) in (0..graph.m).flat_map(|place| [(place, 1), (place, 2)]) {
         if graph.mark[place] == FREE && random.one_in(8) {
-            let got = trees::preview(&graph, dues, 1, (place + 1, mark as u32), graph.m);
+            let got = trees::preview(&given, (place + 1, mark as u32), graph.m);
             let former = former::tree(&graph.with_mark(place, mark), dues);
             tally.compare("preview", input, &answered(&former), &got)?;
         }

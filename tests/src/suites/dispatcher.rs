@@ -2,6 +2,7 @@
 //! each call; that an unfinished hunt is served within eight turns, and that each hunt is a record run alone; dispatchers with damage.
 
 use super::damage::{harm, sound};
+use super::facts::four;
 use super::records::reply;
 use crate::bends;
 use crate::document::dispatcher::{Answer, Call, Dispatcher, PLACES};
@@ -37,6 +38,10 @@ pub const SUITE: Suite = Suite {
         bends::LIFTED_UNASKED,
         bends::LIFTING_AS_SENT,
         bends::LIFTING_OF_TWO,
+        bends::ADDED_WITHOUT_LIST,
+        bends::DUE_ASHORE_COUNTS,
+        bends::ASHORE_NOT_CHECKED,
+        bends::ASHORE_OF_ANY_LENGTH,
     ],
 };
 
@@ -111,29 +116,7 @@ fn run(law: &Law, tally: &mut Tally) -> Outcome {
 
 /// Document 01's sea, ceiling 12: the order of the places and of the refusals.
 fn example(law: &Law, tally: &mut Tally) -> Outcome {
-    let edges = [
-        (1, 2, 4),
-        (1, 3, 3),
-        (1, 4, 5),
-        (2, 3, 2),
-        (2, 4, 6),
-        (3, 4, 1),
-    ];
-    let edges = edges.map(|(a, b, cost)| crate::document::graph::Edge {
-        a,
-        b,
-        cost,
-        mark: 0,
-    });
-    let add = Call::Add(machine::Call::Open {
-        graph: Box::new(crate::document::graph::Graph::from_edges(4, &edges)),
-        multipliers: vec![0; 4],
-        ceiling: 12,
-        sweeps: 0,
-        step: 0,
-        denominator: 1,
-        lifting: 0,
-    });
+    let add = Call::Add(machine::Call::plain(&four(), 12, 1, 0));
     let turn = |portion| Call::Turn { portion };
     let refuse = |number| Answer::Refused(Refusal { number, place: 0 });
     let close = |place| Call::Close { place };

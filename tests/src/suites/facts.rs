@@ -5,8 +5,8 @@ use crate::document::chart::write;
 use crate::document::graph::{Edge, Graph, FREE, REQUIRED};
 use crate::document::law::Law;
 use crate::document::machine::{adjust, Answer, Call, Machine, Verdict};
-use crate::document::rulings::{rule, Ruled};
-use crate::document::tree::{least, Method, Tree};
+use crate::document::rulings::{self, rule, Ruled};
+use crate::document::tree::{self, least, Given, Method, Tree};
 use crate::document::{programs, tours};
 use crate::report::{Outcome, Suite, Tally};
 
@@ -26,6 +26,13 @@ pub const SUITE: Suite = Suite {
         bends::CEILING_NOT_SCALED,
         bends::MULTIPLIERS_TIMES,
         bends::LIFTED_UNASKED,
+        bends::LEGS_OF_ALL,
+        bends::ROUND_OF_ALL,
+        bends::TOUCHED_STAY,
+        bends::TOUCHED_REQUIRED_STAY,
+        bends::TOUCHED_RULED_BY_MARK,
+        bends::TOUCHED_IN_TREE,
+        bends::DUE_ASHORE_COUNTS,
     ],
 };
 
@@ -63,6 +70,7 @@ fn run(law: &Law, tally: &mut Tally) -> Outcome {
         trees(law, method, tally)?;
         rulings(law, method, tally)?;
         searches(law, method, tally)?;
+        hauled(law, method, tally)?;
     }
     let mut costs: Vec<i64> = tours::all(&four()).iter().map(|tour| tour.cost).collect();
     costs.sort();
@@ -143,21 +151,74 @@ fn searches(law: &Law, method: Method, tally: &mut Tally) -> Outcome {
     ];
     for (graph, ceiling, verdict, count) in cases {
         let mut machine = Machine::new(law, method);
-        machine.call(&Call::Open {
-            graph: Box::new(graph.clone()),
-            multipliers: vec![0; graph.n],
-            ceiling,
-            sweeps: 0,
-            step: 0,
-            denominator: 1,
-            lifting: 0,
-        });
+        machine.call(&Call::plain(&graph, ceiling, 1, 0));
         machine.call(&Call::Run { budget: u64::MAX });
         let got = machine.call(&Call::Tell);
         let input = || format!("{method:?}, {graph:?}, ceiling {ceiling}");
         tally.compare("search", input, &Answer::Told { verdict, count }, &got)?;
     }
     Ok(())
+}
+
+/// Document 02's C-20 on the same sea, buoy 4 ashore: legs 1 2 4, bound 9, also with leg 3 required or d(4) = 7; at ceiling 9 these are forced,
+/// below it the sea is dead. One node.
+fn hauled(law: &Law, method: Method, tally: &mut Tally) -> Outcome {
+    let ashore = [0, 0, 0, 1];
+    for (mark, due, q) in [
+        (FREE, 0, 1),
+        (REQUIRED, 0, 1),
+        (FREE, 7, 1),
+        (REQUIRED, -9, 2),
+    ] {
+        let (graph, dues) = (four().with_mark(2, mark), [0, 0, 0, due]);
+        let given = Given {
+            graph: &graph,
+            multipliers: &dues,
+            ashore: &ashore,
+            q,
+        };
+        let input = || format!("{method:?}, {given:?}");
+        let bound = 9 * q as i64;
+        let wanted = Tree {
+            bound,
+            edges: vec![1, 1, 0, 1, 0, 0],
+        };
+        let got = tree::call(law, method, &given, 6);
+        tally.compare("tree ashore", input, &Ok(Some(wanted)), &got)?;
+        let ruled = Ruled::Bound {
+            bound,
+            rulings: vec![1, 1, 4, 1, 4, 4],
+        };
+        for (ceiling, wanted) in [(9, ruled), (8, Ruled::Infeasible)] {
+            let got = rulings::call(law, method, &given, ceiling, 6);
+            tally.compare("rulings ashore", input, &Ok(wanted), &got)?;
+            hunted(law, method, tally, &given, ceiling)?;
+        }
+    }
+    Ok(())
+}
+
+/// A hunt of it: the round of these legs, or none.
+fn hunted(law: &Law, method: Method, tally: &mut Tally, given: &Given, ceiling: i64) -> Outcome {
+    let mut open = Call::plain(given.graph, ceiling, given.q, 0);
+    if let Call::Open {
+        multipliers,
+        ashore,
+        ..
+    } = &mut open
+    {
+        (*multipliers, *ashore) = (given.multipliers.to_vec(), given.ashore.to_vec());
+    }
+    let mut machine = Machine::new(law, method);
+    machine.call(&open);
+    machine.call(&Call::Run { budget: 2 });
+    let verdict = match ceiling {
+        9 => Verdict::Cost(9),
+        _ => Verdict::None,
+    };
+    let input = || format!("{method:?}, {open:?}");
+    let told = Answer::Told { verdict, count: 1 };
+    tally.compare("search ashore", input, &told, &machine.call(&Call::Tell))
 }
 
 /// "Due 999,999, step 10, three legs: 1,000,000."

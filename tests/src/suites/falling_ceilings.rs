@@ -2,12 +2,11 @@
 //! same bound, until the sea is dead, and a dead sea stays dead.
 
 use super::own_rulings::turning_ceiling;
-use super::own_trees::graph_for;
+use super::rule::arguments;
 use crate::bends;
 use crate::document::law::Law;
 use crate::ffi::trees::rule;
 use crate::ffi::Reply;
-use crate::generate;
 use crate::random::Random;
 use crate::report::{Hex, Outcome, Suite, Tally};
 use planner::raw::NONE;
@@ -46,28 +45,29 @@ fn bytes(reply: &Reply, m: usize) -> Vec<u8> {
 fn run(law: &Law, tally: &mut Tally) -> Outcome {
     let random = &mut Random::new(0x6365_696c_696e_6773);
     for round in 0..6_000 {
-        let graph = graph_for(random, round % 2 == 0);
-        let multipliers = generate::multipliers(random, graph.n);
-        let q = generate::denominator(random);
+        let arguments = arguments(random, round % 2 == 0, false);
+        let given = arguments.given();
+        let (sea, dues) = given.sea(law);
+        let m = sea.m;
         let mut ceilings = Vec::with_capacity(CEILINGS);
         for _ in 0..CEILINGS {
-            ceilings.push(turning_ceiling(random, &graph, &multipliers, q));
+            ceilings.push(turning_ceiling(random, &sea, &dues, given.q));
         }
         ceilings.sort_unstable_by(|x, y| y.cmp(x));
         let replies: Vec<Reply> = ceilings
             .iter()
-            .map(|ceiling| rule(&graph, &multipliers, q, *ceiling, graph.m))
+            .map(|ceiling| rule(&given, *ceiling, m))
             .collect();
         for (at, pair) in replies.windows(2).enumerate() {
             let input = || {
                 let (high, low) = (ceilings[at], ceilings[at + 1]);
-                format!("{graph:?}, multipliers {multipliers:?}, denominator {q}, ceilings {high} and {low}")
+                format!("{given:?}, ceilings {high} and {low}")
             };
             let (high, low) = (&pair[0], &pair[1]);
             if high.said.number == NONE {
                 tally.compare("dead stays dead", input, &NONE, &low.said.number)?;
             }
-            let (above, below) = (bytes(high, graph.m), bytes(low, graph.m));
+            let (above, below) = (bytes(high, m), bytes(low, m));
             if low.said.number != NONE || !law.unless_dead {
                 let (kept, wanted) = if law.ruled_stays_below {
                     (&below, asked(&above, &below))

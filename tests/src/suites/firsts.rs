@@ -5,6 +5,7 @@
 use super::facts::free;
 use super::records::reply;
 use crate::bends;
+use crate::document::ashore::haul;
 use crate::document::graph::{Edge, Graph};
 use crate::document::law::Law;
 use crate::document::machine::{Answer, Call, Machine};
@@ -27,6 +28,7 @@ pub const SUITE: Suite = Suite {
         bends::EQUALS_ALWAYS_REPLACE,
         bends::LAST_OF_EQUALS,
         bends::LOWEST_LEG_DECIDES,
+        bends::ROUND_OF_ALL,
     ],
 };
 
@@ -73,6 +75,7 @@ fn opening(random: &mut Random, graph: &Graph) -> Call {
     Call::Open {
         graph: Box::new(graph.clone()),
         multipliers: generate::multipliers_of(random, graph.n, spread),
+        ashore: generate::ashore(random, graph.n),
         ceiling: generate::MAX_CEILING,
         sweeps: random.pick(&[0, 0, 1, 2, 5]),
         step: random.pick(&[0, 1, 3, 50]),
@@ -83,7 +86,7 @@ fn opening(random: &mut Random, graph: &Graph) -> Call {
 
 /// One finished search: the tour shown, and the record, as the machine has it.
 fn one(law: &Law, tally: &mut Tally, open: &Call) -> Outcome {
-    let Call::Open { graph, .. } = open else {
+    let Call::Open { graph, ashore, .. } = open else {
         unreachable!("only openings come here");
     };
     let input = || format!("{open:?}");
@@ -96,7 +99,8 @@ fn one(law: &Law, tally: &mut Tally, open: &Call) -> Outcome {
         tally.compare("answer", input, &expected, &got)?;
     }
     tally.compare("record", input, &Record::of(&machine.search), &record)?;
-    let first = tours::first(graph).map(|tour| Hex(tour.edges));
+    let sea = haul(&Law::AS_WRITTEN, graph, ashore);
+    let first = tours::first(&sea).map(|tour| Hex(tour.edges));
     tally.compare("shown", input, &first, &record.call(&show).out)
 }
 
@@ -107,15 +111,7 @@ fn separating(law: &Law, tally: &mut Tally) -> Outcome {
     let sea = |pairs: [(u8, u8); 6], costs: [i32; 6]| {
         let edges: Vec<(u8, u8, i32)> =
             (0..6).map(|k| (pairs[k].0, pairs[k].1, costs[k])).collect();
-        Call::Open {
-            graph: Box::new(free(4, &edges)),
-            multipliers: vec![0; 4],
-            ceiling: 100,
-            sweeps: 0,
-            step: 0,
-            denominator: 1,
-            lifting: 0,
-        }
+        Call::plain(&free(4, &edges), 100, 1, 0)
     };
     let early = sea(one_way, [2, 2, 1, 2, 1, 1]);
     let late = sea(other_way, [3, 1, 3, 0, 3, 1]);

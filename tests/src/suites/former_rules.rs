@@ -4,12 +4,13 @@
 use super::own_rulings::turning_ceiling;
 use super::searches::opening;
 use crate::bends;
+use crate::document::ashore::none;
 use crate::document::former::{self, Hunt};
 use crate::document::graph::Graph;
 use crate::document::law::Law;
 use crate::document::machine::{Call, Machine};
 use crate::document::rulings::{self, Ruled};
-use crate::document::tree::{self, Method};
+use crate::document::tree::{self, Given, Method};
 use crate::generate;
 use crate::random::Random;
 use crate::report::{Outcome, Suite, Tally};
@@ -55,7 +56,7 @@ pub fn hunt(open: &Call) -> Hunt {
 pub fn of_one(random: &mut Random) -> (Graph, Call) {
     let graph = generate::small_graph(random, 5, 9);
     let near = turning_ceiling(random, &graph, &vec![0; graph.n], 1);
-    let mut open = opening(random, &graph, near);
+    let mut open = opening(random, &graph, none(&graph), near);
     if let Call::Open {
         denominator,
         lifting,
@@ -74,19 +75,12 @@ fn run(law: &Law, tally: &mut Tally) -> Outcome {
         let multipliers = generate::multipliers(random, graph.n);
         let ceiling = turning_ceiling(random, &graph, &multipliers, 1);
         let input = || format!("{graph:?}, multipliers {multipliers:?}, ceiling {ceiling}");
-        let got = tree::call(law, Method::Kruskal, &graph, &multipliers, 1, graph.m);
+        let given = Given::afloat(&graph, &multipliers, 1);
+        let got = tree::call(law, Method::Kruskal, &given, graph.m);
         let got = got.map(|tree| tree.map(|tree| (tree.bound, tree.edges)));
         let former = Ok(former::tree(&graph, &multipliers));
         tally.compare("tree", input, &former, &got)?;
-        let got = rulings::call(
-            law,
-            Method::Kruskal,
-            &graph,
-            &multipliers,
-            1,
-            ceiling,
-            graph.m,
-        );
+        let got = rulings::call(law, Method::Kruskal, &given, ceiling, graph.m);
         let got = got.map(|ruled| match ruled {
             Ruled::Bound { bound, rulings } => Some((bound, rulings)),
             Ruled::Infeasible => None,

@@ -25,6 +25,8 @@ pub const SUITE: Suite = Suite {
         bends::EXCLUDED_ON_TOP,
         bends::LAST_PASS_LIFTS,
         bends::LIFTED_DUES_STAY,
+        bends::DUE_ASHORE_COUNTS,
+        bends::DUE_ASHORE_GAINS,
     ],
 };
 
@@ -51,6 +53,7 @@ fn calls(random: &mut Random, graph: &Graph) -> Vec<Call> {
     let open = Call::Open {
         graph: Box::new(graph.clone()),
         multipliers: if random.one_in(4) { far } else { near },
+        ashore: generate::ashore(random, graph.n),
         ceiling: random.pick(&[generate::MAX_CEILING, 60, 30, 12]),
         sweeps: random.pick(&[1, 1, 1, 2, 3, 5]),
         step: random.pick(&STEPS),
@@ -105,15 +108,10 @@ fn separating(law: &Law, tally: &mut Tally) -> Outcome {
             mark: FREE,
         })
         .to_vec();
-    let open = Call::Open {
-        graph: Box::new(Graph::from_edges(5, &edges)),
-        multipliers: vec![0; 5],
-        ceiling: 40,
-        sweeps: 1,
-        step: 2,
-        denominator: 1,
-        lifting: 0,
-    };
+    let mut open = Call::plain(&Graph::from_edges(5, &edges), 40, 1, 0);
+    if let Call::Open { sweeps, step, .. } = &mut open {
+        (*sweeps, *step) = (1, 2);
+    }
     let counts = [
         (Law::AS_WRITTEN, 11),
         (bent(bends::MULTIPLIERS_RESET), 15),

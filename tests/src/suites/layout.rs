@@ -11,7 +11,7 @@ use crate::document::tree::Method;
 use crate::files::any_form;
 use crate::generate;
 use crate::random::Random;
-use crate::record::{rows, GRAPH, NODES, SIZE, STACK};
+use crate::record::{carried, rows, GRAPH, NODES, SIZE, STACK};
 use crate::report::{hex, Hex, Mismatch, Outcome, Suite, Tally};
 use planner::raw;
 
@@ -28,6 +28,8 @@ pub const SUITE: Suite = Suite {
         bends::STRUCK_ROW_FIRST,
         bends::BITS_FROM_ONE,
         bends::LIFTING_AS_SENT,
+        bends::CARRIED_OF_ALL,
+        bends::TOUCHED_STAY,
     ],
 };
 
@@ -122,9 +124,10 @@ fn record_fields(law: &Law, search: &Search, named: &raw::Record) -> Vec<Field> 
     let carried: Vec<u8> = search
         .stack
         .iter()
-        .flat_map(|node| padded(numbers(&node.multipliers), 4 * 20))
+        .flat_map(|node| numbers(&carried(law, &node.multipliers, &search.ashore)))
         .collect();
     let carried = padded(carried, 4 * 20 * NODES);
+    let ashore = padded(search.ashore.clone(), 20);
     let best = padded(search.incumbent.clone().unwrap_or_default(), PLACES);
     let mut fields = vec![
         number("ceiling", 0, search.ceiling, settings.ceiling),
@@ -145,20 +148,21 @@ fn record_fields(law: &Law, search: &Search, named: &raw::Record) -> Vec<Field> 
         number("upper", 32, search.upper, named.upper),
         number("count", 40, search.count as i64, named.count as i64),
         field("stack", 48, stack, &words(&named.stack)),
-        half("depth", 1_104, waiting as u32, named.depth),
+        number("depth", 1_104, waiting as i64, named.depth as i64),
     ];
-    fields.extend(graph_fields(1_108, &search.graph, &named.graph));
+    fields.extend(graph_fields(1_112, &search.graph, &named.graph));
     fields.extend([
         field(
             "multipliers",
-            2_440,
+            2_444,
             multipliers,
             &numbers(&named.multipliers),
         ),
-        field("carried", 2_520, carried, &numbers(&named.carried)),
-        field("best", 4_280, best, &named.best),
-        field("open", 4_470, vec![1], &[named.open]),
-        field("has_best", 4_471, vec![1], &[named.has_best]),
+        field("carried", 2_524, carried, &numbers(&named.carried)),
+        field("best", 4_284, best, &named.best),
+        field("ashore", 4_474, ashore, &named.ashore),
+        field("open", 4_494, vec![1], &[named.open]),
+        field("has_best", 4_495, vec![1], &[named.has_best]),
     ]);
     fields
 }
@@ -205,8 +209,11 @@ fn graph_read(law: &Law, tally: &mut Tally, random: &mut Random) -> Outcome {
 /// What an opening and runs leave in a record, as soon as there is an incumbent; false where no node waits then.
 fn record_left(law: &Law, tally: &mut Tally, random: &mut Random) -> Result<bool, Mismatch> {
     let n = 5 + random.below(3);
+    let mut ashore = vec![0; n];
+    ashore[1 + random.below(n - 1)] = 1;
     let open = Call::Open {
         graph: Box::new(distinct(random, n)),
+        ashore,
         multipliers: (0..n as i32).map(|i| 300 * i).collect(),
         ceiling: generate::MAX_CEILING - random.below(1_000) as i64,
         sweeps: 1 + random.below(3) as u32,

@@ -1,8 +1,10 @@
-//! Searches through the library: the verdict and the tour shown against all tours; two searches of one graph, with its edges in two orders,
+//! Searches through the library: the verdict and the tour shown against all tours of the vertices afloat; two searches of one graph and one list
+//! ashore, with its edges in two orders,
 //! other multipliers, sweeps, steps and denominators, lifted or not, agree.
 
 use super::searches::{opening, DENSE, SPARSE};
 use crate::bends;
+use crate::document::ashore::haul;
 use crate::document::graph::{Graph, FREE};
 use crate::document::law::Law;
 use crate::document::machine::{Call, Machine, Verdict};
@@ -23,6 +25,8 @@ pub const SUITE: Suite = Suite {
         bends::UPPER_BELOW_COST,
         bends::UPPER_NOT_SCALED,
         bends::LIFTED_AT_UPPER_RULED,
+        bends::TOUCHED_REQUIRED_STAY,
+        bends::LEGS_OF_ALL,
     ],
 };
 
@@ -31,24 +35,33 @@ fn run(law: &Law, tally: &mut Tally) -> Outcome {
     for round in 0..2_000 {
         let (vertices, most) = if round % 2 == 0 { DENSE } else { SPARSE };
         let graph = generate::small_graph(random, vertices, most);
-        let best = tours::first(&graph).map(|tour| tour.cost);
+        let ashore = generate::ashore(random, graph.n);
+        let best = tours::first(&haul(&Law::AS_WRITTEN, &graph, &ashore)).map(|tour| tour.cost);
         let ceiling = match random.below(4) {
             0 => generate::MAX_CEILING,
             _ => generate::ceiling(random, best.unwrap_or(0)),
         };
-        one(law, tally, random, &graph, ceiling)?;
+        one(law, tally, random, (&graph, &ashore), ceiling)?;
         let other = generate::shuffled(random, &graph);
-        one(law, tally, random, &other, ceiling)?;
+        one(law, tally, random, (&other, &ashore), ceiling)?;
     }
     Ok(())
 }
 
-/// One search with the budget 2^(k+1) - 1, k edges being free, in two runs; and the machine's verdict and count on the same opening.
-fn one(law: &Law, tally: &mut Tally, random: &mut Random, graph: &Graph, ceiling: i64) -> Outcome {
-    let expected = tours::first(graph).filter(|tour| tour.cost <= ceiling);
-    let open = opening(random, graph, ceiling);
+/// One search with the budget 2^(k+1) - 1, k edges being free and touching no vertex ashore, in two runs; and the machine's verdict and count on
+/// the same opening.
+fn one(
+    law: &Law,
+    tally: &mut Tally,
+    random: &mut Random,
+    (graph, ashore): (&Graph, &[u8]),
+    ceiling: i64,
+) -> Outcome {
+    let sea = haul(&Law::AS_WRITTEN, graph, ashore);
+    let expected = tours::first(&sea).filter(|tour| tour.cost <= ceiling);
+    let open = opening(random, graph, ashore, ceiling);
     let input = || format!("{open:?}");
-    let free = graph.marks().iter().filter(|mark| **mark == FREE).count();
+    let free = sea.marks().iter().filter(|mark| **mark == FREE).count();
     let budget = (1u64 << (free + 1)) - 1;
     let first = random.word() % (budget + 1);
     let mut record = Record::made_fresh();

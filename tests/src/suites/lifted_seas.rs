@@ -210,16 +210,11 @@ pub const HUNTED: Hunted = Hunted {
 
 impl Hunted {
     pub fn opening(&self, lifting: u64) -> Call {
-        let graph = sea(self.legs);
-        Call::Open {
-            multipliers: vec![0; graph.n],
-            graph: Box::new(graph),
-            ceiling: self.ceiling,
-            sweeps: self.sweeps,
-            step: self.step,
-            denominator: 1,
-            lifting,
+        let mut open = Call::plain(&sea(self.legs), self.ceiling, 1, lifting);
+        if let Call::Open { sweeps, step, .. } = &mut open {
+            (*sweeps, *step) = (self.sweeps, self.step);
         }
+        open
     }
 }
 

@@ -8,6 +8,7 @@ use super::own_lifts::{minutes, turning_opening};
 use super::records::reply;
 use super::shelves::Both;
 use crate::bends;
+use crate::document::ashore::haul;
 use crate::document::dispatcher;
 use crate::document::graph::{Graph, EXCLUDED, FREE, REQUIRED};
 use crate::document::law::Law;
@@ -29,36 +30,15 @@ use planner::raw::{Reply as Numbers, ACCEPTED, BEST, FINISHED, NO_TOUR};
 pub const SUITE: Suite = Suite {
     name: "lifting",
     run,
-    bends: &[
-        bends::FLAG_WITHOUT_EFFECT,
-        bends::LIFTED_UNASKED,
-        bends::LAST_PASS_LIFTS,
-        bends::RELAXED_POLICY,
-        bends::FIRST_LIMIT_DROPPED,
-        bends::SECOND_LIMIT_DROPPED,
-        bends::RISES_FROM_THREE,
-        bends::FALLS_TO_ONE,
-        bends::ONE_END_MOVES,
-        bends::SECOND_END_AFTER_FIRST,
-        bends::REQUIRED_SUPPORT,
-        bends::UNLIMITED_STAYS,
-        bends::LIFTS_NOT_HELD,
-        bends::LIFTED_AT_UPPER_RULED,
-        bends::LIFTED_DEAD_KEEPS,
-        bends::LIFTED_DEAD_CLOSES,
-        bends::DEAD_FORCES,
-        bends::OTHERS_RULED_TOO,
-        bends::LIFTED_IN_TURN,
-        bends::LIFTED_DUES_STAY,
-        bends::HIGHER_MULTIPLIER,
-        bends::CEILING_NOT_SCALED,
-        bends::LIFTING_ONE_BIT,
-        bends::LIFTING_ONE_BYTE,
-        bends::LIFTING_HALF,
-        bends::LIFTING_AS_SENT,
-        bends::LIFTING_OF_TWO,
-        bends::LIFTING_NOT_CHECKED,
-    ],
+    bends: &bends::joined::<28>(
+        &bends::OF_LIFTING,
+        &[
+            bends::LAST_PASS_LIFTS,
+            bends::LIFTING_AS_SENT,
+            bends::LIFTING_OF_TWO,
+            bends::LIFTING_NOT_CHECKED,
+        ],
+    ),
 };
 
 /// Numbers that say yes; of all but the first the lowest bit says no, of some the low bytes too.
@@ -67,12 +47,12 @@ const YES: [u64; 7] = [1, 2, 254, 256, 1 << 32, 1 << 63, u64::MAX - 1];
 fn run(law: &Law, tally: &mut Tally) -> Outcome {
     for example in &EXAMPLES {
         for (lifting, rulings) in [(0, example.ordinary()), (1, example.lifted())] {
-            let open = opening(&example.graph(), example.ceiling, lifting);
+            let open = Call::plain(&example.graph(), example.ceiling, 1, lifting);
             first_pass(law, tally, example.name, &open, &rulings)?;
         }
     }
     for sea in &MISREAD {
-        let open = opening(&sea.graph(), sea.ceiling, 1);
+        let open = Call::plain(&sea.graph(), sea.ceiling, 1, 1);
         first_pass(law, tally, sea.bend.what, &open, &sea.lifted())?;
     }
     for (lifting, nodes) in [(1, HUNTED.nodes[0]), (0, HUNTED.nodes[1])] {
@@ -102,19 +82,6 @@ fn run(law: &Law, tally: &mut Tally) -> Outcome {
         alike(law, tally, random)?;
     }
     Ok(())
-}
-
-/// An opening of a sea under zero dues, with one pass a node.
-fn opening(graph: &Graph, ceiling: i64, lifting: u64) -> Call {
-    Call::Open {
-        graph: Box::new(graph.clone()),
-        multipliers: vec![0; graph.n],
-        ceiling,
-        sweeps: 0,
-        step: 0,
-        denominator: 1,
-        lifting,
-    }
 }
 
 /// Calls on a record and on the machine: each answer, and every byte.
@@ -164,7 +131,7 @@ fn numbers(law: &Law, tally: &mut Tally) -> Outcome {
         ..only(BEST)
     };
     for (lifting, nodes) in [(0, 5)].into_iter().chain(YES.map(|yes| (yes, 3))) {
-        let open = opening(&four(), 12, lifting);
+        let open = Call::plain(&four(), 12, 1, lifting);
         let input = || format!("{open:?}");
         let bit = u64::from(lifting != 0);
         let record = on_record(law, tally, std::slice::from_ref(&open))?;
@@ -182,7 +149,7 @@ fn numbers(law: &Law, tally: &mut Tally) -> Outcome {
 /// those on a shelf and by those on a dispatcher.
 fn in_records(law: &Law, tally: &mut Tally) -> Outcome {
     let mut open = Record::made_fresh();
-    open.call(&opening(&four(), 12, 1));
+    open.call(&Call::plain(&four(), 12, 1, 1));
     for first in [Record::made_fresh(), open.clone()] {
         for lifting in [0].into_iter().chain(YES).chain([3, u64::MAX]) {
             let mut record = first.clone();
@@ -191,7 +158,7 @@ fn in_records(law: &Law, tally: &mut Tally) -> Outcome {
             let input = || format!("{record:?}");
             tally.compare("the stated check", input, &fits, &record.passes(law))?;
             let calls = [
-                opening(&four(), 12, 0),
+                Call::plain(&four(), 12, 1, 0),
                 Call::Run { budget: 0 },
                 Call::Tell,
                 Call::Show { length: 6 },
@@ -223,6 +190,7 @@ fn compared(law: &Law, tally: &mut Tally) -> Outcome {
         let trial = Trial {
             graph: four(),
             multipliers: vec![0; 4],
+            ashore: vec![0; 4],
             ceiling: 12,
             budget: 5,
             denominator: 1,
@@ -249,8 +217,8 @@ fn compared(law: &Law, tally: &mut Tally) -> Outcome {
 fn eight(law: &Law, tally: &mut Tally) -> Outcome {
     let mut state = dispatcher::Dispatcher::new(law, Method::Kruskal);
     let mut class = Dispatched::made_fresh();
-    let adds =
-        (0..8).map(|i| dispatcher::Call::Add(opening(&four(), 12, [0, 1, 0, 1 << 63][i % 4])));
+    let adds = (0..8)
+        .map(|i| dispatcher::Call::Add(Call::plain(&four(), 12, 1, [0, 1, 0, 1 << 63][i % 4])));
     let turns = (0..40).map(|_| dispatcher::Call::Turn { portion: 1 });
     let list: Vec<dispatcher::Call> = adds.chain(turns).collect();
     for (i, call) in list.iter().enumerate() {
@@ -269,11 +237,11 @@ fn saved(law: &Law, tally: &mut Tally) -> Outcome {
     let plain = AnyCall::Plain;
     let run = |budget| plain(Call::Run { budget });
     let list = [
-        plain(opening(&four(), 12, 2)),
+        plain(Call::plain(&four(), 12, 1, 2)),
         run(1),
         AnyCall::Save(1),
         plain(Call::Close),
-        plain(opening(&four(), 12, 0)),
+        plain(Call::plain(&four(), 12, 1, 0)),
         AnyCall::Save(8),
         run(1),
         AnyCall::Back(1),
@@ -311,24 +279,30 @@ fn turned(law: &Law, tally: &mut Tally, random: &mut Random, graph: &Graph) -> O
     on_record(law, tally, &list).map(|_| ())
 }
 
-/// "A finished lifted hunt and a finished unlifted one, of one sea and one ceiling, must have the same verdict and cost": those of the first of the
-/// cheapest rounds, found by going through all. The edges of one stand in another order too, so there the cost alone is the same.
+/// "A finished lifted hunt and a finished unlifted one, of one sea and one ceiling", and one list ashore, "must have the same verdict and cost": those
+/// of the first of the cheapest rounds, found by going through all. The edges of one stand in another order too, so there the cost alone is the same.
 fn alike(law: &Law, tally: &mut Tally, random: &mut Random) -> Outcome {
     let graph = match random.below(3) {
         0 => generate::small_graph(random, 8, 14),
         _ => minutes(random),
     };
-    let near = tours::first(&graph).map_or(0, |tour| tour.cost);
+    let ashore = generate::ashore(random, graph.n);
+    let hauled = |graph: &Graph| haul(&Law::AS_WRITTEN, graph, &ashore);
+    let near = tours::first(&hauled(&graph)).map_or(0, |tour| tour.cost);
     let ceiling = near + random.pick(&[-1, 0, 0, 1, 5, 40]);
-    let free = graph.marks().iter().filter(|mark| **mark == FREE).count();
+    let free = hauled(&graph)
+        .marks()
+        .iter()
+        .filter(|mark| **mark == FREE)
+        .count();
     let budget = (1u64 << (free + 1)) - 1;
     for (order, lifting) in [(false, 0), (false, 1), (true, 1)] {
         let sea = match order {
             true => generate::shuffled(random, &graph),
             false => graph.clone(),
         };
-        let first = tours::first(&sea).filter(|tour| tour.cost <= ceiling);
-        let mut open = super::searches::opening(random, &sea, ceiling);
+        let first = tours::first(&hauled(&sea)).filter(|tour| tour.cost <= ceiling);
+        let mut open = super::searches::opening(random, &sea, &ashore, ceiling);
         if let Call::Open { lifting: asked, .. } = &mut open {
             *asked = lifting;
         }

@@ -1,4 +1,5 @@
-//! The ends of every range (document 02, C-14; with every limit of C-17's denominator): answers written down by hand, held to the library and, with the bends, to the reference.
+//! The ends of every range (document 02, C-14; with every limit of C-17's denominator): answers written down by hand, held to the library and, with
+//! the bends, to the reference.
 
 use super::facts::free;
 use crate::bends;
@@ -6,7 +7,7 @@ use crate::document::graph::Graph;
 use crate::document::law::Law;
 use crate::document::machine::{Answer, Call, Machine, Verdict};
 use crate::document::rulings::{self, Ruled};
-use crate::document::tree::{self, Method, Tree};
+use crate::document::tree::{self, Given, Method, Tree};
 use crate::document::{chart, Refusal};
 use crate::ffi::trees::{rule, tree};
 use crate::ffi::{bound, check, only, read, refused, Reply};
@@ -258,9 +259,10 @@ fn said(said: planner::raw::Reply, out: Option<Vec<u8>>) -> Reply {
 fn bounds(law: &Law, tally: &mut Tally, sea: &Sea) -> Outcome {
     let (graph, d, q) = (&sea.graph, &sea.multipliers, sea.denominator);
     let input = || shown(sea, None);
-    let got = tree(graph, d, q, graph.m);
+    let given = Given::afloat(graph, d, q);
+    let got = tree(&given, graph.m);
     tally.compare("bound", input, &bound(sea.bound), &got.said)?;
-    let expected = match tree::call(law, Method::Kruskal, graph, d, q, graph.m) {
+    let expected = match tree::call(law, Method::Kruskal, &given, graph.m) {
         Ok(Some(Tree {
             bound: least,
             edges,
@@ -281,13 +283,14 @@ fn ruled(law: &Law, tally: &mut Tally, sea: &Sea, ceiling: i64, says: &Says) -> 
         Says::Each(rulings) => said(bound(sea.bound), Some(rulings.to_vec())),
     };
     let input = || shown(sea, Some(ceiling));
-    let got = rule(graph, d, q, ceiling, graph.m);
+    let given = Given::afloat(graph, d, q);
+    let got = rule(&given, ceiling, graph.m);
     tally.compare("rule", input, &expected, &got)?;
     for method in [Method::Definition, Method::Kruskal, Method::Prim] {
         if method == Method::Definition && graph.m > 16 {
             continue;
         }
-        let reference = match rulings::call(law, method, graph, d, q, ceiling, graph.m) {
+        let reference = match rulings::call(law, method, &given, ceiling, graph.m) {
             Ok(Ruled::Bound {
                 bound: least,
                 rulings,
@@ -310,7 +313,7 @@ fn searched(
     ceiling: i64,
     verdict: Verdict,
 ) -> Outcome {
-    let open = opening(graph, q, ceiling);
+    let open = Call::plain(graph, ceiling, q, 0);
     let input = || format!("{open:?}");
     let told = Answer::Told { verdict, count: 1 };
     let finished = Answer::Ran {
@@ -331,18 +334,6 @@ fn searched(
     tally.compare("passes its check", input, &true, &record.passes(law))
 }
 
-fn opening(graph: &Graph, denominator: u64, ceiling: i64) -> Call {
-    Call::Open {
-        graph: Box::new(graph.clone()),
-        multipliers: vec![0; graph.n],
-        ceiling,
-        sweeps: 0,
-        step: 0,
-        denominator,
-        lifting: 0,
-    }
-}
-
 /// One past each limit: 9 and 15, 12, 13; and in a search of its own each ceiling out of range.
 fn beyond(law: &Law, tally: &mut Tally) -> Outcome {
     for cost in [COST, -COST] {
@@ -352,14 +343,10 @@ fn beyond(law: &Law, tally: &mut Tally) -> Outcome {
         let input = || format!("{graph:?}");
         let unfit = said(only(15), None);
         tally.compare("check", input, &unfit, &check(&graph))?;
-        tally.compare("tree", input, &unfit, &tree(&graph, &[0; 3], 0, 3))?;
-        tally.compare(
-            "rule",
-            input,
-            &unfit,
-            &rule(&graph, &[0; 3], 0, CEILING + 1, 3),
-        )?;
-        refuses(law, tally, &opening(&graph, 0, CEILING + 1), 15)?;
+        let given = Given::afloat(&graph, &[0; 3], 0);
+        tally.compare("tree", input, &unfit, &tree(&given, 3))?;
+        tally.compare("rule", input, &unfit, &rule(&given, CEILING + 1, 3))?;
+        refuses(law, tally, &Call::plain(&graph, CEILING + 1, 0, 0), 15)?;
         let mut file = chart::write(&Law::AS_WRITTEN, &ring(3, cost), 44).expect("a fit graph");
         file[8 + 2 * 12 + 4..][..4].copy_from_slice(&dearer.to_le_bytes());
         let costly = Refusal {
@@ -373,9 +360,10 @@ fn beyond(law: &Law, tally: &mut Tally) -> Outcome {
     for multiplier in [MULTIPLIER + 1, -MULTIPLIER - 1] {
         let multipliers = [0, 0, multiplier];
         let input = || format!("{graph:?}, {multipliers:?}");
-        let got = rule(&graph, &multipliers, 1_000, CEILING + 1, 3);
+        let given = Given::afloat(&graph, &multipliers, 1_000);
+        let got = rule(&given, CEILING + 1, 3);
         tally.compare("rule", input, &said(only(12), None), &got)?;
-        let reference = tree::admit(law, &graph, &multipliers, 1_000, None);
+        let reference = tree::admit(law, &given, None);
         let refusal = Refusal {
             number: 12,
             place: 0,
@@ -383,7 +371,7 @@ fn beyond(law: &Law, tally: &mut Tally) -> Outcome {
         tally.compare("by the reference", input, &reference, &Err(refusal))?;
     }
     for ceiling in [CEILING + 1, -CEILING - 1, i64::MAX, i64::MIN] {
-        refuses(law, tally, &opening(&graph, 1_000, ceiling), 13)?;
+        refuses(law, tally, &Call::plain(&graph, ceiling, 1_000, 0), 13)?;
     }
     Ok(())
 }

@@ -14,6 +14,8 @@ pub mod own_trees;
 pub mod searches;
 
 #[cfg(feature = "library")]
+pub mod ashore;
+#[cfg(feature = "library")]
 pub mod check;
 #[cfg(feature = "library")]
 pub mod compare;
@@ -97,6 +99,8 @@ pub fn all() -> Vec<Suite> {
         denominators::SUITE,
         #[cfg(feature = "library")]
         lifting::SUITE,
+        #[cfg(feature = "library")]
+        ashore::SUITE,
         #[cfg(feature = "library")]
         recent::SUITE,
         #[cfg(feature = "library")]

@@ -6,13 +6,14 @@ use super::lifted_seas::{Example, Misread, EXAMPLES, HUNTED, MISREAD};
 use super::own_trees::graph_for;
 use super::searches::opening;
 use crate::bends;
+use crate::document::ashore::{dues, haul};
 use crate::document::graph::{Graph, EXCLUDED, FREE, REQUIRED};
 use crate::document::law::Law;
 use crate::document::lifting::{lift, Lifting, Pass};
 use crate::document::machine::{Answer, Call, Machine, Verdict};
 use crate::document::rulings::{rule, Ruled, KEEP};
 use crate::document::tours;
-use crate::document::tree::{admit, least, Method};
+use crate::document::tree::{least, multipliers_fit, Method};
 use crate::generate::{self, Spread};
 use crate::random::Random;
 use crate::report::{Bend, Outcome, Suite, Tally};
@@ -20,34 +21,10 @@ use crate::report::{Bend, Outcome, Suite, Tally};
 pub const SUITE: Suite = Suite {
     name: "own lifts",
     run,
-    bends: &[
-        bends::FLAG_WITHOUT_EFFECT,
-        bends::LIFTED_UNASKED,
-        bends::RELAXED_POLICY,
-        bends::FIRST_LIMIT_DROPPED,
-        bends::SECOND_LIMIT_DROPPED,
-        bends::RISES_FROM_ONE,
-        bends::RISES_FROM_THREE,
-        bends::FALLS_TO_ONE,
-        bends::FALLS_TO_THREE,
-        bends::ONE_END_MOVES,
-        bends::SECOND_END_AFTER_FIRST,
-        bends::REQUIRED_SUPPORT,
-        bends::UNLIMITED_STAYS,
-        bends::LIFTS_NOT_HELD,
-        bends::LIFTED_AT_UPPER_RULED,
-        bends::LIFTED_DEAD_KEEPS,
-        bends::LIFTED_DEAD_CLOSES,
-        bends::DEAD_FORCES,
-        bends::OTHERS_RULED_TOO,
-        bends::LIFTED_IN_TURN,
-        bends::LIFTED_DUES_STAY,
-        bends::HIGHER_MULTIPLIER,
-        bends::CEILING_NOT_SCALED,
-        bends::LIFTING_ONE_BIT,
-        bends::LIFTING_ONE_BYTE,
-        bends::LIFTING_HALF,
-    ],
+    bends: &bends::joined::<26>(
+        &bends::OF_LIFTING,
+        &[bends::RISES_FROM_ONE, bends::FALLS_TO_THREE],
+    ),
 };
 
 /// Readings that change no ruling. What may change places with an edge at its end i limits i's change by nothing where it is as good as the best of
@@ -155,15 +132,7 @@ fn nodes(law: &Law, tally: &mut Tally, method: Method) -> Outcome {
     tally.compare("leg 1's dues", input, &wanted, &lifted.multipliers)?;
     for (lifting, count) in [(0, 5), (1, 3), (2, 3), (1 << 63, 3)] {
         let mut machine = Machine::new(law, method);
-        machine.call(&Call::Open {
-            graph: Box::new(graph.clone()),
-            multipliers: multipliers.to_vec(),
-            ceiling: 12,
-            sweeps: 0,
-            step: 0,
-            denominator: 1,
-            lifting,
-        });
+        machine.call(&Call::plain(&graph, 12, 1, lifting));
         machine.call(&Call::Run { budget: 100 });
         let verdict = Verdict::Cost(12);
         let input = || format!("{method:?}, document 01's sea, lifting {lifting}");
@@ -246,16 +215,19 @@ fn near(random: &mut Random, n: usize) -> Vec<i32> {
 /// An opening whose first pass has its ceiling where a ruling turns.
 pub fn turning_opening(random: &mut Random, graph: &Graph, lifting: u64) -> Call {
     let multipliers = near(random, graph.n);
+    let ashore = generate::ashore(random, graph.n);
     let denominator = generate::denominator(random);
     let law = &Law::AS_WRITTEN;
     let method = Method::Kruskal;
-    let tree = least(law, method, graph, &multipliers, denominator);
+    let sea = haul(law, graph, &ashore);
+    let first = dues(law, &multipliers, &ashore);
+    let tree = least(law, method, &sea, &first, denominator);
     let ceiling = tree.map_or(0, |tree| {
         let pass = Pass {
             law,
             method,
-            graph,
-            multipliers: &multipliers,
+            graph: &sea,
+            multipliers: &first,
             q: denominator,
             tree: &tree.edges,
             upper: 0,
@@ -265,6 +237,7 @@ pub fn turning_opening(random: &mut Random, graph: &Graph, lifting: u64) -> Call
     Call::Open {
         graph: Box::new(graph.clone()),
         multipliers,
+        ashore,
         ceiling: ceiling.clamp(-generate::MAX_CEILING, generate::MAX_CEILING),
         sweeps: random.pick(&[0, 0, 0, 1, 2, 5]),
         step: random.pick(&[0, 1, 1, 2, 7, 100]),
@@ -281,9 +254,11 @@ fn one_pass(
     graph: &Graph,
     small: bool,
 ) -> Outcome {
-    let multipliers = &near(random, graph.n);
-    let q = generate::denominator(random);
     let (written, kruskal) = (&Law::AS_WRITTEN, Method::Kruskal);
+    let ashore = generate::ashore(random, graph.n);
+    let graph = &haul(written, graph, &ashore);
+    let multipliers = &dues(written, &near(random, graph.n), &ashore);
+    let q = generate::denominator(random);
     let Some(tree) = least(written, kruskal, graph, multipliers, q) else {
         return Ok(());
     };
@@ -339,7 +314,7 @@ fn two_ways(law: &Law, tally: &mut Tally, pass: &Pass, rulings: &[u8]) -> Outcom
     for e in (0..rulings.len()).filter(|e| rulings[*e] == KEEP) {
         let (wanted, got) = (one.lift(e), other.lift(e));
         let dues = &wanted.multipliers;
-        let fit = admit(&Law::AS_WRITTEN, pass.graph, dues, pass.q, None).is_ok();
+        let fit = multipliers_fit(&Law::AS_WRITTEN, dues, pass.q);
         tally.compare("dues in range", input, &true, &fit)?;
         let case = format!("dues of leg {}", e + 1);
         tally.compare(&case, input, &wanted, &got)?;
@@ -358,14 +333,15 @@ fn indifferent(law: &Law, tally: &mut Tally, bend: Bend, pass: &Pass, rulings: &
     tally.compare(bend.what, || shown(pass), &wanted, &got)
 }
 
-/// "A finished lifted hunt and a finished unlifted one, of one sea and one ceiling, must have the same verdict and cost", and the same round
-/// (C-23), the first of all allowed ones.
+/// "A finished lifted hunt and a finished unlifted one, of one sea and one ceiling", and one list ashore, "must have the same verdict and cost", and
+/// the same round (C-23), the first of all allowed ones.
 fn alike(law: &Law, tally: &mut Tally, random: &mut Random) -> Outcome {
     let graph = match random.below(3) {
         0 => generate::small_graph(random, 8, 14),
         _ => minutes(random),
     };
-    let first = tours::first(&graph);
+    let ashore = generate::ashore(random, graph.n);
+    let first = tours::first(&haul(&Law::AS_WRITTEN, &graph, &ashore));
     let near = first.as_ref().map_or(0, |tour| tour.cost);
     let ceiling = near + random.pick(&[-1, 0, 0, 1, 5, 40]);
     let first = first.filter(|tour| tour.cost <= ceiling);
@@ -373,7 +349,7 @@ fn alike(law: &Law, tally: &mut Tally, random: &mut Random) -> Outcome {
         .as_ref()
         .map_or(Verdict::None, |tour| Verdict::Cost(tour.cost));
     for lifted in [0, 1] {
-        let mut open = opening(random, &graph, ceiling);
+        let mut open = opening(random, &graph, &ashore, ceiling);
         if let Call::Open { lifting, .. } = &mut open {
             *lifting = lifted;
         }

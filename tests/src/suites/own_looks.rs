@@ -9,7 +9,7 @@ use crate::generate;
 use crate::random::Random;
 use crate::report::{Outcome, Suite, Tally};
 use crate::suites::facts::four;
-use crate::suites::own_trees::graph_for;
+use crate::suites::own_trees::sea_for;
 
 pub const SUITE: Suite = Suite {
     name: "own looks",
@@ -76,7 +76,7 @@ fn run(law: &Law, tally: &mut Tally) -> Outcome {
     let random = &mut Random::new(0x6c6f_6f6b_7321);
     let (mut trees, mut none, mut early) = (0, 0, 0);
     for round in 0..20_000 {
-        let mut graph = graph_for(random, round % 2 == 0);
+        let (mut graph, multipliers) = sea_for(random, round % 2 == 0);
         // some seas fall apart, some have many required legs
         if round % 5 == 0 {
             for k in 0..graph.m {
@@ -85,7 +85,6 @@ fn run(law: &Law, tally: &mut Tally) -> Outcome {
                 }
             }
         }
-        let multipliers = generate::multipliers(random, graph.n);
         let q = generate::denominator(random);
         let input = || format!("{graph:?}, multipliers {multipliers:?}, denominator {q}");
         let written = &Law::AS_WRITTEN;

@@ -1,7 +1,7 @@
 //! The reference's two ways to rulings, against each other: all 1-trees on small graphs, on all
 //! graphs each edge marked and the tree found again, by Kruskal and by Prim.
 
-use super::own_trees::graph_for;
+use super::own_trees::sea_for;
 use crate::bends;
 use crate::document::graph::{Graph, EXCLUDED, REQUIRED};
 use crate::document::law::Law;
@@ -21,6 +21,7 @@ pub const SUITE: Suite = Suite {
         bends::CHEAP_NO_REPLACEMENT,
         bends::CEILING_NOT_SCALED,
         bends::PARTS_NOT_COMPARED,
+        bends::LEGS_OF_ALL,
     ],
 };
 
@@ -40,8 +41,7 @@ fn run(law: &Law, tally: &mut Tally) -> Outcome {
     let random = &mut Random::new(0x7275_6c69_6e67);
     for round in 0..12_000 {
         let small = round % 4 != 0;
-        let graph = graph_for(random, small);
-        let multipliers = generate::multipliers(random, graph.n);
+        let (graph, multipliers) = sea_for(random, small);
         let q = generate::denominator(random);
         let ceiling = turning_ceiling(random, &graph, &multipliers, q);
         let input = || {

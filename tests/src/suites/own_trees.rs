@@ -2,6 +2,7 @@
 //! graphs, Kruskal and Prim on all.
 
 use crate::bends;
+use crate::document::ashore::{dues, haul};
 use crate::document::graph::Graph;
 use crate::document::law::Law;
 use crate::document::tree::{is_one_tree, least, Method};
@@ -17,6 +18,7 @@ pub const SUITE: Suite = Suite {
         bends::MULTIPLIERS_OFF_ONCE,
         bends::REQUIRED_LEFT_OUT,
         bends::MULTIPLIERS_TIMES,
+        bends::LEGS_OF_ALL,
     ],
 };
 
@@ -32,12 +34,21 @@ pub fn graph_for(random: &mut Random, small: bool) -> Graph {
     generate::graph_of(random, n, m)
 }
 
+/// A small graph or any, some of whose vertices may be ashore, and multipliers.
+pub fn sea_for(random: &mut Random, small: bool) -> (Graph, Vec<i32>) {
+    let graph = graph_for(random, small);
+    let ashore = generate::ashore(random, graph.n);
+    let multipliers = generate::multipliers(random, graph.n);
+    let written = &Law::AS_WRITTEN;
+    let sea = haul(written, &graph, &ashore);
+    (sea, dues(written, &multipliers, &ashore))
+}
+
 fn run(law: &Law, tally: &mut Tally) -> Outcome {
     let random = &mut Random::new(0x74_7265_6573);
     for round in 0..20_000 {
         let small = round % 2 == 0;
-        let graph = graph_for(random, small);
-        let multipliers = generate::multipliers(random, graph.n);
+        let (graph, multipliers) = sea_for(random, small);
         let q = generate::denominator(random);
         let input = || format!("{graph:?}, multipliers {multipliers:?}, denominator {q}");
         let written = &Law::AS_WRITTEN;

@@ -6,7 +6,7 @@ use super::tree::arguments;
 use crate::bends;
 use crate::document::graph::{Graph, FREE};
 use crate::document::law::Law;
-use crate::document::tree::{self, Method};
+use crate::document::tree::{self, Given, Method};
 use crate::ffi::trees::{preview, rule};
 use crate::ffi::{bound, only, Reply};
 use crate::random::Random;
@@ -29,19 +29,26 @@ pub const SUITE: Suite = Suite {
         bends::HIGHER_DENOMINATOR,
         bends::DENOMINATOR_BEFORE_MULTIPLIERS,
         bends::LEG_BEFORE_DENOMINATOR,
+        bends::ASHORE_BYTE_OF_TWO,
+        bends::ASHORE_OF_ANY_LENGTH,
+        bends::ASHORE_BEFORE_DENOMINATOR,
+        bends::LEG_BEFORE_ASHORE,
+        bends::FREE_BY_LIST,
+        bends::TOUCHED_STAY,
+        bends::TOUCHED_REQUIRED_STAY,
+        bends::DUE_ASHORE_COUNTS,
+        bends::LEGS_OF_ALL,
     ],
 };
 
 pub fn expected(
     law: &Law,
     method: Method,
-    graph: &Graph,
-    multipliers: &[i32],
-    q: u64,
+    given: &Given,
     asked: (usize, u32),
     length: usize,
 ) -> Reply {
-    let answer = tree::preview(law, method, graph, multipliers, q, asked, length);
+    let answer = tree::preview(law, method, given, asked, length);
     let (said, out) = match answer {
         Ok(Some(tree)) => (bound(tree.bound), Some(Hex(tree.edges))),
         Ok(None) => (only(NONE), None),
@@ -77,54 +84,51 @@ fn run(law: &Law, tally: &mut Tally) -> Outcome {
     for round in 0..30_000 {
         let small = round % 2 == 0;
         let wrong = round % 6 >= 4;
-        let (graph, multipliers, q, length) = arguments(random, small, wrong);
-        let asked = asked(random, &graph);
+        let arguments = arguments(random, small, wrong);
+        let (given, length) = (arguments.given(), arguments.length);
+        let asked = asked(random, given.graph);
         let input = || {
             let (leg, mark) = asked;
-            format!("{graph:?}, multipliers {multipliers:?}, denominator {q}, leg {leg}, mark {mark}, a list of {length} bytes")
+            format!("leg {leg}, mark {mark} of {}", arguments.shown())
         };
-        let reply = preview(&graph, &multipliers, q, asked, length);
-        let methods = if small && graph.m <= 16 {
+        let reply = preview(&given, asked, length);
+        let methods = if small && given.graph.m <= 16 {
             &[Method::Definition, Method::Kruskal][..]
         } else {
             &[Method::Kruskal][..]
         };
         for method in methods {
-            let wanted = expected(law, *method, &graph, &multipliers, q, asked, length);
+            let wanted = expected(law, *method, &given, asked, length);
             tally.compare(&format!("{method:?}"), input, &wanted, &reply)?;
         }
         if !wrong {
-            decides(random, tally, &graph, &multipliers, q)?;
+            decides(random, tally, &given)?;
         }
     }
     Ok(())
 }
 
-/// Where rulings are given, a free leg is barred exactly when the preview with mark 1 is 'no tree' or
+/// Where rulings are given, a free leg that touches no buoy ashore is barred exactly when the preview with mark 1 is 'no tree' or
 /// above q × ceiling, and forced exactly when the preview with mark 2 is.
-fn decides(
-    random: &mut Random,
-    tally: &mut Tally,
-    graph: &Graph,
-    multipliers: &[i32],
-    q: u64,
-) -> Outcome {
-    let ceiling = turning_ceiling(random, graph, multipliers, q);
-    let ruled = rule(graph, multipliers, q, ceiling, graph.m);
+fn decides(random: &mut Random, tally: &mut Tally, given: &Given) -> Outcome {
+    let (sea, dues) = given.sea(&Law::AS_WRITTEN);
+    let (m, q) = (sea.m, given.q);
+    let ceiling = turning_ceiling(random, &sea, &dues, q);
+    let ruled = rule(given, ceiling, m);
     let Some(Hex(rulings)) = ruled.out else {
         return Ok(());
     };
     for (place, ruling) in rulings.iter().enumerate() {
-        if graph.mark[place] != FREE || !random.one_in(4) {
+        if sea.mark[place] != FREE || !random.one_in(4) {
             continue;
         }
         let beyond = |mark| {
-            let said = preview(graph, multipliers, q, (place + 1, mark), graph.m).said;
+            let said = preview(given, (place + 1, mark), m).said;
             said.number == NONE || said.value > q as i64 * ceiling
         };
         let input = || {
             let leg = place + 1;
-            format!("{graph:?}, multipliers {multipliers:?}, denominator {q}, ceiling {ceiling}, leg {leg}")
+            format!("{given:?}, ceiling {ceiling}, leg {leg}")
         };
         let wanted = (*ruling == 2, *ruling == 1);
         tally.compare("rulings", input, &wanted, &(beyond(1), beyond(2)))?;

@@ -7,7 +7,7 @@ use crate::bends;
 use crate::document::graph::Graph;
 use crate::document::law::Law;
 use crate::document::rulings::{self, Ruled};
-use crate::document::tree::Method;
+use crate::document::tree::{Given, Method};
 use crate::ffi::trees::rule;
 use crate::ffi::{bound, only, Reply};
 use crate::generate;
@@ -39,26 +39,55 @@ pub const SUITE: Suite = Suite {
         bends::HIGHER_DENOMINATOR,
         bends::DENOMINATOR_BEFORE_MULTIPLIERS,
         bends::DENOMINATOR_BEFORE_CEILING,
+        bends::ASHORE_BYTE_OF_TWO,
+        bends::FIRST_ASHORE,
+        bends::TWO_AFLOAT,
+        bends::ASHORE_OF_ANY_LENGTH,
+        bends::ASHORE_BEFORE_MULTIPLIERS,
+        bends::ASHORE_BEFORE_CEILING,
+        bends::ASHORE_BEFORE_DENOMINATOR,
+        bends::TOUCHED_STAY,
+        bends::TOUCHED_REQUIRED_STAY,
+        bends::TOUCHED_RULED_BY_MARK,
+        bends::DUE_ASHORE_COUNTS,
+        bends::LEGS_OF_ALL,
     ],
 };
 
 pub struct Arguments {
     pub graph: Graph,
     pub multipliers: Vec<i32>,
+    pub ashore: Vec<u8>,
     pub denominator: u64,
     pub ceiling: i64,
     pub length: usize,
 }
 
-pub fn expected(law: &Law, method: Method, given: &Arguments) -> Reply {
-    let Arguments {
-        graph,
-        multipliers,
-        denominator: q,
-        ceiling,
-        length,
-    } = given;
-    let ruled = rulings::call(law, method, graph, multipliers, *q, *ceiling, *length);
+impl Arguments {
+    pub fn given(&self) -> Given<'_> {
+        Given {
+            graph: &self.graph,
+            multipliers: &self.multipliers,
+            ashore: &self.ashore,
+            q: self.denominator,
+        }
+    }
+
+    pub fn shown(&self) -> String {
+        let Arguments {
+            graph,
+            multipliers,
+            ashore,
+            denominator,
+            ceiling,
+            length,
+        } = self;
+        format!("{graph:?}, multipliers {multipliers:?}, ashore {ashore:?}, denominator {denominator}, ceiling {ceiling}, a list of {length} bytes")
+    }
+}
+
+pub fn expected(law: &Law, method: Method, given: &Given, ceiling: i64, length: usize) -> Reply {
+    let ruled = rulings::call(law, method, given, ceiling, length);
     let (said, out) = match ruled {
         Ok(Ruled::Bound {
             bound: least,
@@ -77,25 +106,36 @@ pub fn expected(law: &Law, method: Method, given: &Arguments) -> Reply {
 pub fn arguments(random: &mut Random, small: bool, wrong: bool) -> Arguments {
     let mut graph = graph_for(random, small);
     let mut multipliers = generate::multipliers(random, graph.n);
+    let mut ashore = generate::ashore(random, graph.n);
     let mut denominator = generate::denominator(random);
-    let mut ceiling = turning_ceiling(random, &graph, &multipliers, denominator);
+    let (sea, dues) = Given {
+        graph: &graph,
+        multipliers: &multipliers,
+        ashore: &ashore,
+        q: denominator,
+    }
+    .sea(&Law::AS_WRITTEN);
+    let mut ceiling = turning_ceiling(random, &sea, &dues, denominator);
     let mut length = graph.m;
     if random.one_in(2) {
         generate::junk_past_m(random, &mut graph);
     }
     for _ in 0..if wrong { 1 + random.below(2) } else { 0 } {
-        match random.below(6) {
+        match random.below(8) {
             0 => generate::break_value(random, &mut graph),
             1 => multipliers.resize(generate::length(random, graph.n.min(30), true), 0),
             2 => generate::break_multipliers(random, &mut multipliers),
             3 => ceiling = generate::wrong_ceiling(random),
             4 => denominator = generate::wrong_denominator(random),
+            5 => generate::break_ashore(random, &mut ashore),
+            6 => ashore.resize(generate::length(random, graph.n.min(30), true), 0),
             _ => length = generate::length(random, length, true),
         }
     }
     Arguments {
         graph,
         multipliers,
+        ashore,
         denominator,
         ceiling,
         length,
@@ -107,20 +147,11 @@ fn run(law: &Law, tally: &mut Tally) -> Outcome {
     for round in 0..24_000 {
         let small = round % 4 != 0;
         let wrong = round % 6 >= 4;
-        let given = arguments(random, small, wrong);
-        let input = || {
-            format!(
-                "{:?}, multipliers {:?}, denominator {}, ceiling {}, a list of {} bytes",
-                given.graph, given.multipliers, given.denominator, given.ceiling, given.length
-            )
-        };
-        let reply = rule(
-            &given.graph,
-            &given.multipliers,
-            given.denominator,
-            given.ceiling,
-            given.length,
-        );
+        let arguments = arguments(random, small, wrong);
+        let given = arguments.given();
+        let (ceiling, length) = (arguments.ceiling, arguments.length);
+        let input = || arguments.shown();
+        let reply = rule(&given, ceiling, length);
         let small = small && given.graph.m <= 16;
         let methods = if small {
             &[Method::Definition, Method::Kruskal][..]
@@ -128,7 +159,7 @@ fn run(law: &Law, tally: &mut Tally) -> Outcome {
             &[Method::Kruskal][..]
         };
         for method in methods {
-            let wanted = expected(law, *method, &given);
+            let wanted = expected(law, *method, &given, ceiling, length);
             tally.compare(&format!("{method:?}"), input, &wanted, &reply)?;
         }
     }

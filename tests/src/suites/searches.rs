@@ -1,8 +1,9 @@
-//! The reference machine against all tours: two searches of one graph, with its edges in two orders,
+//! The reference machine against all tours of the vertices afloat: two searches of one graph and one list ashore, with its edges in two orders,
 //! other multipliers, sweeps, steps and denominators, lifted or not, both with the budget that must finish them. Each
 //! shows the first of its cheapest tours.
 
 use crate::bends;
+use crate::document::ashore::haul;
 use crate::document::graph::{Graph, FREE};
 use crate::document::law::Law;
 use crate::document::machine::{Answer, Call, Machine, Search, Verdict};
@@ -29,6 +30,9 @@ pub const SUITE: Suite = Suite {
         bends::UPPER_NOT_SCALED,
         bends::CEILING_NOT_SCALED,
         bends::LIFTED_AT_UPPER_RULED,
+        bends::TOUCHED_STAY,
+        bends::LEGS_OF_ALL,
+        bends::ROUND_OF_ALL,
     ],
 };
 
@@ -44,21 +48,22 @@ fn run(law: &Law, tally: &mut Tally) -> Outcome {
     for round in 0..3500 {
         let (vertices, most) = if round % 2 == 0 { DENSE } else { SPARSE };
         let graph = generate::small_graph(random, vertices, most);
-        let best = tours::first(&graph).map(|tour| tour.cost);
+        let ashore = generate::ashore(random, graph.n);
+        let best = tours::first(&haul(&Law::AS_WRITTEN, &graph, &ashore)).map(|tour| tour.cost);
         let ceiling = match random.below(4) {
             0 => generate::MAX_CEILING,
             _ => generate::ceiling(random, best.unwrap_or(0)),
         };
-        one(law, tally, random, &graph, ceiling)?;
+        one(law, tally, random, (&graph, &ashore), ceiling)?;
         let other = generate::shuffled(random, &graph);
-        one(law, tally, random, &other, ceiling)?;
+        one(law, tally, random, (&other, &ashore), ceiling)?;
     }
     Ok(())
 }
 
 /// An opening with multipliers, sweeps, step and denominator of its own. Far multipliers give poor bounds and
 /// long searches: only graphs with few edges get them.
-pub fn opening(random: &mut Random, graph: &Graph, ceiling: i64) -> Call {
+pub fn opening(random: &mut Random, graph: &Graph, ashore: &[u8], ceiling: i64) -> Call {
     let few = graph.m <= 12;
     let near = random.pick(&[Spread::Equal, Spread::Few, Spread::Some]);
     let multipliers = if few {
@@ -69,6 +74,7 @@ pub fn opening(random: &mut Random, graph: &Graph, ceiling: i64) -> Call {
     Call::Open {
         graph: Box::new(graph.clone()),
         multipliers,
+        ashore: ashore.to_vec(),
         ceiling,
         sweeps: random.pick(&[0, 0, 1, 2, 5, 15]),
         step: random.pick(if few { &STEPS } else { &STEPS[..4] }),
@@ -92,16 +98,23 @@ fn in_portions(machine: &mut Machine, random: &mut Random, budget: u64) {
     }
 }
 
-/// One search with the budget 2^(k+1) − 1, k edges being free.
-fn one(law: &Law, tally: &mut Tally, random: &mut Random, graph: &Graph, ceiling: i64) -> Outcome {
-    let first = tours::first(graph).filter(|tour| tour.cost <= ceiling);
+/// One search with the budget 2^(k+1) − 1, k edges being free and touching no vertex ashore.
+fn one(
+    law: &Law,
+    tally: &mut Tally,
+    random: &mut Random,
+    (graph, ashore): (&Graph, &[u8]),
+    ceiling: i64,
+) -> Outcome {
+    let sea = haul(&Law::AS_WRITTEN, graph, ashore);
+    let first = tours::first(&sea).filter(|tour| tour.cost <= ceiling);
     let expected = match &first {
         Some(tour) => Verdict::Cost(tour.cost),
         None => Verdict::None,
     };
-    let open = opening(random, graph, ceiling);
+    let open = opening(random, graph, ashore, ceiling);
     let input = || format!("{open:?}");
-    let free = graph.marks().iter().filter(|mark| **mark == FREE).count();
+    let free = sea.marks().iter().filter(|mark| **mark == FREE).count();
     let budget = (1u64 << (free + 1)) - 1;
     let mut machine = Machine::new(law, Method::Kruskal);
     machine.call(&open);

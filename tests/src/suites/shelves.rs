@@ -31,6 +31,9 @@ pub const SUITE: Suite = Suite {
         bends::UPPER_NOT_LOWERED,
         bends::FLAG_WITHOUT_EFFECT,
         bends::LIFTING_OF_TWO,
+        bends::SAVED_WITHOUT_LIST,
+        bends::ASHORE_NOT_CHECKED,
+        bends::TOUCHED_NOT_CHECKED,
     ],
 };
 
@@ -203,17 +206,7 @@ fn damaged(law: &Law, tally: &mut Tally, random: &mut Random) -> Outcome {
 /// their order.
 fn document(law: &Law, tally: &mut Tally) -> Outcome {
     let sea = four();
-    let open = |ceiling: i64| {
-        AnyCall::Plain(Call::Open {
-            graph: Box::new(sea.clone()),
-            multipliers: vec![0; 4],
-            ceiling,
-            sweeps: 0,
-            step: 0,
-            denominator: 1,
-            lifting: 0,
-        })
-    };
+    let open = |ceiling: i64| AnyCall::Plain(Call::plain(&sea, ceiling, 1, 0));
     let run = |budget| AnyCall::Plain(Call::Run { budget });
     let (save, back) = (AnyCall::Save, AnyCall::Back);
     let (close, tell) = (AnyCall::Plain(Call::Close), AnyCall::Plain(Call::Tell));

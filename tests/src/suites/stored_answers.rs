@@ -1,4 +1,5 @@
-//! Lists of calls with the answers of the build before document 02's C-19, against the present one: each answer, and each byte of the lists lent.
+//! Lists of calls with the answers of the builds before document 02's C-19 and C-20, against the present one: each answer, and each byte of the lists
+//! lent.
 
 use crate::bends;
 use crate::document::law::Law;
@@ -17,13 +18,13 @@ pub const SUITE: Suite = Suite {
     ],
 };
 
-/// Written by `store` with the library before C-19.
-const FORMER: &str = include_str!("../../stored/before-C-19.txt");
+/// Written by `store` with the library before C-19, and with that before C-20, lifted hunts among them. Each file has at least so many calls.
+const FORMER: [(&str, u64); 2] = [
+    (include_str!("../../stored/before-C-19.txt"), 3_000),
+    (include_str!("../../stored/before-C-20.txt"), 3_000),
+];
 
-/// The file has at least so many calls.
-const CALLS: u64 = 3_000;
-
-/// What the file has, as the law bends it: under each of its bends only what it is about.
+/// What a file has, as the law bends it: under each of its bends only what it is about.
 fn bent(law: &Law, mut reply: Reply) -> Reply {
     let said = &mut reply.said;
     if said.nodes > 0 {
@@ -42,9 +43,16 @@ fn bent(law: &Law, mut reply: Reply) -> Reply {
 }
 
 fn run(law: &Law, tally: &mut Tally) -> Outcome {
+    FORMER
+        .iter()
+        .try_for_each(|(file, least)| one(law, tally, file, *least))
+}
+
+/// The lists of a file.
+fn one(law: &Law, tally: &mut Tally, file: &str, least: u64) -> Outcome {
     let mut desk = Desk::fresh();
     let (mut from, mut calls) = (0, 0);
-    let lines: Vec<&str> = FORMER.lines().collect();
+    let lines: Vec<&str> = file.lines().collect();
     for (i, line) in lines.iter().enumerate() {
         if *line == "fresh" {
             from = i;
@@ -66,5 +74,5 @@ fn run(law: &Law, tally: &mut Tally) -> Outcome {
         calls += 1;
     }
     let input = || format!("{calls} calls");
-    tally.compare("enough", input, &true, &(calls >= CALLS))
+    tally.compare("enough", input, &true, &(calls >= least))
 }

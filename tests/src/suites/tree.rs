@@ -1,10 +1,10 @@
 //! The tree call: against all sets of edges on small graphs, against Kruskal and Prim on all.
 
 use super::own_trees::graph_for;
+use super::rule::Arguments;
 use crate::bends;
-use crate::document::graph::Graph;
 use crate::document::law::Law;
-use crate::document::tree::{self, Method};
+use crate::document::tree::{self, Given, Method};
 use crate::ffi::trees::tree;
 use crate::ffi::{bound, only, Reply};
 use crate::generate;
@@ -28,18 +28,23 @@ pub const SUITE: Suite = Suite {
         bends::DENOMINATOR_OF_ZERO,
         bends::HIGHER_DENOMINATOR,
         bends::DENOMINATOR_BEFORE_MULTIPLIERS,
+        bends::ASHORE_BYTE_OF_TWO,
+        bends::FIRST_ASHORE,
+        bends::TWO_AFLOAT,
+        bends::ASHORE_OF_ANY_LENGTH,
+        bends::ASHORE_BEFORE_MULTIPLIERS,
+        bends::ASHORE_BEFORE_DENOMINATOR,
+        bends::DUES_ASHORE_NOT_JUDGED,
+        bends::TOUCHED_STAY,
+        bends::TOUCHED_REQUIRED_STAY,
+        bends::TOUCHED_IN_TREE,
+        bends::DUE_ASHORE_COUNTS,
+        bends::LEGS_OF_ALL,
     ],
 };
 
-pub fn expected(
-    law: &Law,
-    method: Method,
-    graph: &Graph,
-    multipliers: &[i32],
-    q: u64,
-    length: usize,
-) -> Reply {
-    let (said, out) = match tree::call(law, method, graph, multipliers, q, length) {
+pub fn expected(law: &Law, method: Method, given: &Given, length: usize) -> Reply {
+    let (said, out) = match tree::call(law, method, given, length) {
         Ok(Some(tree)) => (bound(tree.bound), Some(Hex(tree.edges))),
         Ok(None) => (only(NONE), None),
         Err(refusal) => (only(refusal.number), None),
@@ -51,25 +56,35 @@ pub fn expected(
     }
 }
 
-/// A graph, multipliers, a denominator and a length for the lent list; where `wrong`, with one fault or more.
-pub fn arguments(random: &mut Random, small: bool, wrong: bool) -> (Graph, Vec<i32>, u64, usize) {
+/// What the call takes, a ceiling beside it; where `wrong`, with one fault or more.
+pub fn arguments(random: &mut Random, small: bool, wrong: bool) -> Arguments {
     let mut graph = graph_for(random, small);
     if random.one_in(2) {
         generate::junk_past_m(random, &mut graph);
     }
     let mut multipliers = generate::multipliers(random, graph.n);
-    let mut q = generate::denominator(random);
+    let mut ashore = generate::ashore(random, graph.n);
+    let mut denominator = generate::denominator(random);
     let mut length = graph.m;
     for _ in 0..if wrong { 1 + random.below(2) } else { 0 } {
-        match random.below(5) {
+        match random.below(7) {
             0 => generate::break_value(random, &mut graph),
             1 => multipliers.resize(generate::length(random, graph.n.min(30), true), 0),
             2 => generate::break_multipliers(random, &mut multipliers),
-            3 => q = generate::wrong_denominator(random),
+            3 => denominator = generate::wrong_denominator(random),
+            4 => generate::break_ashore(random, &mut ashore),
+            5 => ashore.resize(generate::length(random, graph.n.min(30), true), 0),
             _ => length = generate::length(random, length, true),
         }
     }
-    (graph, multipliers, q, length)
+    Arguments {
+        graph,
+        multipliers,
+        ashore,
+        denominator,
+        ceiling: 0,
+        length,
+    }
 }
 
 fn run(law: &Law, tally: &mut Tally) -> Outcome {
@@ -77,20 +92,17 @@ fn run(law: &Law, tally: &mut Tally) -> Outcome {
     for round in 0..30_000 {
         let small = round % 2 == 0;
         let wrong = round % 6 >= 4;
-        let (graph, multipliers, q, length) = arguments(random, small, wrong);
-        let input = || {
-            format!(
-                "{graph:?}, multipliers {multipliers:?}, denominator {q}, a list of {length} bytes"
-            )
-        };
-        let reply = tree(&graph, &multipliers, q, length);
-        let methods = if small && graph.m <= 16 {
+        let arguments = arguments(random, small, wrong);
+        let (given, length) = (arguments.given(), arguments.length);
+        let input = || arguments.shown();
+        let reply = tree(&given, length);
+        let methods = if small && given.graph.m <= 16 {
             &[Method::Definition, Method::Kruskal, Method::Prim][..]
         } else {
             &[Method::Kruskal, Method::Prim][..]
         };
         for method in methods {
-            let wanted = expected(law, *method, &graph, &multipliers, q, length);
+            let wanted = expected(law, *method, &given, length);
             tally.compare(&format!("{method:?}"), input, &wanted, &reply)?;
         }
     }

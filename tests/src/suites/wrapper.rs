@@ -46,6 +46,16 @@ pub const SUITE: Suite = Suite {
         bends::FLAG_WITHOUT_EFFECT,
         bends::LIFTED_UNASKED,
         bends::LIFTING_AS_SENT,
+        bends::ASHORE_BYTE_OF_TWO,
+        bends::ASHORE_OF_ANY_LENGTH,
+        bends::ASHORE_BEFORE_DENOMINATOR,
+        bends::FREE_BY_LIST,
+        bends::TOUCHED_RULED_BY_MARK,
+        bends::TOUCHED_IN_TREE,
+        bends::DUE_ASHORE_COUNTS,
+        bends::COMPARED_WITHOUT_LIST,
+        bends::SAVED_WITHOUT_LIST,
+        bends::ADDED_WITHOUT_LIST,
     ],
 };
 
@@ -167,21 +177,15 @@ fn sailings(law: &Law, tally: &mut Tally, random: &mut Random, wrong: bool) -> O
             .collect::<Vec<_>>()
     });
     let graph = by_value(&trial.graph);
-    let got = planner::compare(&graph, &trial.multipliers, terms(&trial), &pairs);
+    let (dues, ashore) = (&trial.multipliers, &trial.ashore);
+    let got = planner::compare(&graph, dues, ashore, terms(&trial), &pairs);
     tally.compare("compare", input, &wanted, &got)
 }
 
 /// What the tree call must answer; its list has the right length.
 fn expected_tree(law: &Law, given: &Arguments) -> Result<Tree, planner::Refusal> {
-    let (graph, multipliers) = (&given.graph, &given.multipliers);
-    found(tree::call(
-        law,
-        Method::Kruskal,
-        graph,
-        multipliers,
-        given.denominator,
-        graph.m,
-    ))
+    let m = given.graph.m;
+    found(tree::call(law, Method::Kruskal, &given.given(), m))
 }
 
 fn found(answer: Result<Option<tree::Tree>, Refusal>) -> Result<Tree, planner::Refusal> {
@@ -196,9 +200,8 @@ fn found(answer: Result<Option<tree::Tree>, Refusal>) -> Result<Tree, planner::R
 
 /// What the rule call must answer; its list has the right length.
 fn expected_rulings(law: &Law, given: &Arguments) -> Result<Ruled, planner::Refusal> {
-    let (graph, multipliers) = (&given.graph, &given.multipliers);
-    let (method, q) = (Method::Kruskal, given.denominator);
-    let ruled = rulings::call(law, method, graph, multipliers, q, given.ceiling, graph.m);
+    let (method, m) = (Method::Kruskal, given.graph.m);
+    let ruled = rulings::call(law, method, &given.given(), given.ceiling, m);
     Ok(match ruled.map_err(refusal)? {
         rulings::Ruled::Bound { bound, rulings } => Ruled::Within {
             bound,
@@ -214,23 +217,21 @@ fn trees(law: &Law, tally: &mut Tally, random: &mut Random, wrong: bool) -> Outc
     let given = arguments(random, small, wrong);
     edges(tally, &given.graph)?;
     let graph = by_value(&given.graph);
-    let (multipliers, q, ceiling) = (&given.multipliers, given.denominator, given.ceiling);
-    let input = || {
-        let graph = &given.graph;
-        format!("{graph:?}, multipliers {multipliers:?}, denominator {q}, ceiling {ceiling}")
-    };
+    let (multipliers, ashore) = (&given.multipliers, &given.ashore);
+    let (q, ceiling) = (given.denominator, given.ceiling);
+    let input = || given.shown();
     let fits = graph::fits(law, &given.graph);
     tally.compare("check", input, &fits, &graph.check().is_ok())?;
-    let got = planner::tree(&graph, multipliers, q);
+    let got = planner::tree(&graph, multipliers, ashore, q);
     tally.compare("tree", input, &expected_tree(law, &given), &got)?;
     let edge = random.below(given.graph.m.min(190) + 2);
     let mark = random.pick(&[Mark::Required, Mark::Excluded, Mark::Free]);
     let (asked, m) = ((edge, mark as u32), given.graph.m);
     let method = Method::Kruskal;
-    let wanted = tree::preview(law, method, &given.graph, multipliers, q, asked, m);
-    let got = planner::preview(&graph, multipliers, q, edge, mark);
+    let wanted = tree::preview(law, method, &given.given(), asked, m);
+    let got = planner::preview(&graph, multipliers, ashore, q, edge, mark);
     tally.compare("preview", input, &found(wanted), &got)?;
-    let got = planner::rule(&graph, multipliers, ceiling, q);
+    let got = planner::rule(&graph, multipliers, ashore, ceiling, q);
     tally.compare("rule", input, &expected_rulings(law, &given), &got)
 }
 
@@ -284,9 +285,12 @@ fn said(answer: Answer) -> Result<Said, planner::Refusal> {
 pub fn answer(search: &mut Search, call: &Call) -> Result<Said, planner::Refusal> {
     match call {
         Call::Open {
-            graph, multipliers, ..
+            graph,
+            multipliers,
+            ashore,
+            ..
         } => {
-            let opened = search.open(&by_value(graph), multipliers, settings(call));
+            let opened = search.open(&by_value(graph), multipliers, ashore, settings(call));
             opened.map(|()| Said::Accepted)
         }
         Call::Run { budget } => search.run(*budget).map(Said::Ran),
@@ -403,12 +407,15 @@ fn on_dispatcher(
     match call {
         dispatcher::Call::Add(open) => {
             let Call::Open {
-                graph, multipliers, ..
+                graph,
+                multipliers,
+                ashore,
+                ..
             } = open
             else {
                 unreachable!("a search is added by an opening");
             };
-            let placed = class.add(&by_value(graph), multipliers, settings(open));
+            let placed = class.add(&by_value(graph), multipliers, ashore, settings(open));
             placed.map(OnClass::Placed)
         }
         dispatcher::Call::Turn { portion } => class.turn(*portion).map(OnClass::Turned),
@@ -451,9 +458,11 @@ fn too_many(tally: &mut Tally) -> Outcome {
         let got = [
             graph.check().err(),
             graph.write().err(),
-            planner::tree(&graph, &[0; 20], 1).err(),
-            planner::rule(&graph, &[0; 20], 0, 1).err(),
-            Search::fresh().open(&graph, &[0; 20], settings).err(),
+            planner::tree(&graph, &[0; 20], &[0; 20], 1).err(),
+            planner::rule(&graph, &[0; 20], &[0; 20], 0, 1).err(),
+            Search::fresh()
+                .open(&graph, &[0; 20], &[0; 20], settings)
+                .err(),
         ];
         let input = || format!("{n} vertices, {m} edges");
         tally.compare("15", input, &[Some(unfit); 5], &got)?;

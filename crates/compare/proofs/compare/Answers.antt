@@ -8,7 +8,7 @@ pub returns-in_err-fault : goal.returns-in_err-fault
 returns-in_err-fault c =
     let refusal = c.in_err-fault.field-0.0 in
     let is : c.from_residual.result ≡ Err refusal = search rules in
-    (ap means is ∙ reply-refused _ _ _ _ _ _ refusal c.in_err-fault.ensures, refused-leaves _ _ _ _ _ _ refusal c.in_err-fault.ensures)
+    (ap means is ∙ reply-refused _ _ _ _ _ _ _ refusal c.in_err-fault.ensures, refused-leaves _ _ _ _ _ _ _ refusal c.in_err-fault.ensures)
 
 pub count_all-requires : goal.count_all-requires
 count_all-requires c =
@@ -17,4 +17,4 @@ count_all-requires c =
 pub returns : goal.returns
 returns c =
     let none = sym c.in_ok-fault.ensures in
-    (sym (reply_accepted _ _ _ _ _ _ none), c.count_all.ensures ∙ sym (counted-leaves _ _ _ _ _ _ none))
+    (sym (reply_accepted _ _ _ _ _ _ _ none), c.count_all.ensures ∙ sym (counted-leaves _ _ _ _ _ _ _ none))

@@ -4,11 +4,13 @@ use Rattle.std.proofs.Common.{ap, ◌∙◌, add-one}
 use Rattle.std.specs.Int.Signed.{lt_z}
 use Rattle.graph.specs.declared.Graph.{Graph}
 use Rattle.graph.specs.Limits.{max_edges}
-use Rattle.graph.specs.Network.{network}
+use Rattle.graph.specs.Network.{Network, network}
 use Rattle.tree_theory.specs.OneTree.{Edges, lacks_first, unless}
 use Rattle.tree_theory.specs.Agree.{lacks_agree, lacks_second}
 use Rattle.tree_theory.specs.Arrays.{bytes}
 use Rattle.tours.specs.Tours.{cost}
+use Rattle.afloat.specs.Over.{Ashore}
+use Rattle.afloat.specs.Reduced.{reduced}
 use Rattle.machine.specs.Outcomes as outcomes
 use Rattle.machine.specs.Outcomes.{Incumbent, no_tour, a_tour}
 use Rattle.machine.specs.Machine.{edges_of, cost_of, replaces, better}
@@ -55,6 +57,11 @@ replaces_is g f b =
     first_is =
         lacks_agree g.m (edges_of (bits g.m f)) (bytes f) (edges_of (bits g.m b)) (bits_edges g f)
         ∙ lacks_second g.m (bytes f) (edges_of (bits g.m b)) (bytes b) (bits_edges g b)
+
+-- over the active vertices an edge costs what it costs in the graph
+pub better_active : (s : Ashore) (g : Network) → better (reduced s g) ≡ better g
+unfolding better replaces cost_of cost
+better_active s g = refl
 
 -- ---- the incumbent's bytes
 

@@ -1,26 +1,35 @@
 -- The run call: the record that the loop works on runs to what the record that it began with runs to (`RunsTo`), and where it stops, the record
 -- and the answer are those that the contract names.
-use Rattle.std.specs.Prelude.{◌≡◌, refl, ◌⊎◌, Bool, true, false, List, [], ◌∷◌, ℕ, suc, ◌≤◌, ◌<◌, length}
+use Rattle.std.specs.Prelude.{◌≡◌, refl, ◌⊎◌, Bool, true, false, List, [], ◌∷◌, ℕ, suc, ◌≤◌, ◌<◌, length, Option}
 use Rattle.std.proofs.Common.{sym, ap, ◌∙◌, subst, inl, inr, arith}
 use Rattle.graph.specs.Limits.{max_count}
-use Rattle.machine.specs.Machine.{Node, Progress, State, open_top, is_empty, finished, ran}
+use Rattle.graph.specs.declared.Graph.{Graph}
+use Rattle.machine.specs.Machine.{Node, Opening, Progress, State, settled, open_top, is_empty, finished, ran}
 use Rattle.machine.specs.Calls.{run, runs, step, run_by}
 use Rattle.machine.specs.Runs.{ran-opens, ran_empty, ran_full}
 use Rattle.search.specs.declared.Search.{Search}
-use Rattle.search.specs.Record.{progress_of, record_of, encode}
+use Rattle.search.specs.Record.{opening_in, progress_of, record_of, encode}
 use Rattle.search.specs.Check.{check_is}
 use Rattle.search.specs.Inverse.{encode-decode}
 use Rattle.search.specs.Replies.{Outcome, reply}
 use Rattle.search.specs.ReplyCases.{IsOpen, opened, kept}
+use Rattle.search.specs.Runs.ActiveGraph.{GraphIs}
 use Rattle.search.specs.Runs.TopNode.{Holds, Top, holds_depth, holds_count, top_of_lem, next-kept}
 
--- r, with `left` of the budget, runs to goal
-pub record RunsTo (r : Search) (left : ℕ) (goal : Progress) : Type 0 where
+-- an opened node leaves the opening
+opening_stays : (s : Progress) (st : List Node) → (open_top s st).opening ≡ s.opening
+unfolding open_top settled
+opening_stays s [] = refl
+opening_stays s (x ∷ rest) = refl
+
+-- r, with `left` of the budget, runs to goal; o is the opening of its search
+pub record RunsTo (o : Opening) (r : Search) (left : ℕ) (goal : Progress) : Type 0 where
   pub search : Progress
+  pub opening : search.opening ≡ o
   pub holds : Holds r search
   pub comes : ran left search ≡ goal
 
-module _ (r : Search) (left : ℕ) (goal : Progress) (k : RunsTo r left goal) where
+module _ (o : Opening) (r : Search) (left : ℕ) (goal : Progress) (k : RunsTo o r left goal) where
   stays : ran left k.search ≡ k.search → Holds r goal
   stays q = subst (Holds r) (sym q ∙ k.comes) k.holds
 
@@ -36,14 +45,19 @@ module _ (r : Search) (left : ℕ) (goal : Progress) (k : RunsTo r left goal) wh
   pub run_spent : left ≡ 0 → Holds r goal
   run_spent q = stays (ap (λ (n : ℕ). ran n k.search) q ∙ unfold ran in refl)
 
+  -- the graph on which its nodes are opened
+  pub graph_here : (afloat : Option Graph) → GraphIs o afloat → GraphIs k.search.opening afloat
+  graph_here afloat lends = subst (λ (p : Opening). GraphIs p afloat) (sym k.opening) lends
+
   -- one node more
-  pub run_turn : (less : ℕ) → left ≡ suc less → 0 < r.depth → r.count < max_count → (q : Search)
-      → ((s : Progress) → Holds r s → Top s → q ≡ record_of (open_top s s.stack)) → RunsTo q less goal
-  run_turn less e deep room q after =
+  pub run_turn : (less : ℕ) → left ≡ suc less → 0 < r.depth → r.count < max_count → (afloat : Option Graph) → GraphIs o afloat → (q : Search)
+      → ((s : Progress) → Holds r s → Top s → GraphIs s.opening afloat → q ≡ record_of (open_top s s.stack)) → RunsTo o q less goal
+  run_turn less e deep room afloat lends q after =
       let t : Top k.search = top_of_lem r k.search k.holds deep room in
       record {
         search = open_top k.search k.search.stack;
-        holds = record { kept = next-kept r k.search k.holds t; is = after k.search k.holds t };
+        opening = opening_stays k.search k.search.stack ∙ k.opening;
+        holds = record { kept = next-kept r k.search k.holds t; is = after k.search k.holds t (graph_here afloat lends) };
         comes =
             sym (ran-opens less k.search t.node t.rest t.stack t.room
             ∙ ap (λ (st : List Node). ran less (open_top k.search st)) (sym t.stack))
@@ -59,8 +73,13 @@ module _ (s : Search) (o : IsOpen s) where
     is = sym (ap encode (sym (opened s o.typed o.passes o.opened)) ∙ encode-decode s o.typed (check_is s o.passes));
   }
 
-  pub run_begins : (budget left : ℕ) → left ≡ budget → RunsTo s left (ran budget (progress_of s))
-  run_begins budget left e = record { search = progress_of s; holds = run_starts; comes = ap (λ (n : ℕ). ran n (progress_of s)) e }
+  pub run_begins : (budget left : ℕ) → left ≡ budget → RunsTo (opening_in s) s left (ran budget (progress_of s))
+  run_begins budget left e = record {
+    search = progress_of s;
+    opening = unfold progress_of in refl;
+    holds = run_starts;
+    comes = ap (λ (n : ℕ). ran n (progress_of s)) e;
+  }
 
   -- ---- the call
 

@@ -21,21 +21,24 @@ use Rattle.tree_theory.specs.Arrays.{bytes}
 use Rattle.tree_theory.specs.Inputs.{multipliers_fit}
 use Rattle.tree_theory.specs.Scaled.{scaled_by}
 use Rattle.tours.specs.Tours.{cost}
+use Rattle.afloat.specs.Over.{ashore}
 use Rattle.machine.specs.Outcomes.{closes, finds, splits, Incumbent, no_tour, a_tour}
 use Rattle.machine.specs.Outcomes as outcomes
 use Rattle.machine.specs.Machine as M
 use Rattle.machine.specs.declared.Settings.{Settings}
-use Rattle.machine.specs.Machine.{Node, Opening, lifts, Progress, passes, edges_of, cost_of, lowered, better, open_node, settled, open_top}
-use Rattle.machine.specs.Kept.{Kept, Waits, Nodes, depth_most}
+use Rattle.machine.specs.Machine.{Node, node_of, Opening, active_network, lifts, Progress, passes, edges_of, cost_of, lowered, better, opened_on, open_node, settled, open_top}
+use Rattle.machine.specs.Kept.{active_size, Kept, Waits, Nodes, Off, AllOff, touching, depth_most}
+use Rattle.machine.specs.Active.{active_most}
 use Rattle.machine.proofs.Preserved.{top_kept, found_long}
 use Rattle.machine.specs.Inherited.{siblings}
 use Rattle.mark_rows.specs.MarkRows.{node_words, rows_of, marks_in_rows}
 use Rattle.mark_rows.proofs.SixWords.{rows_back}
 use Rattle.node.specs.declared.Fate.TheVariants as fate
 use Rattle.node.specs.declared.Workspace.{Workspace}
-use Rattle.node.specs.Opened.{refused, fated, Opened, places, no_multipliers, no_rows, opened_as, marked, taken, opens}
+use Rattle.node.specs.Given.{Given}
+use Rattle.node.specs.Opened.{refused, fated, Opened, places, no_multipliers, no_rows, opened_as, marked, taken, left_in, opens}
 use Rattle.node.specs.Faults.{Fit}
-use Rattle.node.specs.Opens.{opens_node}
+use Rattle.node.specs.Opens.{with_rows, opens_node}
 use Rattle.node.specs.Refusing.{never_refused}
 use Rattle.search.specs.declared.Search.{Search}
 use Rattle.search.specs.Record.{max_nodes, stack_size, carried_size, has_tour, rows_at, multipliers_at, word_at, multiplier_at, stack_words, carried_of, bits, has_incumbent, best_bytes, record_of}
@@ -43,7 +46,8 @@ use Rattle.search.specs.Accepted.{range_fits, range_denominator}
 use Rattle.search.specs.Cells.{rows_places, carried_places, cells-size}
 use Rattle.search.specs.Pushing.{PutRows, PutCarried, rows_top, carried_top, pushed, replaced, popped, carried_pushed, carried_replaced, carried_popped}
 use Rattle.search.specs.Runs.Costs.{cost-bits}
-use Rattle.search.specs.Runs.Keeping.{kept_of, bits_back, kept_is, with_best, kept_in}
+use Rattle.search.specs.Runs.Keeping.{kept_of, bits_back, kept_is, better_active, with_best, kept_in}
+use Rattle.search.specs.Runs.ActiveGraph.{graph_n, graph_m, graph_few, left_is_valid}
 
 -- r is the record of the search s
 pub record Holds (r : Search) (s : Progress) : Type 0 where
@@ -214,10 +218,15 @@ module _ (r : Search) (s : Progress) (h : Holds r s) (t : Top s) where
   out : M.Opened
   out = open_node s.opening s.upper t.node
 
-  pub waits : Waits r.graph.n r.graph.m (length t.rest) t.node
-  waits =
-      subst (λ (x : Graph). Waits x.n x.m (length t.rest) t.node) (sym (holds_graph r s h))
-      (subst (Nodes s.opening.graph.n s.opening.graph.m) t.stack h.kept.nodes).0
+  pub waits : Waits (active_size s.opening) s.opening.graph.m (length t.rest) t.node
+  waits = (subst (Nodes (active_size s.opening) s.opening.graph.m) t.stack h.kept.nodes).0
+
+  -- it excludes what touches an inactive vertex
+  off : Off s.opening.graph.m (touching s.opening) t.node.marks
+  off = (subst (AllOff s.opening.graph.m (touching s.opening)) t.stack h.kept.struck).0
+
+  narrow : active_size s.opening ≤ max_vertices
+  narrow = omega (arith, active_most s.opening, h.kept.opening.valid.high)
 
   pub old-words : r.stack ≡ stack_words (t.node ∷ t.rest)
   old-words = holds_words r s h ∙ ap (λ (st : List Node). stack_words st) t.stack
@@ -225,32 +234,37 @@ module _ (r : Search) (s : Progress) (h : Holds r s) (t : Top s) where
   pub old-carried : r.carried ≡ carried_of (t.node ∷ t.rest)
   old-carried = holds_carried r s h ∙ ap (λ (st : List Node). carried_of st) t.stack
 
-  row-marks : marks_in_rows r.graph.m (rows_at r.stack (r.depth - 1)) ≡ t.node.marks
+  row-marks : marks_in_rows s.opening.graph.m (rows_at r.stack (r.depth - 1)) ≡ t.node.marks
   row-marks =
-      ap (marks_in_rows r.graph.m) (rows_top t.node t.rest r.stack (r.depth - 1) old-words place top-high)
-      ∙ rows_back r.graph.m t.node.marks (holds_valid r s h).few waits.long
+      ap (marks_in_rows s.opening.graph.m) (rows_top t.node t.rest r.stack (r.depth - 1) old-words place top-high)
+      ∙ rows_back s.opening.graph.m t.node.marks h.kept.opening.valid.few waits.long
 
   -- the multipliers that are read are the node's
-  top_carried : fit r.graph.n (pos 0) (multipliers_at max_vertices r.carried (r.depth - 1)) ≡ t.node.multipliers
+  top_carried : fit (active_size s.opening) (pos 0) (multipliers_at max_vertices r.carried (r.depth - 1)) ≡ t.node.multipliers
   top_carried =
-      ap (fit r.graph.n (pos 0)) (carried_top t.node t.rest r.carried (r.depth - 1) old-carried place top-high)
-      ∙ fit_cut max_vertices r.graph.n (pos 0) t.node.multipliers (holds_valid r s h).high waits.multipliers.long
+      ap (fit (active_size s.opening) (pos 0)) (carried_top t.node t.rest r.carried (r.depth - 1) old-carried place top-high)
+      ∙ fit_cut max_vertices (active_size s.opening) (pos 0) t.node.multipliers narrow waits.multipliers.long
 
-  -- the node is read, and opened with what the record holds
-  module _ (x : List ℕ) (d : List ℤ) (u : ℤ) (ex : x ≡ rows_at r.stack (r.depth - 1))
+  -- the node is read, and opened on the graph q with what the record holds
+  module _ (q : Graph) (afloat : network q ≡ active_network s.opening) (x : List ℕ) (d : List ℤ) (u : ℤ) (ex : x ≡ rows_at r.stack (r.depth - 1))
       (ed : d ≡ multipliers_at max_vertices r.carried (r.depth - 1)) (eu : u ≡ r.upper) where
-    given : Opening
-    given = taken r.graph d (with_ceiling u r.settings)
+    given : Given
+    given = taken q d (with_ceiling u r.settings)
 
-    read : fit r.graph.n (pos 0) d ≡ t.node.multipliers
-    read = ap (fit r.graph.n (pos 0)) ed ∙ top_carried
+    read : fit q.n (pos 0) d ≡ t.node.multipliers
+    read =
+        ap (λ (n : ℕ). fit n (pos 0) d) (graph_n s.opening h.kept.opening q afloat) ∙ ap (fit (active_size s.opening) (pos 0)) ed ∙ top_carried
+
+    marks : marks_in_rows s.opening.graph.m x ≡ t.node.marks
+    marks = ap (marks_in_rows s.opening.graph.m) ex ∙ row-marks
 
     -- it has no fault
-    fits : Fit given
+    fits : Fit (left_in (with_rows given x))
     unfolding given
     fits = record {
-      valid = holds_valid r s h;
-      long = fit-size r.graph.n (pos 0) d;
+      valid =
+          left_is_valid s.opening h.kept.opening q afloat x (subst (Off s.opening.graph.m (touching s.opening)) (sym marks) off);
+      long = fit-size q.n (pos 0) d;
       multipliers = ap multipliers_fit read ∙ waits.multipliers.fits;
       ceiling = rw (eu, holds_upper r s h) (range_fits s.upper h.kept.upper);
       sweeps = rw (holds_settings r s h) h.kept.opening.sweeps;
@@ -260,20 +274,20 @@ module _ (r : Search) (s : Progress) (h : Holds r s) (t : Top s) where
 
     -- and what it comes to is what the machine's top node comes to
     pub opens_is : (node : Workspace)
-        → opens (taken (marked r.graph x) d (with_ceiling u r.settings)) node
+        → opens (taken (marked q x) d (with_ceiling u r.settings)) node
         ≡ opened_as (open_node s.opening s.upper t.node)
-    unfolding given open_node
-    opens_is node = opens_node given fits x node ∙ ap opened_as same
+    unfolding given open_node opened_on
+    opens_is node = opens_node given x (graph_few s.opening h.kept.opening q afloat) fits node ∙ ap opened_as same
       where
-        same : passes (lifts r.settings) (scaled_by r.settings.denominator (network r.graph)) r.settings.step (r.settings.denominator times u)
-            r.settings.sweeps (fit r.graph.n (pos 0) d) (marks_in_rows r.graph.m x)
-            ≡ passes (lifts s.opening.settings) (scaled_by s.opening.settings.denominator (network s.opening.graph)) s.opening.settings.step
-            (s.opening.settings.denominator times s.upper) s.opening.settings.sweeps t.node.multipliers t.node.marks
+        here : marks_in_rows q.m x ≡ t.node.marks
+        here = ap (λ (m : ℕ). marks_in_rows m x) (graph_m s.opening h.kept.opening q afloat) ∙ marks
+
+        same : opened_on (network q) (with_ceiling u r.settings) u (node_of (fit q.n (pos 0) d) (marks_in_rows q.m x))
+            ≡ opened_on (active_network s.opening) s.opening.settings s.upper t.node
         same =
             λ i.
-            passes (lifts (holds_settings r s h i)) (scaled_by (holds_settings r s h i).denominator (network (holds_graph r s h i)))
-            (holds_settings r s h i).step ((holds_settings r s h i).denominator times (eu ∙ holds_upper r s h) i) (holds_settings r s h i).sweeps (read i)
-            ((ap (marks_in_rows r.graph.m) ex ∙ row-marks) i)
+            passes (lifts (holds_settings r s h i)) (scaled_by (holds_settings r s h i).denominator (afloat i)) (holds_settings r s h i).step
+            ((holds_settings r s h i).denominator times (eu ∙ holds_upper r s h) i) (holds_settings r s h i).sweeps (read i) (here i)
 
   -- ---- the search after the top node's opening
 
@@ -323,7 +337,7 @@ module _ (r : Search) (s : Progress) (h : Holds r s) (t : Top s) where
     pub next_finds : (l : List ℕ) (e : List ℤ) → o.fate ≡ fated fate.Finds
         → PutRows (r.depth - 1) o.node.rows r.stack l → PutCarried (r.depth - 1) o.node.last r.carried e
         → kept_in (restacked r l e (r.depth - 1) (r.count + 1)) o.node.tour ≡ record_of (open_top s s.stack)
-    unfolding record_of settled lowered cost_of has_incumbent
+    unfolding record_of settled lowered cost_of cost has_incumbent
     next_finds l e f put carry =
         (λ i.
         with_best (restacked (h.is i) (wiped l c.rows put i) (wiped_carried e c.last carry i) (sym place i) (count_next i)) (same-cost i)
@@ -337,7 +351,7 @@ module _ (r : Search) (s : Progress) (h : Holds r s) (t : Top s) where
         long : length c.tour ≡ s.opening.graph.m
         long = found_long s h.kept t.node t.rest t.stack t.room c.tour c.is
 
-        same-cost : cost (network r.graph) (bytes o.node.tour) ≡ cost (network s.opening.graph) (edges_of c.tour)
+        same-cost : cost (network r.graph) (bytes o.node.tour) ≡ cost (active_network s.opening) (edges_of c.tour)
         same-cost =
             sym (cost-bits r.graph o.node.tour)
             ∙ ap (λ (x : List ℕ). cost (network r.graph) (edges_of (bits r.graph.m x))) c.found
@@ -345,16 +359,18 @@ module _ (r : Search) (s : Progress) (h : Holds r s) (t : Top s) where
             ∙ ap (λ (b : List Bool). cost (network s.opening.graph) (edges_of b))
             (bits_back s.opening.graph.m c.tour h.kept.opening.valid.few long)
 
-        same-best : kept_of r.graph (has_tour r) o.node.tour r.best ≡ best_bytes (outcomes.best_of (better (network s.opening.graph)) s.incumbent c.tour)
+        same-best : kept_of r.graph (has_tour r) o.node.tour r.best ≡ best_bytes (outcomes.best_of (better (active_network s.opening)) s.incumbent c.tour)
         same-best =
             (λ i. kept_of (holds_graph r s h i) (holds_has r s h i) (c.found i) (holds_best r s h i))
             ∙ kept_is s.opening.graph s.incumbent c.tour h.kept.opening.valid.few h.kept.sized long
+            ∙ ap (λ (f : List Bool → List Bool → List Bool). best_bytes (outcomes.best_of f s.incumbent c.tour))
+            (sym (better_active (ashore s.opening.ashore) (network s.opening.graph)))
 
         there-is : (i : Incumbent (List Bool))
-            → record (record_of (settled s t.rest (finds c.tour))) { best = best_bytes (outcomes.best_of (better (network s.opening.graph)) i c.tour); has_best = 1 }
+            → record (record_of (settled s t.rest (finds c.tour))) { best = best_bytes (outcomes.best_of (better (active_network s.opening)) i c.tour); has_best = 1 }
             ≡ record (record_of (settled s t.rest (finds c.tour))) {
-              best = best_bytes (outcomes.best_of (better (network s.opening.graph)) i c.tour);
-              has_best = bit (has_incumbent (outcomes.best_of (better (network s.opening.graph)) i c.tour));
+              best = best_bytes (outcomes.best_of (better (active_network s.opening)) i c.tour);
+              has_best = bit (has_incumbent (outcomes.best_of (better (active_network s.opening)) i c.tour));
             }
         there-is no_tour = refl
         there-is (a_tour b) = refl

@@ -13,7 +13,7 @@ use Rattle.compare.proofs.Comparison.count.Goals as goal
 pub returns : goal.returns
 returns c =
     let a = c.args.self.now in
-    let o = opening_of a.g.now a.multipliers.now (settings_of a.terms c.args.sweeps c.args.step) in
+    let o = opening_of a.g.now a.multipliers.now a.ashore.now (settings_of a.terms c.args.sweeps c.args.step) in
     let budget = a.terms.budget in
     let left = rw (back64 a.terms.ceiling (search (rules, c.well_formed))) at c.open-opened.ensures.left in
     let finished =

@@ -44,7 +44,7 @@ returns-in_err-open c =
     let e = c.in_ok-seen.ensures in
     let d = c.args.self.now in
     let at = c.in_ok-at.at in
-    let o = opening_of c.args.g.now c.args.multipliers.now c.args.settings in
+    let o = opening_of c.args.g.now c.args.multipliers.now c.args.ashore.now c.args.settings in
     let found = first_free (goal.at.returns-in_err-open c).In_ok-at in
     let refusal = c.in_err-open.field-0.0 in
     let is : c.from_residual-in_err-open.result ≡ Err refusal = search rules in
@@ -57,7 +57,7 @@ returns c =
     let e = c.in_ok-seen.ensures in
     let d = c.args.self.now in
     let at = c.in_ok-at.at in
-    let o = opening_of c.args.g.now c.args.multipliers.now c.args.settings in
+    let o = opening_of c.args.g.now c.args.multipliers.now c.args.ashore.now c.args.settings in
     let found = first_free (goal.at.returns c).In_ok-at in
     let taken = ap is_accepted (sym c.in_ok-open.ensures.answer) in
     parts _ _ _ _ refl (ap (λ (s : Search). record { last = d.last; places = set d.places at s }) c.open.ensures.left)

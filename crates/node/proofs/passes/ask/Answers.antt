@@ -10,7 +10,7 @@ use Rattle.graph.specs.Meaning.{not_valid}
 use Rattle.graph.specs.Refusals.{number}
 use Rattle.tree_theory.specs.Inputs.{input_fault}
 use Rattle.onetree.specs.Answers.{refused, rule_fault, rule_reply}
-use Rattle.machine.specs.Machine.{Opening}
+use Rattle.node.specs.Given.{Given}
 use Rattle.node.specs.Opened.{taken}
 use Rattle.node.specs.Faults.{fault-fit}
 use Rattle.node.specs.Passing.{refusal, refusal-fault, tree_is}
@@ -37,7 +37,7 @@ replied g d ceiling q k long = go (dec_le g.n 20)
 
 pub returns-in_err-found : goal.returns-in_err-found
 returns-in_err-found c = let a = c.args in
-    let o : Opening = taken a.g.now a.d.now a.settings in
+    let o : Given = taken a.g.now a.d.now a.settings in
     let said = rw (back64 a.settings.ceiling (omega arith), c.min.ensures, c.from.ensures) at c.pass.ensures.reply in
     let told : refusal c.pass.result a.settings.sweeps a.settings.step ≡ number c.in_err-found.field-0.0 = grind arith in
     let p = err_from_is_err_and c.from_residual.result c.from_residual.ensures.1 in
@@ -45,7 +45,7 @@ returns-in_err-found c = let a = c.args in
 
 pub returns-in_err-settings_fault : goal.returns-in_err-settings_fault
 returns-in_err-settings_fault c = let a = c.args in
-    let o : Opening = taken a.g.now a.d.now a.settings in
+    let o : Given = taken a.g.now a.d.now a.settings in
     let is : c.pass.result ≡ Ok c.in_ok-found.found = grind arith in
     let said = rw (is, back64 a.settings.ceiling (omega arith), c.min.ensures, c.from.ensures) at c.pass.ensures.reply in
     let p = err_from_is_err_and c.from_residual-in_err-settings_fault.result c.from_residual-in_err-settings_fault.ensures.1 in
@@ -53,7 +53,7 @@ returns-in_err-settings_fault c = let a = c.args in
 
 pub returns : goal.returns
 returns c = let a = c.args in
-    let o : Opening = taken a.g.now a.d.now a.settings in
+    let o : Given = taken a.g.now a.d.now a.settings in
     let is : c.pass.result ≡ Ok c.in_ok-found.found = grind arith in
     let said = rw (is, back64 a.settings.ceiling (omega arith), c.min.ensures, c.from.ensures) at c.pass.ensures.reply in
     let fine = refusal-fault o (Ok c.in_ok-found.found) (said ∙ replied a.g.now a.d.now _ _ _ c.told-d) ∙ sym c.in_ok-settings_fault.ensures in

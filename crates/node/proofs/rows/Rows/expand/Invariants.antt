@@ -1,7 +1,7 @@
 -- The loop keeps: of the first w words f edges are left, and their bytes stand at their places.
 use Rattle.std.proofs.Common.{◌≡◌}
 use Rattle.mark_rows.specs.MarkRows.{marks_in_rows}
-use Rattle.compaction.specs.Ranks.{rank}
+use Rattle.thinning.specs.Ranks.{rank}
 use Rattle.node.specs.Expanding.{ExpandedTo}
 use Rattle.node.specs.Marks.{bytes_of}
 use Rattle.node.specs.Walking.{cut}

@@ -4,7 +4,7 @@ use lib.Signed.{mag}
 use Rattle.integers.specs.Words.{back32}
 use Rattle.graph.specs.declared.Graph.{Graph}
 use Rattle.node.specs.Compacting.{gathered_more}
-use Rattle.compaction.specs.Ranks.{rank_most}
+use Rattle.thinning.specs.Ranks.{rank_most}
 use Rattle.node.specs.Walking.{cut, upto_first, upto_last, upto_edge, upto_met, upto_more, place_fits, count_fits}
 use Rattle.node.specs.Words.{kept_in, marked_in, kept-mark}
 use Rattle.node.proofs.Loops.{gathered_first, gathered_skips, gathered_last}

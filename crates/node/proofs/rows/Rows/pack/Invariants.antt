@@ -1,6 +1,6 @@
 -- The loop keeps: the first w words of both rows are packed.
 use Rattle.std.proofs.Common.{◌≡◌}
-use Rattle.compaction.specs.Ranks.{rank}
+use Rattle.thinning.specs.Ranks.{rank}
 use Rattle.node.specs.Walking.{cut}
 use Rattle.node.specs.Words.{kept_in, new_byte, Packed}
 use Rattle.node.proofs.rows.Rows.pack.Given as goal

@@ -14,8 +14,8 @@ returns-in_err-bound c =
     let input = c.args.input.now in
     let ceiling = back64 input.ceiling (search (rules, c.well_formed)) in
     let p = err_from_is_err_and c.from_residual.result c.from_residual.ensures.1 in
-    let said = rw (ceiling, c.multipliers.ensures, c.from.ensures) at c.in_err-bound.ensures.reply in
-    let left = rw (ceiling, c.multipliers.ensures, c.from.ensures) at c.rule.ensures.left in
+    let said = rw (ceiling, c.multipliers.ensures, c.ashore.ensures, c.from.ensures) at c.in_err-bound.ensures.reply in
+    let left = rw (ceiling, c.multipliers.ensures, c.ashore.ensures, c.from.ensures) at c.rule.ensures.left in
     rw (p.1, p.2) (sym (rules_are input.graph input.valid input.ceiling _ _ said left))
 
 pub returns : goal.returns
@@ -23,14 +23,14 @@ unfolding reply_text dead_line
 returns c =
     let input = c.args.input.now in
     let ceiling = back64 input.ceiling (search (rules, c.well_formed)) in
-    let left = rw (ceiling, c.multipliers.ensures, c.from.ensures) at c.rule.ensures.left in
+    let left = rw (ceiling, c.multipliers.ensures, c.ashore.ensures, c.from.ensures) at c.rule.ensures.left in
     elim c.match-branch-2.branch [
       | in-Some w ↦
-          let said = rw (ceiling, c.multipliers.ensures, c.from.ensures) at (rw w.in-Some.is at c.in_ok-bound.ensures.reply) in
+          let said = rw (ceiling, c.multipliers.ensures, c.ashore.ensures, c.from.ensures) at (rw w.in-Some.is at c.in_ok-bound.ensures.reply) in
           let first = rw (c.new-text.ensures, w.as_str.ensures.value, w.bound.ensures, back64 w.in-Some.bound (omega arith), ceiling) at w.push_str.ensures.bytes in
           rw (w.text-is, rules_are input.graph input.valid input.ceiling _ _ said left)
           (w.push_edges.ensures ∙ ap (λ l. l ++ edge_lines input.graph c.rule.new.out input.graph.m) first)
       | in-None w ↦
-          let said = rw (ceiling, c.multipliers.ensures, c.from.ensures) at (rw w.in-None.is at c.in_ok-bound.ensures.reply) in
+          let said = rw (ceiling, c.multipliers.ensures, c.ashore.ensures, c.from.ensures) at (rw w.in-None.is at c.in_ok-bound.ensures.reply) in
           rw (w.text-is, rules_are input.graph input.valid input.ceiling _ _ said left) (rw c.new-text.ensures at w.push_str-in-None.ensures.bytes)
     ]

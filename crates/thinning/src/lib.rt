@@ -1,0 +1,2 @@
+// This crate has laws and no code: see specs/.
+#![tactic(auto)]

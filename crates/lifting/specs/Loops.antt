@@ -1,10 +1,9 @@
 -- What the loops of a pass with lifting leave in their arrays, and that one turn more keeps it. Assumes nothing.
-use Rattle.std.specs.Prelude.{◌≡◌, refl, ◌≢◌, ◌⊎◌, Bool, true, false, not, cond, ◌&&◌, ◌||◌, List, [], ◌∷◌, ◌++◌, ℕ, zero, suc, ◌+◌, ◌*◌, ◌-◌, ◌<◌, ◌≤◌, eqb, leb, ltb, ℤ, length, get_or}
+use Rattle.std.specs.Prelude.{◌≡◌, refl, ◌≢◌, ◌⊎◌, Bool, true, false, not, cond, ◌&&◌, ◌||◌, List, [], ◌∷◌, ◌++◌, ℕ, zero, suc, ◌+◌, ◌*◌, ◌-◌, ◌<◌, ◌≤◌, eqb, ltb, ℤ, length, get_or}
 use Rattle.std.proofs.Math.Path.{sym}
-use Rattle.std.proofs.Common.{ap, ◌∙◌, subst, inl, inr, true≢false, arith, eq-eqb, ne_eqb, lt-ltb, le-ltb, le-leb}
+use Rattle.std.proofs.Common.{ap, ◌∙◌, subst, inl, inr, true≢false, arith}
 use Rattle.std.proofs.Math.Numerals.{add-one}
-use Rattle.std.proofs.Math.Decide.{ℕ_discrete, dec_le}
-use Rattle.std.proofs.lemmas.Bool.{lt-leb}
+use Rattle.std.proofs.Math.Decide.{ℕ_discrete}
 use Rattle.std.proofs.Math.ListN.{get_or-append}
 use Rattle.std.proofs.Math.Seq.{get_or-append_seam}
 use Rattle.std.proofs.lemmas.List.{length-append}
@@ -15,7 +14,7 @@ use Rattle.integers.specs.Range.{InRange}
 use Rattle.graph.specs.Limits.{max_multiplier}
 use Rattle.tree_theory.specs.Arrays.{entry}
 use Rattle.lifting.specs.Folds.{more, less, most_to, place_to, least_to}
-use Rattle.lifting.specs.Found.{key_of, met, top_of, place_of, top_at, cost_of, move_of, move_is}
+use Rattle.lifting.specs.Found.{key_of, met, top_of, place_of, top_at, cost_of}
 use Rattle.lifting.specs.Meeting.{on_in}
 use Rattle.lifting.specs.Verdict.{room_of}
 
@@ -132,27 +131,6 @@ module _ (test : ℕ → Bool) (list : List ℕ) (k : ℕ) (h : PlacesTo test li
 
 -- ---- steps of small loops and tests
 
-pub way_here : (parent : ℕ → ℕ) (left v y : ℕ) → left ≢ 0 → y ≡ v → on_way parent left v y ≡ true
-unfolding on_way
-way_here parent zero v y n e = absurd (n refl)
-way_here parent (suc left) v y n e = rw (eq-eqb v y (sym e))
-
-pub way_next : (parent : ℕ → ℕ) (left v y : ℕ) → left ≢ 0 → y ≢ v → on_way parent left v y ≡ on_way parent (left - 1) v (parent y)
-unfolding on_way
-way_next parent zero v y n e = absurd (n refl)
-way_next parent (suc left) v y n e = let z : suc left - 1 ≡ left = omega arith in rw (z, ne_eqb v y (λ q. e (sym q)))
-
-pub way_none : (parent : ℕ → ℕ) (left v y : ℕ) → left ≡ 0 → on_way parent left v y ≡ false
-unfolding on_way
-way_none parent left v y e = rw e
-
-pub not-leb : (x y : ℕ) → ltb x y ≡ not (leb y x)
-not-leb x y = go (dec_le (suc x) y)
-  where
-    go : Dec (x < y) → ltb x y ≡ not (leb y x)
-    go (yes h) = rw (lt-ltb x y h, lt-leb y x h)
-    go (no h) = rw (le-ltb x y (omega arith), le-leb y x (omega arith))
-
 pub least_step : (none : ℕ) (test : ℕ → Bool) (key : ℕ → ℕ) (list : List ℕ) (j : ℕ)
     → least_to none test key list (j + 1)
     ≡ cond (test (get_or list j 0)) (less (least_to none test key list j) (key (get_or list j 0))) (least_to none test key list j)
@@ -211,9 +189,6 @@ pub room_small : (inside : Bool) (z : ℤ) → InRange max_multiplier z → room
 unfolding room_of
 room_small true z r = omega (arith, r.high)
 room_small false z r = omega (arith, r.low)
-
-pub move_small : (j room low top at : ℕ) → move_of j room low top at ≤ room
-move_small j room low top at = (move_is j room low top at).0
 
 -- a cost is at most none, where the key is
 pub cost-small : (none own top : ℕ) → own ≤ none → cost_of none own top ≤ none

@@ -28,7 +28,9 @@ pub record MovedEdges (s : Ashore) (g : Graph) (k : ℕ) (r : Graph) : Type 0 wh
   pub a : (j : ℕ) → j < k → get_or r.a j 0 ≡ moved_a s g j
   pub b : (j : ℕ) → j < k → get_or r.b j 0 ≡ moved_b s g j
   pub mark : (j : ℕ) → j < k → get_or r.mark j 0 ≡ moved_mark s g j
-  pub later : (j : ℕ) → k ≤ j → get_or r.mark j 0 ≡ get_or g.mark j 0
+  pub later_a : (j : ℕ) → k ≤ j → get_or r.a j 0 ≡ get_or g.a j 0
+  pub later_b : (j : ℕ) → k ≤ j → get_or r.b j 0 ≡ get_or g.b j 0
+  pub later_mark : (j : ℕ) → k ≤ j → get_or r.mark j 0 ≡ get_or g.mark j 0
 
 -- r has the edges of g, with their ends moved
 pub record MovedEnds (s : Ashore) (g r : Graph) : Type 0 where
@@ -38,10 +40,13 @@ pub record MovedEnds (s : Ashore) (g r : Graph) : Type 0 where
   pub a : (j : ℕ) → j < g.m → get_or r.a j 0 ≡ moved_a s g j
   pub b : (j : ℕ) → j < g.m → get_or r.b j 0 ≡ moved_b s g j
 
--- and with them their marks: r is the graph of the vertices that are afloat
+-- and with them their marks: r is the graph of the vertices that are afloat. Past the edges, where nothing counts, stands what stood there
 pub record Moved (s : Ashore) (g r : Graph) : Type 0 where
   pub ends : MovedEnds s g r
   pub mark : (j : ℕ) → j < g.m → get_or r.mark j 0 ≡ moved_mark s g j
+  pub past_a : (j : ℕ) → g.m ≤ j → get_or r.a j 0 ≡ get_or g.a j 0
+  pub past_b : (j : ℕ) → g.m ≤ j → get_or r.b j 0 ≡ get_or g.b j 0
+  pub past_mark : (j : ℕ) → g.m ≤ j → get_or r.mark j 0 ≡ get_or g.mark j 0
 
 module _ (s : Ashore) (zeroth : s 0 ≡ false) (g r : Graph) (h : Moved s g r) where
   -- past the edges is nothing, there and here

@@ -109,7 +109,9 @@ module _ (s : Ashore) (g r : Graph) (k : ℕ) (few : k < max_edges) (h : MovedEd
     a = one_more (moved_a s g) r.a 1 long.0 (sym (ap (λ (b : Bool). cond b 1 (rank (active s) (get_or g.a k 0))) e)) h.a;
     b = one_more (moved_b s g) r.b 2 long.1 (sym (ap (λ (b : Bool). cond b 2 (rank (active s) (get_or g.b k 0))) e)) h.b;
     mark = one_more (moved_mark s g) r.mark 2 long.2 (sym (ap (λ (b : Bool). cond b 2 (get_or g.mark k 0)) e)) h.mark;
-    later = λ j b. get_or-set_other r.mark k j 2 0 (omega arith) ∙ h.later j (omega arith);
+    later_a = λ j b. get_or-set_other r.a k j 1 0 (omega arith) ∙ h.later_a j (omega arith);
+    later_b = λ j b. get_or-set_other r.b k j 2 0 (omega arith) ∙ h.later_b j (omega arith);
+    later_mark = λ j b. get_or-set_other r.mark k j 2 0 (omega arith) ∙ h.later_mark j (omega arith);
   }
 
   pub moved_free : (x y : ℕ) → touched s (network g) (suc k) ≡ false → x ≡ rank (active s) (get_or g.a k 0)
@@ -121,8 +123,10 @@ module _ (s : Ashore) (g r : Graph) (k : ℕ) (few : k < max_edges) (h : MovedEd
     cost = h.cost;
     a = one_more (moved_a s g) r.a x long.0 (p ∙ sym (ap (λ (b : Bool). cond b 1 (rank (active s) (get_or g.a k 0))) e)) h.a;
     b = one_more (moved_b s g) r.b y long.1 (q ∙ sym (ap (λ (b : Bool). cond b 2 (rank (active s) (get_or g.b k 0))) e)) h.b;
-    mark = own (moved_mark s g) r.mark (h.later k (omega arith) ∙ sym (ap (λ (b : Bool). cond b 2 (get_or g.mark k 0)) e)) h.mark;
-    later = λ j b. h.later j (omega arith);
+    mark = own (moved_mark s g) r.mark (h.later_mark k (omega arith) ∙ sym (ap (λ (b : Bool). cond b 2 (get_or g.mark k 0)) e)) h.mark;
+    later_a = λ j b. get_or-set_other r.a k j x 0 (omega arith) ∙ h.later_a j (omega arith);
+    later_b = λ j b. get_or-set_other r.b k j y 0 (omega arith) ∙ h.later_b j (omega arith);
+    later_mark = λ j b. h.later_mark j (omega arith);
   }
 
 -- before the first; and after the last, once the vertices are counted
@@ -134,7 +138,9 @@ moved_none s g = record {
   a = λ j h. absurd (omega arith);
   b = λ j h. absurd (omega arith);
   mark = λ j h. absurd (omega arith);
-  later = λ j h. refl;
+  later_a = λ j h. refl;
+  later_b = λ j h. refl;
+  later_mark = λ j h. refl;
 }
 
 pub moved_all : (s : Ashore) (g r : Graph) (k n : ℕ) → k ≡ g.m → n ≡ rank (active s) g.n → MovedEdges s g k r
@@ -142,4 +148,7 @@ pub moved_all : (s : Ashore) (g r : Graph) (k n : ℕ) → k ≡ g.m → n ≡ r
 moved_all s g r k n e f h = record {
   ends = record { n = f; m = h.m; cost = h.cost; a = λ j b. h.a j (omega (arith, e)); b = λ j b. h.b j (omega (arith, e)) };
   mark = λ j b. h.mark j (omega (arith, e));
+  past_a = λ j b. h.later_a j (omega (arith, e));
+  past_b = λ j b. h.later_b j (omega (arith, e));
+  past_mark = λ j b. h.later_mark j (omega (arith, e));
 }

@@ -113,3 +113,8 @@ pub fn check() {
     }
     println!("All sides agree on {CASES} graphs with marks.");
 }
+
+#[test]
+fn all_sides_agree() {
+    check();
+}

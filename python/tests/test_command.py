@@ -330,19 +330,20 @@ class Signals(unittest.TestCase):
 
     def test_interrupt(self):
         """By the signal, quietly: within a search, at a prompt, and at any moment of the start."""
-        for given, wait in ((LONG_RUN, 1.2), ("", 0.4), *(("", 0.02 * turn) for turn in range(8))):
+        for given, wait in ((LONG_RUN, 0.2), ("tell\n", 0.2), *(("", 0.02 * turn) for turn in range(8))):
             process = self.started(["calls"], stdin=subprocess.PIPE, stdout=subprocess.PIPE, stderr=subprocess.PIPE)
             process.stdin.write(given.encode())
             process.stdin.flush()
+            answer = process.stdout.readline() if given else b""
             time.sleep(wait)
             process.send_signal(signal.SIGINT)
             try:
                 out, complaints = process.communicate(timeout=10)
             finally:
                 process.kill()
-            if wait > 0.3:
-                self.assertEqual((complaints, process.returncode), (b"", -signal.SIGINT))
-                self.assertEqual(out, b"accepted\n" if given else b"")
+            if given:
+                self.assertEqual((out, complaints, process.returncode), (b"", b"", -signal.SIGINT))
+                self.assertEqual(answer, b"accepted\n" if given == LONG_RUN else b"refused 20 at 0\n")
 
     def test_progress_on_a_terminal(self):
         """After a second, nodes and best so far on standard error; the line is taken away; answers are as ever."""

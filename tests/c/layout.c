@@ -10,51 +10,25 @@
 #define CLAIM(claim) _Static_assert(claim, #claim)
 #endif
 #define AT(kind, field, offset) CLAIM(offsetof(kind, field) == (offset))
+#define FOUR_WORDS(kind, a, b, c, d) CLAIM(sizeof(kind) == 32); AT(kind, a, 0); AT(kind, b, 8); AT(kind, c, 16); AT(kind, d, 24)
 
-CLAIM(sizeof(planner_reply) == 32);
-AT(planner_reply, number, 0);
-AT(planner_reply, place, 8);
-AT(planner_reply, value, 16);
-AT(planner_reply, nodes, 24);
-
-CLAIM(sizeof(planner_graph) == 1332);
-AT(planner_graph, cost, 0);
-AT(planner_graph, a, 760);
-AT(planner_graph, b, 950);
-AT(planner_graph, mark, 1140);
-AT(planner_graph, n, 1330);
-AT(planner_graph, m, 1331);
+FOUR_WORDS(planner_reply, number, place, value, nodes);
+FOUR_WORDS(planner_sailed, number, place, total, state);
+FOUR_WORDS(planner_terms, ceiling, budget, denominator, lifting);
 
 CLAIM(sizeof(planner_settings) == 32);
-AT(planner_settings, ceiling, 0);
-AT(planner_settings, sweeps, 8);
-AT(planner_settings, step, 12);
-AT(planner_settings, denominator, 16);
-AT(planner_settings, lifting, 24);
-CLAIM(sizeof(planner_sailed) == 32);
-AT(planner_sailed, number, 0);
-AT(planner_sailed, place, 8);
-AT(planner_sailed, total, 16);
-AT(planner_sailed, state, 24);
-CLAIM(sizeof(planner_terms) == 32);
-AT(planner_terms, ceiling, 0);
-AT(planner_terms, budget, 8);
-AT(planner_terms, denominator, 16);
-AT(planner_terms, lifting, 24);
+AT(planner_settings, ceiling, 0); AT(planner_settings, sweeps, 8); AT(planner_settings, step, 12);
+AT(planner_settings, denominator, 16); AT(planner_settings, lifting, 24);
+
+CLAIM(sizeof(planner_graph) == 1332);
+AT(planner_graph, cost, 0); AT(planner_graph, a, 760); AT(planner_graph, b, 950);
+AT(planner_graph, mark, 1140); AT(planner_graph, n, 1330); AT(planner_graph, m, 1331);
 
 CLAIM(sizeof(planner_search) == 4496);
-AT(planner_search, settings, 0);
-AT(planner_search, upper, 32);
-AT(planner_search, count, 40);
-AT(planner_search, stack, 48);
-AT(planner_search, depth, 1104);
-AT(planner_search, graph, 1112);
-AT(planner_search, multipliers, 2444);
-AT(planner_search, carried, 2524);
-AT(planner_search, best, 4284);
-AT(planner_search, ashore, 4474);
-AT(planner_search, open, 4494);
-AT(planner_search, has_best, 4495);
+AT(planner_search, settings, 0); AT(planner_search, upper, 32); AT(planner_search, count, 40);
+AT(planner_search, stack, 48); AT(planner_search, depth, 1104); AT(planner_search, graph, 1112);
+AT(planner_search, multipliers, 2444); AT(planner_search, carried, 2524); AT(planner_search, best, 4284);
+AT(planner_search, ashore, 4474); AT(planner_search, open, 4494); AT(planner_search, has_best, 4495);
 
 CLAIM(sizeof(planner_dispatcher) == sizeof(size_t) + 8 * sizeof(planner_search));
 AT(planner_dispatcher, last, 0);

@@ -991,17 +991,78 @@ pub const OF_LIFTING: [Bend; 24] = [
     LIFTING_HALF,
 ];
 
-/// Two lists of bends as one; N is the sum of their lengths.
-pub const fn joined<const N: usize>(first: &[Bend], rest: &[Bend]) -> [Bend; N] {
-    assert!(first.len() + rest.len() == N);
-    let mut all = [first[0]; N];
-    let mut i = 0;
-    while i < N {
-        all[i] = match i < first.len() {
-            true => first[i],
-            false => rest[i - first.len()],
-        };
-        i += 1;
+/// Misreadings of which lists ashore a call takes.
+pub const OF_LIST: [Bend; 4] = [
+    ASHORE_BYTE_OF_TWO,
+    FIRST_ASHORE,
+    TWO_AFLOAT,
+    ASHORE_OF_ANY_LENGTH,
+];
+
+/// Misreadings of C-17's fractions of a minute that trees and rulings show.
+pub const OF_PARTS: [Bend; 5] = [
+    BOUND_DIVIDED,
+    CEILING_NOT_SCALED,
+    PARTS_NOT_COMPARED,
+    MULTIPLIERS_TIMES,
+    RANGE_IN_MINUTES,
+];
+
+/// Misreadings of the two branches of a node and of the multipliers that they inherit, document 02, C-16.
+pub const OF_INHERITED: [Bend; 6] = [
+    EXCLUDED_ON_TOP,
+    MULTIPLIERS_RESET,
+    LAST_PASS_GAINS,
+    ONE_LIST_FOR_BOTH,
+    MULTIPLIERS_NOT_HELD,
+    MARKS_FROM_BELOW,
+];
+
+/// Misreadings that whole lists of calls show, on the reference and on the library.
+pub const OF_CALLS: [Bend; 36] = joined(&[
+    &OF_LIST,
+    &OF_INHERITED,
+    &[
+        UPPER_BELOW_COST,
+        UPPER_NOT_LOWERED,
+        MORE_SWEEPS,
+        LARGER_STEP,
+        HIGHER_CEILING,
+        FIRST_MULTIPLIER_FREE,
+        LENGTH_BEFORE_RECORD,
+        HIGHER_NUMBERED_FIRST,
+        COSTS_IN_PARTS,
+        UPPER_IN_PARTS,
+        STEP_TIMES,
+        DENOMINATOR_OF_ZERO,
+        DENOMINATOR_BEFORE_STEP,
+        FLAG_WITHOUT_EFFECT,
+        LIFTED_UNASKED,
+        LAST_PASS_LIFTS,
+        LIFTED_DUES_STAY,
+        LIFTING_AS_SENT,
+        ASHORE_BEFORE_DENOMINATOR,
+        TOUCHED_STAY,
+        TOUCHED_REQUIRED_STAY,
+        DUE_ASHORE_COUNTS,
+        DUE_ASHORE_GAINS,
+        LEGS_OF_ALL,
+        ROUND_OF_ALL,
+        LIFTED_WITHOUT_LIST,
+    ],
+]);
+
+/// Lists of bends as one; N is the sum of their lengths.
+pub const fn joined<const N: usize>(lists: &[&[Bend]]) -> [Bend; N] {
+    let mut all = [lists[0][0]; N];
+    let (mut list, mut place, mut i) = (0, 0, 0);
+    while list < lists.len() {
+        while place < lists[list].len() {
+            all[i] = lists[list][place];
+            (place, i) = (place + 1, i + 1);
+        }
+        (list, place) = (list + 1, 0);
     }
+    assert!(i == N);
     all
 }

@@ -7,6 +7,7 @@ pub mod document;
 pub mod ffi;
 pub mod files;
 pub mod generate;
+pub mod parallel;
 pub mod random;
 pub mod record;
 pub mod report;

@@ -2,7 +2,8 @@
 //! mismatch.
 
 use planner_tests::document::law::Law;
-use planner_tests::report::{Suite, Tally};
+use planner_tests::parallel::in_order;
+use planner_tests::report::{Bend, Outcome, Suite, Tally};
 use planner_tests::suites;
 use std::env;
 use std::process::ExitCode;
@@ -30,54 +31,70 @@ fn main() -> ExitCode {
     }
 }
 
-/// Stops at the first mismatch.
+/// What a suite counted under a law, and how it ended.
+fn outcome(suite: &Suite, law: &Law) -> (u64, Outcome) {
+    let mut tally = Tally::default();
+    let outcome = (suite.run)(law, &mut tally);
+    (tally.passed, outcome)
+}
+
+/// All suites, as many at a time as there are processors; tells of no suite behind the first mismatch.
 fn run(suites: &[Suite]) -> ExitCode {
-    let mut total = 0;
-    for suite in suites {
-        let mut tally = Tally::default();
-        let outcome = (suite.run)(&Law::AS_WRITTEN, &mut tally);
-        total += tally.passed;
-        if let Err(mismatch) = outcome {
-            println!("{}: mismatch after {} passed", suite.name, tally.passed);
-            println!("{mismatch}");
-            println!("{total} passed, 1 failed");
-            return ExitCode::FAILURE;
+    let (mut total, mut failed) = (0, 0);
+    let run = |suite: &Suite| outcome(suite, &Law::AS_WRITTEN);
+    in_order(suites, run, |suite, (passed, outcome)| {
+        total += passed;
+        match outcome {
+            Ok(()) => println!("{}: {passed} passed", suite.name),
+            Err(mismatch) => {
+                failed = 1;
+                println!("{}: mismatch after {passed} passed", suite.name);
+                println!("{mismatch}");
+            }
         }
-        println!("{}: {} passed", suite.name, tally.passed);
-    }
-    println!("{total} passed, 0 failed");
-    ExitCode::SUCCESS
+        failed == 0
+    });
+    println!("{total} passed, {failed} failed");
+    ended(failed)
 }
 
 /// Every bend must be noticed; says what was caught.
 fn self_test(suites: &[Suite]) -> ExitCode {
     let (mut caught, mut missed) = (0, 0);
-    for suite in suites {
-        for bend in suite.bends {
-            let mut law = Law::AS_WRITTEN;
-            (bend.bend)(&mut law);
-            let mut tally = Tally::default();
-            match (suite.run)(&law, &mut tally) {
-                Ok(()) => {
-                    missed += 1;
-                    println!("MISSED  {}: {}", suite.name, bend.what);
-                }
-                Err(mismatch) => {
-                    caught += 1;
-                    let at = tally.passed + 1;
-                    println!("caught  {}: {} (comparison {at})", suite.name, bend.what);
-                    println!("        case: {}", mismatch.case);
-                    println!("        expected: {}", short(&mismatch.expected));
-                    println!("        answer:   {}", short(&mismatch.answer));
-                }
+    let bends = suites
+        .iter()
+        .flat_map(|suite| suite.bends.iter().map(move |bend| (suite, bend)));
+    let bent: Vec<(&Suite, &Bend)> = bends.collect();
+    let run = |(suite, bend): &(&Suite, &Bend)| {
+        let mut law = Law::AS_WRITTEN;
+        (bend.bend)(&mut law);
+        outcome(suite, &law)
+    };
+    in_order(&bent, run, |(suite, bend), (passed, outcome)| {
+        match outcome {
+            Ok(()) => {
+                missed += 1;
+                println!("MISSED  {}: {}", suite.name, bend.what);
+            }
+            Err(mismatch) => {
+                caught += 1;
+                let at = passed + 1;
+                println!("caught  {}: {} (comparison {at})", suite.name, bend.what);
+                println!("        case: {}", mismatch.case);
+                println!("        expected: {}", short(&mismatch.expected));
+                println!("        answer:   {}", short(&mismatch.answer));
             }
         }
-    }
+        true
+    });
     println!("{caught} caught, {missed} missed");
-    if missed == 0 {
-        ExitCode::SUCCESS
-    } else {
-        ExitCode::FAILURE
+    ended(missed)
+}
+
+fn ended(failed: u64) -> ExitCode {
+    match failed {
+        0 => ExitCode::SUCCESS,
+        _ => ExitCode::FAILURE,
     }
 }
 

@@ -105,20 +105,22 @@ impl Record {
     /// As it lies in memory: the fields in the header's order with nothing between them.
     pub fn bytes(&self) -> Vec<u8> {
         let mut bytes = Vec::with_capacity(SIZE);
-        bytes.extend(self.ceiling.to_ne_bytes());
-        bytes.extend([self.sweeps, self.step].map(u32::to_ne_bytes).concat());
-        bytes.extend(self.denominator.to_ne_bytes());
-        bytes.extend(self.lifting.to_ne_bytes());
-        bytes.extend(self.upper.to_ne_bytes());
-        bytes.extend(self.count.to_ne_bytes());
-        bytes.extend(self.stack.iter().flat_map(|x| x.to_ne_bytes()));
-        bytes.extend(self.depth.to_ne_bytes());
-        bytes.extend(graph_bytes(&self.graph));
-        bytes.extend(self.multipliers.iter().flat_map(|x| x.to_ne_bytes()));
-        bytes.extend(self.carried.iter().flat_map(|x| x.to_ne_bytes()));
-        bytes.extend(self.best);
-        bytes.extend(self.ashore);
-        bytes.extend([self.open, self.has_best]);
+        put(&mut bytes, [self.ceiling.to_ne_bytes()]);
+        put(&mut bytes, [self.sweeps, self.step].map(u32::to_ne_bytes));
+        put(
+            &mut bytes,
+            [self.denominator, self.lifting].map(u64::to_ne_bytes),
+        );
+        put(&mut bytes, [self.upper.to_ne_bytes()]);
+        put(&mut bytes, [self.count.to_ne_bytes()]);
+        put(&mut bytes, self.stack.iter().map(|x| x.to_ne_bytes()));
+        put(&mut bytes, [self.depth.to_ne_bytes()]);
+        put(&mut bytes, [graph_bytes(&self.graph)]);
+        put(&mut bytes, self.multipliers.map(i32::to_ne_bytes));
+        put(&mut bytes, self.carried.iter().map(|x| x.to_ne_bytes()));
+        put(&mut bytes, [self.best]);
+        put(&mut bytes, [self.ashore]);
+        put(&mut bytes, [[self.open, self.has_best]]);
         bytes
     }
 
@@ -216,7 +218,8 @@ impl Record {
                     false if law.zeros_past_depth => 0,
                     _ => 64 * ROW,
                 };
-                (used..64 * ROW).all(|k| !self.required(p, k) && !self.struck(p, k))
+                let (required, struck) = self.rows(p);
+                clear_from(required, used) && clear_from(struck, used)
             })
             && (0..NODES).all(|p| {
                 let used = match p < self.waiting() {
@@ -353,6 +356,15 @@ impl Record {
     }
 }
 
+/// Whether no edge from the one at this place on has its bit set in a row.
+fn clear_from(row: &[u64], place: usize) -> bool {
+    let mut words = row.iter().zip((0..).step_by(64));
+    words.all(|(word, first)| match place.saturating_sub(first) {
+        shift @ 0..=63 => word >> shift == 0,
+        _ => true,
+    })
+}
+
 /// Whether edge k, counted from 0, has its bit set in a row.
 fn bit(row: &[u64], k: usize) -> bool {
     row[k / 64] >> (k % 64) & 1 == 1
@@ -405,7 +417,8 @@ impl Dispatched {
     /// As it lies in memory: the place last served, then the records.
     pub fn bytes(&self) -> Vec<u8> {
         let mut bytes = self.last.to_ne_bytes().to_vec();
-        bytes.extend(self.places.iter().flat_map(Record::bytes));
+        let places = self.places.iter();
+        places.for_each(|record| bytes.extend(record.bytes()));
         bytes
     }
 
@@ -441,7 +454,7 @@ impl Dispatched {
 /// A graph as it lies in memory, in the header's order. Its n and m are bytes there, so no larger ones come up.
 pub fn graph_bytes(graph: &Graph) -> [u8; GRAPH] {
     let byte = |count: usize| u8::try_from(count).expect("n and m are bytes");
-    let mut bytes: Vec<u8> = graph.cost.iter().flat_map(|x| x.to_ne_bytes()).collect();
+    let mut bytes = graph.cost.map(i32::to_ne_bytes).concat();
     bytes.extend([graph.a, graph.b, graph.mark].concat());
     bytes.extend([byte(graph.n), byte(graph.m)]);
     next(&mut bytes.as_slice())
@@ -461,11 +474,17 @@ pub fn graph_of(bytes: &[u8]) -> Graph {
     }
 }
 
+/// Puts each word's bytes behind others.
+fn put<const N: usize>(bytes: &mut Vec<u8>, words: impl IntoIterator<Item = [u8; N]>) {
+    let words = words.into_iter();
+    words.for_each(|word| bytes.extend_from_slice(&word));
+}
+
 /// Takes the next bytes.
 fn next<const N: usize>(rest: &mut &[u8]) -> [u8; N] {
-    let (taken, left) = rest.split_at(N);
+    let (taken, left) = rest.split_first_chunk().expect("bytes are left");
     *rest = left;
-    std::array::from_fn(|i| taken[i])
+    *taken
 }
 
 impl fmt::Debug for Record {

@@ -3,7 +3,9 @@
 
 use planner_tests::document::law::Law;
 use planner_tests::ffi::lent::Lent;
+use planner_tests::parallel::in_order;
 use planner_tests::random::Random;
+use planner_tests::report::Bend;
 use planner_tests::soak::counts::Counts;
 use planner_tests::soak::programs::{ended, hunt_input, limited, Ended};
 use planner_tests::soak::{kind_of, random_of, run, Kind, Watch, KINDS};
@@ -15,7 +17,7 @@ use std::path::PathBuf;
 use std::process::{Command, ExitCode, Stdio};
 use std::thread;
 
-/// What the gate makes: some two minutes on two cores.
+/// What the gate makes: less than a minute on two cores.
 const RUNS: u64 = 120_000;
 const SEED: u64 = 1;
 
@@ -176,23 +178,35 @@ enum Failure {
     Mismatch,
 }
 
-/// All runs, in processes of BATCH runs each.
+/// All runs, in processes of BATCH runs each, as many at a time as there are processors.
 fn all_runs(plan: &Plan) -> Result<Counts, String> {
-    let mut total = Counts::default();
-    let mut part = plan.clone();
-    while part.from < plan.to {
-        part.to = plan.to.min(part.from + BATCH);
-        let text = batch(&part).map_err(|failure| match failure {
-            Failure::Signal(signal) => crashed(&part, signal),
-            Failure::Mismatch => "1 failed".to_string(),
-        })?;
-        for line in text.lines() {
-            let added = total.add_line(line);
-            added.ok_or(format!("a worker printed {line}"))?;
-        }
-        part.from = part.to;
+    let starts = (plan.from..plan.to).step_by(BATCH as usize);
+    let parts: Vec<Plan> = starts
+        .map(|from| Plan {
+            from,
+            to: plan.to.min(from + BATCH),
+            ..plan.clone()
+        })
+        .collect();
+    let (mut total, mut well) = (Counts::default(), Ok(()));
+    in_order(&parts, batch, |part, printed| {
+        well = add(&mut total, part, printed);
+        well.is_ok()
+    });
+    well.map(|()| total)
+}
+
+/// Adds what a batch has printed, or says why the soak ends.
+fn add(total: &mut Counts, part: &Plan, printed: Result<String, Failure>) -> Result<(), String> {
+    let text = printed.map_err(|failure| match failure {
+        Failure::Signal(signal) => crashed(part, signal),
+        Failure::Mismatch => "1 failed".to_string(),
+    })?;
+    for line in text.lines() {
+        let added = total.add_line(line);
+        added.ok_or(format!("a worker printed {line}"))?;
     }
-    Ok(total)
+    Ok(())
 }
 
 /// Makes the runs of a process that crashed again, one by one, so that the file has the input of the call that crashes.
@@ -300,13 +314,14 @@ fn self_test() -> Result<(), String> {
         println!("{}  {what}", if noticed { "caught" } else { "MISSED" });
         *if noticed { &mut caught } else { &mut missed } += 1;
     };
-    for kind in &KINDS {
-        for bend in kind.bends {
-            let mut law = Law::AS_WRITTEN;
-            (bend.bend)(&mut law);
-            expect(format!("{}: {}", kind.name, bend.what), noticed(kind, &law));
-        }
-    }
+    let bends = KINDS
+        .iter()
+        .flat_map(|kind| kind.bends.iter().map(move |bend| (kind, bend)));
+    let bent: Vec<(&Kind, &Bend)> = bends.collect();
+    in_order(&bent, noticed, |(kind, bend), noticed| {
+        expect(format!("{}: {}", kind.name, bend.what), noticed);
+        true
+    });
     expect("a worker that crashes".to_string(), crash_noticed());
     expect("a program that crashes".to_string(), signal_noticed());
     expect("a byte past a lent list".to_string(), margin_noticed());
@@ -318,9 +333,11 @@ fn self_test() -> Result<(), String> {
     }
 }
 
-/// Whether some run of a kind differs from this law.
-fn noticed(kind: &Kind, law: &Law) -> bool {
-    let mut watch = Watch::new(law);
+/// Whether some run of a kind differs from the law with this bend.
+fn noticed((kind, bend): &(&Kind, &Bend)) -> bool {
+    let mut law = Law::AS_WRITTEN;
+    (bend.bend)(&mut law);
+    let mut watch = Watch::new(&law);
     (0..10_000).any(|number| (kind.run)(&mut random_of(SEED, number), &mut watch).is_err())
 }
 

@@ -88,10 +88,9 @@ impl Script {
                 self.say(&format!("run {budget}"));
                 self.say("save 2");
             }
-            self.say("run 30");
-            self.say("back 2");
-            self.say("run 90");
-            self.say("tell");
+            for text in ["run 30", "back 2", "run 90", "tell"] {
+                self.say(text);
+            }
             self.say(&format!("show {m}"));
             self.say("close");
         }
@@ -102,9 +101,9 @@ impl Script {
             self.say(&format!("add {settings} {lifting}"));
             self.say("turn 4");
         }
-        self.say("turn 9");
-        self.say("tellat 1");
-        self.say("tellat 2");
+        for text in ["turn 9", "tellat 1", "tellat 2"] {
+            self.say(text);
+        }
     }
 
     /// Does a line, and prints it with its answer.

@@ -81,6 +81,30 @@ impl Call {
             lifting,
         }
     }
+
+    /// The same opening with this list of buoys ashore.
+    pub fn hauled(mut self, list: &[u8]) -> Call {
+        if let Call::Open { ashore, .. } = &mut self {
+            *ashore = list.to_vec();
+        }
+        self
+    }
+
+    /// The same opening with so many sweeps, and this step.
+    pub fn swept(mut self, times: u32, by: u32) -> Call {
+        if let Call::Open { sweeps, step, .. } = &mut self {
+            (*sweeps, *step) = (times, by);
+        }
+        self
+    }
+
+    /// The same opening, asked to lift by this number.
+    pub fn lifted(mut self, asked: u64) -> Call {
+        if let Call::Open { lifting, .. } = &mut self {
+            *lifting = asked;
+        }
+        self
+    }
 }
 
 #[derive(Clone, Copy, PartialEq, Eq, Debug)]

@@ -33,6 +33,11 @@ impl<'a> Given<'a> {
         }
     }
 
+    /// The same with this list.
+    pub fn hauled(self, ashore: &'a [u8]) -> Given<'a> {
+        Given { ashore, ..self }
+    }
+
     /// The chart that the list makes, and its dues.
     pub fn sea(&self, law: &Law) -> (Graph, Vec<i32>) {
         let sea = haul(law, self.graph, self.ashore);
@@ -168,7 +173,7 @@ pub fn order(law: &Law, graph: &Graph, multipliers: &[i32], q: u64) -> Vec<usize
     if !law.lower_numbered_first {
         order.reverse();
     }
-    order.sort_by_key(|k| charged(law, graph, multipliers, q, *k));
+    order.sort_by_cached_key(|k| charged(law, graph, multipliers, q, *k));
     order
 }
 

@@ -5,9 +5,22 @@ const MARGIN: usize = 128;
 /// No type that is lent wants more.
 const ALIGNMENT: usize = 8;
 
-/// What stands at a byte before the call, counted from the first of the margin. No list has such values at its beginning.
-fn pattern(i: usize) -> u8 {
-    (i as u8).wrapping_mul(37) ^ 0xa5
+/// What stands at each byte before the call, again and again from the first of the margin on. No list has such values at its beginning.
+const PATTERN: [u8; 512] = {
+    let mut pattern = [0; 512];
+    let mut i = 0;
+    while i < 512 {
+        pattern[i] = (i as u8).wrapping_mul(37) ^ 0xa5;
+        i += 1;
+    }
+    pattern
+};
+
+/// Whether bytes, the first of them so far from the margin's first, are the pattern.
+fn untouched(first: usize, bytes: &[u8]) -> bool {
+    let pattern = &PATTERN[first % 256..];
+    let mut parts = bytes.chunks(256);
+    parts.all(|part| part == &pattern[..part.len()])
 }
 
 /// A lent list, graph or record as its bytes.
@@ -23,8 +36,8 @@ impl Lent {
     pub fn new(length: usize) -> Lent {
         let mut cells = vec![0; ALIGNMENT + length + 2 * MARGIN];
         let start = cells[MARGIN..].as_ptr().align_offset(ALIGNMENT);
-        for (i, cell) in cells[start..].iter_mut().enumerate() {
-            *cell = pattern(i);
+        for part in cells[start..].chunks_mut(PATTERN.len()) {
+            part.copy_from_slice(&PATTERN[..part.len()]);
         }
         Lent {
             cells,
@@ -63,11 +76,9 @@ impl Lent {
 
     /// Whether the bytes before and after are as they were.
     pub fn margins_kept(&self) -> bool {
-        let cells = self.cells[self.start..].iter().enumerate();
-        let inside = MARGIN..MARGIN + self.length;
-        cells
-            .filter(|(i, _)| !inside.contains(i))
-            .all(|(i, cell)| *cell == pattern(i))
+        let cells = &self.cells[self.start..];
+        let end = MARGIN + self.length;
+        untouched(0, &cells[..MARGIN]) && untouched(end, &cells[end..])
     }
 
     /// Whether nothing changed since another was made alike.
@@ -77,9 +88,8 @@ impl Lent {
 
     /// The bytes, or none if they are the pattern that they were made with.
     pub fn changed(&self) -> Option<Vec<u8>> {
-        let mut body = self.body().iter().enumerate();
-        let as_made = body.all(|(i, cell)| *cell == pattern(MARGIN + i));
-        (!as_made).then(|| self.body().to_vec())
+        let body = self.body();
+        (!untouched(MARGIN, body)).then(|| body.to_vec())
     }
 }
 

@@ -21,7 +21,8 @@ impl Shelf {
     }
 
     fn bytes(&self) -> Vec<u8> {
-        self.places.iter().flat_map(Record::bytes).collect()
+        let places: Vec<_> = self.places.iter().map(Record::bytes).collect();
+        places.concat()
     }
 
     fn of_bytes(bytes: &[u8]) -> Shelf {

@@ -4,8 +4,9 @@
 
 use super::denominators::{said, Case, ORDERS};
 use super::facts::{four, free};
+use super::library_searches::told_and_shown;
 use super::own_rulings::turning_ceiling;
-use super::records::reply;
+use super::records::{on_record, reply};
 use super::searches::opening;
 use super::shelves::Both;
 use super::{preview, rule, tree};
@@ -13,7 +14,7 @@ use crate::bends;
 use crate::document::ashore::{fits, haul};
 use crate::document::graph::{Edge, Graph, EXCLUDED, FREE, REQUIRED};
 use crate::document::law::Law;
-use crate::document::machine::{Call, Machine};
+use crate::document::machine::Call;
 use crate::document::sailing::Trial;
 use crate::document::shelf::{AnyCall, Shelved};
 use crate::document::tree::{Given, Method};
@@ -23,49 +24,46 @@ use crate::ffi::{bound, only, trees};
 use crate::generate::{self, MAX_CEILING, MAX_MULTIPLIER};
 use crate::random::Random;
 use crate::record::{Dispatched, Record};
-use crate::report::{Hex, Mismatch, Outcome, Suite, Tally};
+use crate::report::{Hex, Outcome, Suite, Tally};
 use planner::raw::{ACCEPTED, BEST, FINISHED, NONE, NO_TOUR};
 
 pub const SUITE: Suite = Suite {
     name: "ashore",
     run,
-    bends: &[
-        bends::ASHORE_BYTE_OF_TWO,
-        bends::FIRST_ASHORE,
-        bends::TWO_AFLOAT,
-        bends::ASHORE_OF_ANY_LENGTH,
-        bends::ASHORE_BEFORE_MULTIPLIERS,
-        bends::ASHORE_BEFORE_CEILING,
-        bends::ASHORE_BEFORE_STEP,
-        bends::ASHORE_BEFORE_DENOMINATOR,
-        bends::LEG_BEFORE_ASHORE,
-        bends::DUES_ASHORE_NOT_JUDGED,
-        bends::TOUCHED_STAY,
-        bends::TOUCHED_REQUIRED_STAY,
-        bends::TOUCHED_RULED_BY_MARK,
-        bends::TOUCHED_IN_TREE,
-        bends::FREE_BY_LIST,
-        bends::DUE_ASHORE_COUNTS,
-        bends::DUE_ASHORE_GAINS,
-        bends::LEGS_OF_ALL,
-        bends::ROUND_OF_ALL,
-        bends::AGREE_WHATEVER_LIST,
-        bends::BUDGET_OF_TOUCHED,
-        bends::SAVED_WITHOUT_LIST,
-        bends::ADDED_WITHOUT_LIST,
-        bends::COMPARED_WITHOUT_LIST,
-        bends::LIFTED_WITHOUT_LIST,
-        bends::CARRIED_OF_ALL,
-    ],
+    bends: &bends::joined::<26>(&[
+        &bends::OF_LIST,
+        &[
+            bends::ASHORE_BEFORE_MULTIPLIERS,
+            bends::ASHORE_BEFORE_CEILING,
+            bends::ASHORE_BEFORE_STEP,
+            bends::ASHORE_BEFORE_DENOMINATOR,
+            bends::LEG_BEFORE_ASHORE,
+            bends::DUES_ASHORE_NOT_JUDGED,
+            bends::TOUCHED_STAY,
+            bends::TOUCHED_REQUIRED_STAY,
+            bends::TOUCHED_RULED_BY_MARK,
+            bends::TOUCHED_IN_TREE,
+            bends::FREE_BY_LIST,
+            bends::DUE_ASHORE_COUNTS,
+            bends::DUE_ASHORE_GAINS,
+            bends::LEGS_OF_ALL,
+            bends::ROUND_OF_ALL,
+            bends::AGREE_WHATEVER_LIST,
+            bends::BUDGET_OF_TOUCHED,
+            bends::SAVED_WITHOUT_LIST,
+            bends::ADDED_WITHOUT_LIST,
+            bends::COMPARED_WITHOUT_LIST,
+            bends::LIFTED_WITHOUT_LIST,
+            bends::CARRIED_OF_ALL,
+        ],
+    ]),
 };
 
 fn run(law: &Law, tally: &mut Tally) -> Outcome {
+    for part in [by_hand, damaged, saved, eight, compared] {
+        part(law, tally)?;
+    }
     let random = &mut Random::new(0x0061_7368_6f72_65);
-    by_hand(law, tally)?;
-    damaged(law, tally)?;
-    saved(law, tally)?;
-    eight(law, tally)?;
-    compared(law, tally)?;
     for round in 0..60 {
         let graph = match round % 6 {
             0 => generate::graph_of(random, 6, 15),
@@ -87,25 +85,7 @@ fn run(law: &Law, tally: &mut Tally) -> Outcome {
 
 /// An opening with a list, under zero dues and of one pass a node.
 fn with(graph: &Graph, list: &[u8], ceiling: i64, lifting: u64) -> Call {
-    let mut open = Call::plain(graph, ceiling, 1, lifting);
-    if let Call::Open { ashore, .. } = &mut open {
-        *ashore = list.to_vec();
-    }
-    open
-}
-
-/// Calls on a record and on the machine: each answer, and every byte.
-fn on_record(law: &Law, tally: &mut Tally, list: &[Call]) -> Result<Record, Mismatch> {
-    let (mut record, mut machine) = (Record::made_fresh(), Machine::new(law, Method::Kruskal));
-    for (i, call) in list.iter().enumerate() {
-        let input = || format!("the first {} of {list:?}", i + 1);
-        let (got, wanted) = (record.call(call), reply(&machine.call(call)));
-        tally.compare("answer", input, &wanted, &got)?;
-        let left = Record::of_state(law, &machine.search);
-        tally.compare("record", input, &left, &record)?;
-        tally.compare("passes its check", input, &true, &record.passes(law))?;
-    }
-    Ok(record)
+    Call::plain(graph, ceiling, 1, lifting).hauled(list)
 }
 
 /// Document 01's sea with buoy 4 ashore: legs 1 2 4, bound 9, whatever leg 3's mark and buoy 4's due are.
@@ -119,12 +99,7 @@ fn by_hand(law: &Law, tally: &mut Tally) -> Outcome {
             (MAX_MULTIPLIER, 1_000),
         ] {
             let (graph, multipliers) = (four().with_mark(2, mark), [0, 0, 0, due]);
-            let given = Given {
-                graph: &graph,
-                multipliers: &multipliers,
-                ashore: &ashore,
-                q,
-            };
+            let given = Given::afloat(&graph, &multipliers, q).hauled(&ashore);
             let input = || format!("{given:?}");
             let least = bound(9 * q as i64);
             let tree = said(least, Some(&legs));
@@ -238,7 +213,7 @@ fn ended(
     let (k, budget) = budget(law, graph, &sea);
     let show = Call::Show { length: graph.m };
     let open = opening(random, graph, ashore, ceiling);
-    let list = [open, Call::Run { budget }, Call::Tell, show.clone()];
+    let list = [open, Call::Run { budget }, Call::Tell, show];
     let mut record = on_record(law, tally, &list)?;
     let input = || format!("{list:?}");
     let mut opened = Record::made_fresh();
@@ -247,14 +222,7 @@ fn ended(
     tally.compare("free legs", input, &k, &free)?;
     let ran = record.call(&Call::Run { budget: 0 }).said.number;
     tally.compare("finished", input, &FINISHED, &ran)?;
-    let told = record.call(&Call::Tell).said;
-    let verdict = match &first {
-        Some(tour) => (BEST, tour.cost),
-        None => (NO_TOUR, 0),
-    };
-    tally.compare("verdict", input, &verdict, &(told.number, told.value))?;
-    let shown = record.call(&show).out;
-    tally.compare("shown", input, &first.map(|tour| Hex(tour.edges)), &shown)
+    told_and_shown(tally, &mut record, graph.m, &first, input)
 }
 
 /// A sea of up to 20 buoys against the reference; and a hunt's first nodes.
@@ -275,10 +243,8 @@ fn large(law: &Law, tally: &mut Tally, random: &mut Random) -> Outcome {
     if !random.one_in(8) {
         return Ok(());
     }
-    let mut open = opening(random, given.graph, given.ashore, ceiling);
-    if let Call::Open { sweeps, step, .. } = &mut open {
-        (*sweeps, *step) = (random.below(4) as u32, random.pick(&[1, 3, 50]));
-    }
+    let open = opening(random, given.graph, given.ashore, ceiling);
+    let open = open.swept(random.below(4) as u32, random.pick(&[1, 3, 50]));
     let run = Call::Run { budget: 1 };
     on_record(law, tally, &[open, run.clone(), run.clone(), run]).map(|_| ())
 }
@@ -449,21 +415,10 @@ fn beside(tally: &mut Tally, list: &[u8], number: u32) -> Outcome {
     Ok(())
 }
 
-/// A five-buoy sea whose hunts differ by the list: its rounds and those of four buoys or three.
+/// Document 01's sea with a fifth buoy: its hunts differ by the list, which leaves the rounds of five buoys, of four or of three.
 fn five() -> Graph {
-    let legs = [
-        (1, 2, 4),
-        (1, 3, 3),
-        (1, 4, 5),
-        (2, 3, 2),
-        (2, 4, 6),
-        (3, 4, 1),
-        (1, 5, 7),
-        (2, 5, 3),
-        (3, 5, 8),
-        (4, 5, 2),
-    ];
-    free(5, &legs)
+    let more = free(5, &[(1, 5, 7), (2, 5, 3), (3, 5, 8), (4, 5, 2)]);
+    Graph::from_edges(5, &[four().edges(), more.edges()].concat())
 }
 
 /// Lists for it.

@@ -171,12 +171,7 @@ fn hauled(law: &Law, method: Method, tally: &mut Tally) -> Outcome {
         (REQUIRED, -9, 2),
     ] {
         let (graph, dues) = (four().with_mark(2, mark), [0, 0, 0, due]);
-        let given = Given {
-            graph: &graph,
-            multipliers: &dues,
-            ashore: &ashore,
-            q,
-        };
+        let given = Given::afloat(&graph, &dues, q).hauled(&ashore);
         let input = || format!("{method:?}, {given:?}");
         let bound = 9 * q as i64;
         let wanted = Tree {
@@ -200,14 +195,9 @@ fn hauled(law: &Law, method: Method, tally: &mut Tally) -> Outcome {
 
 /// A hunt of it: the round of these legs, or none.
 fn hunted(law: &Law, method: Method, tally: &mut Tally, given: &Given, ceiling: i64) -> Outcome {
-    let mut open = Call::plain(given.graph, ceiling, given.q, 0);
-    if let Call::Open {
-        multipliers,
-        ashore,
-        ..
-    } = &mut open
-    {
-        (*multipliers, *ashore) = (given.multipliers.to_vec(), given.ashore.to_vec());
+    let mut open = Call::plain(given.graph, ceiling, given.q, 0).hauled(given.ashore);
+    if let Call::Open { multipliers, .. } = &mut open {
+        *multipliers = given.multipliers.to_vec();
     }
     let mut machine = Machine::new(law, method);
     machine.call(&open);

@@ -2,32 +2,29 @@
 //! searches stop and go on between nodes; each answer, and after each call every byte of the record, the multipliers of each waiting node
 //! among them, is the reference machine's. And a sea on which each misreading opens another number of nodes.
 
-use super::records::reply;
+use super::facts::free;
+use super::records::on_record;
 use crate::bends;
-use crate::document::graph::{Edge, Graph, FREE};
+use crate::document::graph::Graph;
 use crate::document::law::Law;
 use crate::document::machine::{Answer, Call, Machine, Verdict};
 use crate::document::tree::Method;
 use crate::generate::{self, Spread};
 use crate::random::Random;
-use crate::record::Record;
 use crate::report::{Outcome, Suite, Tally};
 
 pub const SUITE: Suite = Suite {
     name: "inherited",
     run,
-    bends: &[
-        bends::MULTIPLIERS_RESET,
-        bends::LAST_PASS_GAINS,
-        bends::ONE_LIST_FOR_BOTH,
-        bends::MULTIPLIERS_NOT_HELD,
-        bends::MARKS_FROM_BELOW,
-        bends::EXCLUDED_ON_TOP,
-        bends::LAST_PASS_LIFTS,
-        bends::LIFTED_DUES_STAY,
-        bends::DUE_ASHORE_COUNTS,
-        bends::DUE_ASHORE_GAINS,
-    ],
+    bends: &bends::joined::<10>(&[
+        &bends::OF_INHERITED,
+        &[
+            bends::LAST_PASS_LIFTS,
+            bends::LIFTED_DUES_STAY,
+            bends::DUE_ASHORE_COUNTS,
+            bends::DUE_ASHORE_GAINS,
+        ],
+    ]),
 };
 
 /// Steps that move bounds a little, or to the end of their range.
@@ -40,7 +37,7 @@ fn run(law: &Law, tally: &mut Tally) -> Outcome {
         let (vertices, most) = if round % 8 == 0 { (7, 14) } else { (6, 11) };
         let graph = generate::small_graph(random, vertices, most);
         let list = calls(random, &graph);
-        one(law, tally, &list)?;
+        on_record(law, tally, &list)?;
     }
     Ok(())
 }
@@ -74,20 +71,6 @@ fn calls(random: &mut Random, graph: &Graph) -> Vec<Call> {
     list
 }
 
-fn one(law: &Law, tally: &mut Tally, list: &[Call]) -> Outcome {
-    let mut machine = Machine::new(law, Method::Kruskal);
-    let mut record = Record::made_fresh();
-    for (i, call) in list.iter().enumerate() {
-        let input = || format!("the first {} of {list:?}", i + 1);
-        let expected = reply(&machine.call(call));
-        let got = record.call(call);
-        tally.compare("answer", input, &expected, &got)?;
-        tally.compare("record", input, &Record::of(&machine.search), &record)?;
-        tally.compare("passes its check", input, &true, &record.passes(law))?;
-    }
-    Ok(())
-}
-
 /// A sea on which each misreading opens another number of nodes: 11 as written, 15 with multipliers reset at each node, 9 with gains after the
 /// last pass, 7 with one list for all nodes.
 fn separating(law: &Law, tally: &mut Tally) -> Outcome {
@@ -100,18 +83,7 @@ fn separating(law: &Law, tally: &mut Tally) -> Outcome {
         (3, 4, 8),
         (4, 5, 9),
     ];
-    let edges: Vec<Edge> = legs
-        .map(|(a, b, cost)| Edge {
-            a,
-            b,
-            cost,
-            mark: FREE,
-        })
-        .to_vec();
-    let mut open = Call::plain(&Graph::from_edges(5, &edges), 40, 1, 0);
-    if let Call::Open { sweeps, step, .. } = &mut open {
-        (*sweeps, *step) = (1, 2);
-    }
+    let open = Call::plain(&free(5, &legs), 40, 1, 0).swept(1, 2);
     let counts = [
         (Law::AS_WRITTEN, 11),
         (bent(bends::MULTIPLIERS_RESET), 15),
@@ -135,7 +107,7 @@ fn separating(law: &Law, tally: &mut Tally) -> Outcome {
         Call::Run { budget: 1 },
     ];
     let list = [vec![open.clone()], runs.to_vec(), vec![Call::Tell]].concat();
-    one(law, tally, &list)
+    on_record(law, tally, &list).map(|_| ())
 }
 
 fn bent(bend: crate::report::Bend) -> Law {

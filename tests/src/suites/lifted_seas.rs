@@ -210,11 +210,7 @@ pub const HUNTED: Hunted = Hunted {
 
 impl Hunted {
     pub fn opening(&self, lifting: u64) -> Call {
-        let mut open = Call::plain(&sea(self.legs), self.ceiling, 1, lifting);
-        if let Call::Open { sweeps, step, .. } = &mut open {
-            (*sweeps, *step) = (self.sweeps, self.step);
-        }
-        open
+        Call::plain(&sea(self.legs), self.ceiling, 1, lifting).swept(self.sweeps, self.step)
     }
 }
 

@@ -3,34 +3,36 @@
 //! of the record; and hunts with lifting and without, which end alike.
 
 use super::facts::four;
+use super::library_searches::told_and_shown;
 use super::lifted_seas::{EXAMPLES, HUNTED, MISREAD};
 use super::own_lifts::{minutes, turning_opening};
-use super::records::reply;
+use super::records::{on_record, reply};
+use super::searches::{free_legs, opening};
 use super::shelves::Both;
 use crate::bends;
 use crate::document::ashore::haul;
 use crate::document::dispatcher;
-use crate::document::graph::{Graph, EXCLUDED, FREE, REQUIRED};
+use crate::document::graph::{Graph, EXCLUDED, REQUIRED};
 use crate::document::law::Law;
-use crate::document::machine::{Call, Machine};
+use crate::document::machine::Call;
 use crate::document::rulings::{ALREADY_EXCLUDED, ALREADY_REQUIRED, BAR, FORCE, KEEP};
 use crate::document::sailing::Trial;
 use crate::document::shelf::{AnyCall, Shelved};
 use crate::document::tours;
 use crate::document::tree::Method;
+use crate::ffi::only;
 use crate::ffi::sailings::{compare, ComparedReply};
 use crate::ffi::shelves::Shelf;
-use crate::ffi::{only, Reply};
 use crate::generate;
 use crate::random::Random;
 use crate::record::{Dispatched, Record};
-use crate::report::{Hex, Mismatch, Outcome, Suite, Tally};
-use planner::raw::{Reply as Numbers, ACCEPTED, BEST, FINISHED, NO_TOUR};
+use crate::report::{Outcome, Suite, Tally};
+use planner::raw::{Reply as Numbers, ACCEPTED, BEST, FINISHED};
 
 pub const SUITE: Suite = Suite {
     name: "lifting",
     run,
-    bends: &bends::joined::<28>(
+    bends: &bends::joined::<28>(&[
         &bends::OF_LIFTING,
         &[
             bends::LAST_PASS_LIFTS,
@@ -38,7 +40,7 @@ pub const SUITE: Suite = Suite {
             bends::LIFTING_OF_TWO,
             bends::LIFTING_NOT_CHECKED,
         ],
-    ),
+    ]),
 };
 
 /// Numbers that say yes; of all but the first the lowest bit says no, of some the low bytes too.
@@ -82,19 +84,6 @@ fn run(law: &Law, tally: &mut Tally) -> Outcome {
         alike(law, tally, random)?;
     }
     Ok(())
-}
-
-/// Calls on a record and on the machine: each answer, and every byte.
-fn on_record(law: &Law, tally: &mut Tally, list: &[Call]) -> Result<Record, Mismatch> {
-    let (mut record, mut machine) = (Record::made_fresh(), Machine::new(law, Method::Kruskal));
-    for (i, call) in list.iter().enumerate() {
-        let input = || format!("the first {} of {list:?}", i + 1);
-        let (got, wanted) = (record.call(call), reply(&machine.call(call)));
-        tally.compare("answer", input, &wanted, &got)?;
-        tally.compare("record", input, &Record::of(&machine.search), &record)?;
-        tally.compare("passes its check", input, &true, &record.passes(law))?;
-    }
-    Ok(record)
 }
 
 /// What the first pass of a node ruled, by the marks that its two branches have alike; none where it left no edge free.
@@ -290,41 +279,21 @@ fn alike(law: &Law, tally: &mut Tally, random: &mut Random) -> Outcome {
     let hauled = |graph: &Graph| haul(&Law::AS_WRITTEN, graph, &ashore);
     let near = tours::first(&hauled(&graph)).map_or(0, |tour| tour.cost);
     let ceiling = near + random.pick(&[-1, 0, 0, 1, 5, 40]);
-    let free = hauled(&graph)
-        .marks()
-        .iter()
-        .filter(|mark| **mark == FREE)
-        .count();
-    let budget = (1u64 << (free + 1)) - 1;
+    let budget = (1u64 << (free_legs(&hauled(&graph)) + 1)) - 1;
     for (order, lifting) in [(false, 0), (false, 1), (true, 1)] {
         let sea = match order {
             true => generate::shuffled(random, &graph),
             false => graph.clone(),
         };
         let first = tours::first(&hauled(&sea)).filter(|tour| tour.cost <= ceiling);
-        let mut open = super::searches::opening(random, &sea, &ashore, ceiling);
-        if let Call::Open { lifting: asked, .. } = &mut open {
-            *asked = lifting;
-        }
+        let open = opening(random, &sea, &ashore, ceiling).lifted(lifting);
         let input = || format!("{open:?}");
         let show = Call::Show { length: sea.m };
-        let list = [open.clone(), Call::Run { budget }, Call::Tell, show.clone()];
+        let list = [open.clone(), Call::Run { budget }, Call::Tell, show];
         let mut record = on_record(law, tally, &list)?;
         let ran = record.call(&Call::Run { budget: 0 }).said.number;
         tally.compare("finished", input, &FINISHED, &ran)?;
-        let told = record.call(&Call::Tell).said;
-        let verdict = match &first {
-            Some(tour) => (BEST, tour.cost),
-            None => (NO_TOUR, 0),
-        };
-        tally.compare("verdict", input, &verdict, &(told.number, told.value))?;
-        let shown = record.call(&show);
-        let round = Reply {
-            said: only(if first.is_some() { ACCEPTED } else { 23 }),
-            out: first.map(|tour| Hex(tour.edges)),
-            margins_kept: true,
-        };
-        tally.compare("shown", input, &round, &shown)?;
+        told_and_shown(tally, &mut record, sea.m, &first, input)?;
     }
     Ok(())
 }

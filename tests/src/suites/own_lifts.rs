@@ -21,10 +21,10 @@ use crate::report::{Bend, Outcome, Suite, Tally};
 pub const SUITE: Suite = Suite {
     name: "own lifts",
     run,
-    bends: &bends::joined::<26>(
+    bends: &bends::joined::<26>(&[
         &bends::OF_LIFTING,
         &[bends::RISES_FROM_ONE, bends::FALLS_TO_THREE],
-    ),
+    ]),
 };
 
 /// Readings that change no ruling. What may change places with an edge at its end i limits i's change by nothing where it is as good as the best of
@@ -349,10 +349,7 @@ fn alike(law: &Law, tally: &mut Tally, random: &mut Random) -> Outcome {
         .as_ref()
         .map_or(Verdict::None, |tour| Verdict::Cost(tour.cost));
     for lifted in [0, 1] {
-        let mut open = opening(random, &graph, &ashore, ceiling);
-        if let Call::Open { lifting, .. } = &mut open {
-            *lifting = lifted;
-        }
+        let open = opening(random, &graph, &ashore, ceiling).lifted(lifted);
         let mut machine = Machine::new(law, Method::Kruskal);
         machine.call(&open);
         machine.call(&Call::Run { budget: u64::MAX });

@@ -18,40 +18,35 @@ use planner::raw::NONE;
 pub const SUITE: Suite = Suite {
     name: "rule",
     run,
-    bends: &[
-        bends::CEILING_NOT_WITHIN,
-        bends::REQUIRED_SWAPPED_OUT,
-        bends::MULTIPLIERS_OFF_ONCE,
-        bends::HIGHER_CEILING,
-        bends::LOWER_CEILING,
-        bends::FORMER_CEILING,
-        bends::FORMER_COST,
-        bends::CHEAP_NO_REPLACEMENT,
-        bends::HIGHER_MULTIPLIER,
-        bends::LENGTH_BEFORE_VALUE,
-        bends::BOUND_DIVIDED,
-        bends::CEILING_NOT_SCALED,
-        bends::PARTS_NOT_COMPARED,
-        bends::NO_REPLACEMENT_OF_ONE,
-        bends::MULTIPLIERS_TIMES,
-        bends::RANGE_IN_MINUTES,
-        bends::DENOMINATOR_OF_ZERO,
-        bends::HIGHER_DENOMINATOR,
-        bends::DENOMINATOR_BEFORE_MULTIPLIERS,
-        bends::DENOMINATOR_BEFORE_CEILING,
-        bends::ASHORE_BYTE_OF_TWO,
-        bends::FIRST_ASHORE,
-        bends::TWO_AFLOAT,
-        bends::ASHORE_OF_ANY_LENGTH,
-        bends::ASHORE_BEFORE_MULTIPLIERS,
-        bends::ASHORE_BEFORE_CEILING,
-        bends::ASHORE_BEFORE_DENOMINATOR,
-        bends::TOUCHED_STAY,
-        bends::TOUCHED_REQUIRED_STAY,
-        bends::TOUCHED_RULED_BY_MARK,
-        bends::DUE_ASHORE_COUNTS,
-        bends::LEGS_OF_ALL,
-    ],
+    bends: &bends::joined::<32>(&[
+        &bends::OF_LIST,
+        &bends::OF_PARTS,
+        &[
+            bends::CEILING_NOT_WITHIN,
+            bends::REQUIRED_SWAPPED_OUT,
+            bends::MULTIPLIERS_OFF_ONCE,
+            bends::HIGHER_CEILING,
+            bends::LOWER_CEILING,
+            bends::FORMER_CEILING,
+            bends::FORMER_COST,
+            bends::CHEAP_NO_REPLACEMENT,
+            bends::HIGHER_MULTIPLIER,
+            bends::LENGTH_BEFORE_VALUE,
+            bends::NO_REPLACEMENT_OF_ONE,
+            bends::DENOMINATOR_OF_ZERO,
+            bends::HIGHER_DENOMINATOR,
+            bends::DENOMINATOR_BEFORE_MULTIPLIERS,
+            bends::DENOMINATOR_BEFORE_CEILING,
+            bends::ASHORE_BEFORE_MULTIPLIERS,
+            bends::ASHORE_BEFORE_CEILING,
+            bends::ASHORE_BEFORE_DENOMINATOR,
+            bends::TOUCHED_STAY,
+            bends::TOUCHED_REQUIRED_STAY,
+            bends::TOUCHED_RULED_BY_MARK,
+            bends::DUE_ASHORE_COUNTS,
+            bends::LEGS_OF_ALL,
+        ],
+    ]),
 };
 
 pub struct Arguments {
@@ -74,15 +69,11 @@ impl Arguments {
     }
 
     pub fn shown(&self) -> String {
-        let Arguments {
-            graph,
-            multipliers,
-            ashore,
-            denominator,
-            ceiling,
-            length,
-        } = self;
-        format!("{graph:?}, multipliers {multipliers:?}, ashore {ashore:?}, denominator {denominator}, ceiling {ceiling}, a list of {length} bytes")
+        let (ceiling, length) = (self.ceiling, self.length);
+        format!(
+            "{:?}, ceiling {ceiling}, a list of {length} bytes",
+            self.given()
+        )
     }
 }
 

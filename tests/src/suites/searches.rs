@@ -38,14 +38,46 @@ pub const SUITE: Suite = Suite {
 
 /// The most vertices and edges: where many tours cost the same, as C-23 reads the machine, a dense
 /// graph of eight takes a million nodes.
-pub const DENSE: (usize, usize) = (6, 15);
-pub const SPARSE: (usize, usize) = (8, 14);
+const DENSE: (usize, usize) = (6, 15);
+const SPARSE: (usize, usize) = (8, 14);
 
 const STEPS: [u32; 6] = [0, 1, 3, 50, 1_000, 10_000];
 
 fn run(law: &Law, tally: &mut Tally) -> Outcome {
     let random = &mut Random::new(0x73_6561_7263_6873);
-    for round in 0..3500 {
+    in_two_orders(random, 3_500, |random, whole| {
+        one(law, tally, random, whole)
+    })
+}
+
+/// A search that is to be finished: its opening, the budget that must do, and the first of the allowed tours within its ceiling.
+pub struct Whole {
+    pub open: Call,
+    pub budget: u64,
+    pub edges: usize,
+    pub first: Option<Tour>,
+}
+
+impl Whole {
+    /// The budget is 2^(k+1) − 1, k edges being free and touching no vertex ashore.
+    fn new(random: &mut Random, graph: &Graph, ashore: &[u8], ceiling: i64) -> Whole {
+        let sea = haul(&Law::AS_WRITTEN, graph, ashore);
+        Whole {
+            open: opening(random, graph, ashore, ceiling),
+            budget: (1u64 << (free_legs(&sea) + 1)) - 1,
+            edges: graph.m,
+            first: tours::first(&sea).filter(|tour| tour.cost <= ceiling),
+        }
+    }
+}
+
+/// Searches of random graphs with lists ashore and ceilings, each of them once more with the edges in another order.
+pub fn in_two_orders(
+    random: &mut Random,
+    rounds: usize,
+    mut one: impl FnMut(&mut Random, &Whole) -> Outcome,
+) -> Outcome {
+    for round in 0..rounds {
         let (vertices, most) = if round % 2 == 0 { DENSE } else { SPARSE };
         let graph = generate::small_graph(random, vertices, most);
         let ashore = generate::ashore(random, graph.n);
@@ -54,11 +86,18 @@ fn run(law: &Law, tally: &mut Tally) -> Outcome {
             0 => generate::MAX_CEILING,
             _ => generate::ceiling(random, best.unwrap_or(0)),
         };
-        one(law, tally, random, (&graph, &ashore), ceiling)?;
+        let whole = Whole::new(random, &graph, &ashore, ceiling);
+        one(random, &whole)?;
         let other = generate::shuffled(random, &graph);
-        one(law, tally, random, (&other, &ashore), ceiling)?;
+        let whole = Whole::new(random, &other, &ashore, ceiling);
+        one(random, &whole)?;
     }
     Ok(())
+}
+
+/// How many edges of a graph are free.
+pub fn free_legs(graph: &Graph) -> usize {
+    graph.marks().iter().filter(|mark| **mark == FREE).count()
 }
 
 /// An opening with multipliers, sweeps, step and denominator of its own. Far multipliers give poor bounds and
@@ -98,26 +137,15 @@ fn in_portions(machine: &mut Machine, random: &mut Random, budget: u64) {
     }
 }
 
-/// One search with the budget 2^(k+1) − 1, k edges being free and touching no vertex ashore.
-fn one(
-    law: &Law,
-    tally: &mut Tally,
-    random: &mut Random,
-    (graph, ashore): (&Graph, &[u8]),
-    ceiling: i64,
-) -> Outcome {
-    let sea = haul(&Law::AS_WRITTEN, graph, ashore);
-    let first = tours::first(&sea).filter(|tour| tour.cost <= ceiling);
-    let expected = match &first {
+fn one(law: &Law, tally: &mut Tally, random: &mut Random, whole: &Whole) -> Outcome {
+    let (open, budget, first) = (&whole.open, whole.budget, &whole.first);
+    let expected = match first {
         Some(tour) => Verdict::Cost(tour.cost),
         None => Verdict::None,
     };
-    let open = opening(random, graph, ashore, ceiling);
     let input = || format!("{open:?}");
-    let free = sea.marks().iter().filter(|mark| **mark == FREE).count();
-    let budget = (1u64 << (free + 1)) - 1;
     let mut machine = Machine::new(law, Method::Kruskal);
-    machine.call(&open);
+    machine.call(open);
     in_portions(&mut machine, random, budget);
     let opened = machine.search.is_some();
     tally.compare("opened", input, &true, &opened)?;
@@ -128,9 +156,9 @@ fn one(
     tally.compare("verdict", input, &expected, &search.verdict())?;
     let within = search.count <= budget;
     tally.compare("count within the budget", input, &true, &within)?;
-    shown(tally, &mut machine.clone(), search, &first, input)?;
+    shown(tally, &mut machine.clone(), search, first, input)?;
     if random.one_in(3) {
-        at_once(law, tally, &open, budget, search)?;
+        at_once(law, tally, open, budget, search)?;
     }
     Ok(())
 }

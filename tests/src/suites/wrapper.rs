@@ -61,7 +61,6 @@ pub const SUITE: Suite = Suite {
 
 fn run(law: &Law, tally: &mut Tally) -> Outcome {
     let random = &mut Random::new(0x77_7261_7070_6572);
-    files(law, tally)?;
     for round in 0..4_000 {
         trees(law, tally, random, round % 3 == 2)?;
     }
@@ -76,7 +75,8 @@ fn run(law: &Law, tally: &mut Tally) -> Outcome {
     for _ in 0..3_000 {
         logs(law, tally, random)?;
     }
-    too_many(tally)
+    too_many(tally)?;
+    files(law, tally)
 }
 
 fn mark(byte: u8) -> Mark {

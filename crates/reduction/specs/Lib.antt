@@ -19,5 +19,7 @@ pub mod Accepting
 pub mod NoneListed
 pub mod Made
 pub mod Answered
+-- a list of bytes, eight at a time
+pub mod Chunks
 -- what a search rests on
 pub mod Searched

@@ -20,7 +20,7 @@ use Rattle.afloat.specs.Inputs.{none_ashore, none_fault}
 use Rattle.afloat.specs.NoneAshore.{count_none, least_tree_none, ruling_none}
 use Rattle.onetree.specs.Answers.{tree_fault, rule_fault}
 use Rattle.reduction.specs.Answers.{input_fault_over, tree_fault_over, rule_fault_over, tree_of, rulings_of}
-use Rattle.reduction.specs.Listed.{none_listed, all_zero, zeros_all}
+use Rattle.reduction.specs.Listed.{none_listed, all_zero}
 
 -- as code finds it
 pub none_is : (l : List ℕ) (n : ℕ) → none_listed l n ≡ true → replicate n 0 ≡ l
@@ -28,7 +28,7 @@ none_is l n h =
     let b = and_both (eqb (length l) n) _ h in
     let long = eqb-true (length l) n b.0 in
     replicate_is n 0 l long (λ i k.
-    eqb-true (get_or l i 0) 0 (at-passes (λ x. eqb x 0) 0 l i (omega (arith, long)) (every_is (λ x. eqb x 0) l ∙ sym (zeros_all l) ∙ b.1)))
+    eqb-true (get_or l i 0) 0 (at-passes (λ x. eqb x 0) 0 l i (omega (arith, long)) (every_is (λ x. eqb x 0) l ∙ b.1)))
 
 -- a list of zeros, of any length, fits where there are three vertices
 zeros_low : (l : List ℕ) → list_all (λ b. eqb b 0) l ≡ true → every_of (λ b. leb b 1) l ≡ true
@@ -49,8 +49,7 @@ zeros_none l h (suc j) = rw (zero_byte l h j)
 pub zeros_fit : (l : List ℕ) (n : ℕ) → all_zero l ≡ true → ashore_fits l n ≡ leb 3 n
 unfolding ashore_fits
 zeros_fit l n h =
-    let z = sym (zeros_all l) ∙ h in
-    rw (zeros_low l z, zeros_none l z 1, count_none (ashore l) (zeros_none l z) n)
+    rw (zeros_low l h, zeros_none l h 1, count_none (ashore l) (zeros_none l h) n)
 
 module _ (g : Graph) (d : List ℤ) where
   abbrev zeros : List ℕ

@@ -21,7 +21,8 @@ use graph::{Graph, MAX_EDGES, Refusal};
 use onetree::{Ruling, ceiling_fault, denominator_fault};
 
 // The tree call where some vertices are ashore and nothing is refused: on the graph of the others, of whose edges only those that are not excluded are
-// left.
+// left. Not inlined, here and below: the graphs that it makes would have their room in the frame of every call.
+#[inline(never)]
 fn tree_over(
     afloat: &Afloat,
     multipliers: &[i32],
@@ -52,6 +53,8 @@ fn tree_over(
 
 // The 1-tree of least bound over the vertices that are afloat, or that there is none: document 01's call where none is ashore.
 // Ruled out: 'no tree' since a vertex ashore is not joined; byte 1 at an edge that touches one; 35 before 32.
+// Inlined, here and below, so that where none is ashore the list costs no call.
+#[inline(always)]
 pub fn tree(
     g: &Graph,
     multipliers: &[i32],
@@ -70,6 +73,7 @@ pub fn tree(
 }
 
 // The rule call where some vertices are ashore and nothing is refused, as `tree_over`.
+#[inline(never)]
 fn rule_over(
     afloat: &Afloat,
     multipliers: &[i32],
@@ -106,6 +110,7 @@ fn rule_over(
 // The bound of the least 1-tree over the vertices that are afloat, and for each edge its ruling; or that none is within the ceiling: document 01's call
 // where none is ashore.
 // Ruled out: 3 for a required edge that touches a vertex ashore; 'dead' since such an edge is in no 1-tree.
+#[inline(always)]
 pub fn rule(
     g: &Graph,
     multipliers: &[i32],

@@ -68,6 +68,7 @@ pub fn input_fault(
 
 // The first fault of a tree call: 35 follows 32.
 // Ruled out: 35 where the denominator is at fault too; 11 for a list of vertices of the right length.
+#[inline(always)]
 pub fn tree_fault(
     g: &Graph,
     multipliers: &[i32],

@@ -1,21 +1,24 @@
 -- The record that an accepted opening leaves, from what its code makes: the trimmed graph, the padded lists, and one node in the stack's words.
 -- Assumes nothing.
-use Rattle.std.specs.Prelude.{◌≡◌, Bool, true, false, ℕ, ◌≤◌, length, get_or, ℤ, pos}
+use Rattle.std.specs.Prelude.{◌≡◌, Bool, true, false, not, cond, ◌&&◌, ℕ, ◌≤◌, eqb, leb, length, get_or, ℤ, pos}
 use Rattle.std.proofs.Math.Path.{refl}
 use Rattle.std.proofs.Common.{sym, ap, ◌∙◌, subst, arith}
 use mathlib.Core.List.{List, [], ◌∷◌}
 use mir.Val as words
-use Rattle.lists.specs.Bools.{bit}
+use Rattle.std.proofs.lemmas.Bool.{not-false}
+use Rattle.lists.specs.Bools.{bit, cond_zero}
 use Rattle.std.proofs.Math.ListN.{replicate}
 use Rattle.lists.specs.Rows.{row, row-size, row_at}
 use Rattle.lists.specs.Fill.{fit, fill_is}
 use Rattle.graph.specs.declared.Graph.{Graph}
-use Rattle.graph.specs.Limits.{max_vertices, max_edges}
+use Rattle.graph.specs.Limits.{max_vertices, max_edges, max_sweeps, max_step}
+use Rattle.graph.specs.Meaning.{valid_true}
 use Rattle.graph.specs.Network.{free, mark_of, network}
 use Rattle.graph.specs.Places.{network_mark}
-use Rattle.graph.specs.Valid.{Valid}
+use Rattle.graph.specs.Valid.{Valid, valid}
+use Rattle.tree_theory.specs.Inputs.{multipliers_fit, ceiling_fits, denominator_fault, or_else}
 use Rattle.machine.specs.declared.Settings.{Settings}
-use Rattle.afloat.specs.Over.{ashore, ashore_fits, marks_over}
+use Rattle.afloat.specs.Over.{ashore, ashore_fits, ashore_fault, marks_over}
 use Rattle.afloat.specs.Lists.{reduced_list}
 use Rattle.machine.specs.Machine.{Node, node_of, marks_of, Opening, active_network, active_multipliers, Progress, lifts, trimmed, tidy, held, begin, opening_of}
 use Rattle.machine.specs.Outcomes.{no_tour}
@@ -34,6 +37,40 @@ use Rattle.search.specs.declared.opening.Opening as arguments
 -- what the arguments of an opening are in the machine
 abbrev pub asked : arguments.Opening → Opening
 asked o = opening_of o.g.now o.multipliers.now o.ashore.now o.settings
+
+-- the first of 15, 11, 12, 13, 14 and 32 that applies to an opening
+unfoldable pub given_fault : Opening → ℕ
+unfolding valid multipliers_fit ceiling_fits denominator_fault
+given_fault o =
+    cond (not (valid o.graph)) 15
+    (cond (not (eqb (length o.multipliers) o.graph.n && eqb (length o.ashore) o.graph.n)) 11
+    (cond (not (multipliers_fit o.multipliers)) 12
+    (cond (not (ceiling_fits o.settings.ceiling)) 13
+    (cond (not (leb o.settings.sweeps max_sweeps && leb o.settings.step max_step)) 14
+    (denominator_fault o.settings.denominator)))))
+
+-- 35 follows them
+pub fault_is : (o : Opening) → fault o ≡ or_else (given_fault o) (ashore_fault o.ashore o.graph.n)
+unfolding fault given_fault
+fault_is o =
+    last (valid o.graph) (eqb (length o.multipliers) o.graph.n && eqb (length o.ashore) o.graph.n) (multipliers_fit o.multipliers)
+    (ceiling_fits o.settings.ceiling) (leb o.settings.sweeps max_sweeps && leb o.settings.step max_step)
+  where
+    last : (a b c d e : Bool) → cond (not a) 15 (cond (not b) 11 (cond (not c) 12 (cond (not d) 13 (cond (not e) 14
+        (or_else (denominator_fault o.settings.denominator) (ashore_fault o.ashore o.graph.n))))))
+        ≡ or_else (cond (not a) 15 (cond (not b) 11 (cond (not c) 12 (cond (not d) 13 (cond (not e) 14 (denominator_fault o.settings.denominator))))))
+        (ashore_fault o.ashore o.graph.n)
+    last false b c d e = refl
+    last true false c d e = refl
+    last true true false d e = refl
+    last true true true false e = refl
+    last true true true true false = refl
+    last true true true true true = refl
+
+-- where it is 0 the graph is valid
+pub given_valid : (o : Opening) → given_fault o ≡ 0 → Valid o.graph
+unfolding given_fault
+given_valid o e = valid_true o.graph (not-false (valid o.graph) (cond_zero (not (valid o.graph)) 15 _ (omega arith) e).0)
 
 -- ---- sizes
 
@@ -55,6 +92,10 @@ module _ (o : Opening) (h : fault o ≡ 0) where
   pub begun_fits : ashore_fits o.ashore (trimmed o.graph).n ≡ true
   unfolding held
   begun_fits = (accepts-held o h).ashore_fit
+
+  pub begun_long : length o.multipliers ≡ (trimmed o.graph).n
+  unfolding held
+  begun_long = (accepts-held o h).long
 
   pub begun_few : length o.ashore ≤ max_vertices
   begun_few = omega (arith, begun_list, begun_trimmed.high)

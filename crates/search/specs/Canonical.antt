@@ -21,6 +21,10 @@ use Rattle.search.specs.declared.Search.{Search}
 abbrev pub Zeros : {A : Type 0} → A → ℕ → ℕ → List A → Type 0
 Zeros z n from l = (i : ℕ) → i < n → from ≤ i → get_or l i z ≡ z
 
+-- no byte of the record's list says ashore
+abbrev pub NoneAshore : Search → Type 0
+NoneAshore s = Zeros 0 max_vertices 0 s.ashore
+
 -- past m in the graph's arrays
 pub record GraphTidy (g : Graph) : Type 0 where
   pub a : Zeros 0 max_edges g.m g.a

@@ -12,6 +12,11 @@ use Rattle.search.specs.declared.Search.{Search}
 
 -- ---- what a test says
 
+-- a test that passes
+pub says_holds : (b : Bool) {P : Type 0} → b ≡ true → P → Says b P
+says_holds true e p = p
+says_holds false e p = absurd (true≢false (sym e))
+
 -- a test that fails, of what P asks too
 pub says_fails : (b : Bool) {P Q : Type 0} → Says b Q → b ≡ false → (P → Q) → Says b P
 says_fails true s e f = absurd (true≢false e)

@@ -14,9 +14,9 @@ use Rattle.graph.specs.Places.{place_at, place_past}
 
 -- one array: from place m on, x in the place of what l has there
 module _ {A : Type 0} (z : A) (m : ℕ) (l x : List A) (few : m ≤ max_edges) (long : length l ≡ max_edges)
-    (is : x ≡ replicate (length (take (length l - m) (drop m l))) z) where
+    (is : x ≡ replicate (length (take (max_edges - m) (drop m l))) z) where
   abbrev rest : List A
-  rest = drop (length l - m) (drop m l)
+  rest = drop (max_edges - m) (drop m l)
 
   front : length (take m l) ≡ m
   front = omega (arith, length-take m l)
@@ -24,8 +24,8 @@ module _ {A : Type 0} (z : A) (m : ℕ) (l x : List A) (few : m ≤ max_edges) (
   zeros : length x ≡ max_edges - m
   zeros =
       ap length is
-      ∙ length-replicate (length (take (length l - m) (drop m l))) z
-      ∙ omega (arith, length-take (length l - m) (drop m l), length-drop m l)
+      ∙ length-replicate (length (take (max_edges - m) (drop m l))) z
+      ∙ omega (arith, length-take (max_edges - m) (drop m l), length-drop m l)
 
   size : length (take m l ++ (x ++ rest)) ≡ max_edges
   size =
@@ -35,7 +35,7 @@ module _ {A : Type 0} (z : A) (m : ℕ) (l x : List A) (few : m ≤ max_edges) (
         zeros,
         length-append (take m l) (x ++ rest),
         length-append x rest,
-        length-drop (length l - m) (drop m l),
+        length-drop (max_edges - m) (drop m l),
         length-drop m l,
       )
 
@@ -53,7 +53,7 @@ module _ {A : Type 0} (z : A) (m : ℕ) (l x : List A) (few : m ≤ max_edges) (
           get_or-append_right (take m l) (x ++ rest) m j z front (omega arith)
           ∙ get_or-append x rest z (j - m) (omega (arith, zeros))
           ∙ ap (λ (y : List A). get_or y (j - m) z) is
-          ∙ replicate-at (length (take (length l - m) (drop m l))) z (j - m)
+          ∙ replicate-at (length (take (max_edges - m) (drop m l))) z (j - m)
           ∙ sym (row_at max_edges (place z m l) j z h ∙ place_past z m l j (omega arith))
 
 -- and a graph

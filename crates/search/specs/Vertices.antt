@@ -1,6 +1,6 @@
 -- The vertices ashore as code reads them: that none is; how many are active, of a record's list; the marks that an opening begins with; a graph without
 -- marks. Assumes nothing.
-use Rattle.std.specs.Prelude.{◌≡◌, Bool, true, false, not, cond, List, [], ◌∷◌, ℕ, zero, suc, ◌≤◌, ◌<◌, eqb, length, get_or}
+use Rattle.std.specs.Prelude.{◌≡◌, Bool, true, false, not, cond, List, [], ◌∷◌, ℕ, zero, suc, ◌≤◌, ◌<◌, eqb, length, get_or, ℤ, pos}
 use Rattle.std.proofs.Math.Path.{refl}
 use Rattle.std.proofs.Common.{sym, ap, ◌∙◌, arith}
 use Rattle.std.proofs.Math.Decide.{dec_le}
@@ -19,8 +19,9 @@ use Rattle.graph.specs.Valid.{Valid}
 use Rattle.tree_theory.specs.Valid.{is_excluded}
 use Rattle.thinning.specs.Ranks.{rank}
 use Rattle.afloat.specs.Over.{ashore, active, active_count, touched, mark_over, marks_over}
+use Rattle.afloat.specs.Lists.{reduced_list}
 use Rattle.afloat.specs.Reduced.{reduced, count_is}
-use Rattle.afloat.specs.NoneAshore.{rank_all, reduced_none, mark_none}
+use Rattle.afloat.specs.NoneAshore.{rank_all, reduced_none, mark_none, list_none}
 use Rattle.machine.specs.Machine.{marks_of}
 use Rattle.node.specs.Marks.{with_bytes, marks_in}
 use Rattle.search.specs.Begun.{graph-marks}
@@ -56,17 +57,25 @@ module _ (l : List ℕ) (none : list_any (λ (b : ℕ). eqb b 1) l ≡ false) wh
   pub network_none : (n : ℕ) (g : Graph) → network g ≡ reduced (ashore (fit n 0 l)) (network g)
   network_none n g = sym (reduced_none (ashore (fit n 0 l)) (none_first n) (network g))
 
+  -- all multipliers are those of active vertices
+  pub multipliers_none : (n : ℕ) (d : List ℤ) → length d ≡ n → fit max_vertices (pos 0) d ≡ fit max_vertices (pos 0) (reduced_list (ashore l) n d)
+  multipliers_none n d e = ap (fit max_vertices (pos 0)) (sym (list_none (ashore l) none_listed n d e))
+
   pub marks_none : (g : Graph) → marks_in g.m g.mark ≡ marks_over (ashore l) (network g)
   unfolding marks_of marks_over network
   marks_none g = graph-marks g ∙ (λ i. row g.m (λ k. sym (mark_none (ashore l) none_listed (network g) k) i))
 
 -- nor where all bytes are zero
+none_of : (l : List ℕ) → ((j : ℕ) → j < length l → get_or l j 0 ≡ 0) → list_any (λ (b : ℕ). eqb b 1) l ≡ false
+none_of [] h = refl
+none_of (x ∷ l) h = rw (h 0 (omega arith), none_of l (λ j b. h (suc j) (omega arith)))
+
 pub zeros_none : (l : List ℕ) → length l ≡ max_vertices → Zeros 0 max_vertices 0 l → list_any (λ (b : ℕ). eqb b 1) l ≡ false
 zeros_none l e z = none_of l (λ j b. z j (omega (arith, e)) (omega arith))
-  where
-    none_of : (l : List ℕ) → ((j : ℕ) → j < length l → get_or l j 0 ≡ 0) → list_any (λ (b : ℕ). eqb b 1) l ≡ false
-    none_of [] h = refl
-    none_of (x ∷ l) h = rw (h 0 (omega arith), none_of l (λ j b. h (suc j) (omega arith)))
+
+-- of a list in an array's places
+pub listed_none : (l : List ℕ) → length l ≤ max_vertices → Zeros 0 max_vertices 0 (fit max_vertices 0 l) → list_any (λ (b : ℕ). eqb b 1) l ≡ false
+listed_none l e z = none_of l (λ j b. sym (fit_at max_vertices 0 l j (omega (arith, e, b))) ∙ z j (omega (arith, e, b)) (omega arith))
 
 -- ---- how many are active
 

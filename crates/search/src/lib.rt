@@ -22,8 +22,7 @@ mod vertices;
 use cost::tour_cost;
 use graph::{Graph, MAX_EDGES, MAX_VERTICES, Refusal, ValidGraph};
 use machine::Settings;
-use node::{NODE_WORDS, Workspace};
-use onetree::PassLists;
+use node::NODE_WORDS;
 use opening::Opening;
 
 // As specs/Limits.antt of crate graph has it.
@@ -158,12 +157,12 @@ impl Search {
             settings,
         };
         asked.fault()?;
-        *self = asked.begin();
+        asked.begin(self);
         Ok(())
     }
 
-    // Running. The record is worked on where it lies: nothing of it is copied for the call, and for a node only its rows and multipliers. The graph of the
-    // active vertices is made once for the call, and only where some are inactive.
+    // Running. The record is worked on where it lies: nothing of it is copied for the call, and for a node only its rows and multipliers. Where no node is
+    // to be opened the call is the check alone.
     // Ruled out: a node opened beyond the budget; a count of nodes that were not opened; a node that is opened with marks or multipliers made
     // below another; a record changed by a refusal.
     pub fn run(&mut self, budget: u64) -> Result<Progress, Refusal>
@@ -171,15 +170,8 @@ impl Search {
         ensures left { self.new ≡ (reply self.old (Calls.run budget)).search }
     {
         self.opened()?;
-        // once for all nodes: each overwrites what the one before left
-        let mut node = Workspace::blank();
-        let mut lists = PassLists::blank();
-        let afloat = self.active_graph();
-        for _ in 0..budget {
-            if self.depth == 0 || self.count >= MAX_COUNT {
-                break;
-            }
-            self.open_top(&afloat, &mut node, &mut lists);
+        if budget > 0 && self.depth > 0 {
+            self.advance(budget);
         }
         if self.depth == 0 {
             return Ok(Progress::Finished(self.count));

@@ -8,7 +8,7 @@ ghost use Rattle.mark_rows.specs.MarkRows.{row_words, required_in};
 ghost use Rattle.mark_rows.specs.SixWords.{WordsFit};
 ghost use Rattle.search.specs.Record.{max_nodes, rows_at, multipliers_at, opening_in, active_in};
 ghost use Rattle.tree_theory.specs.Inputs.{multipliers_fit};
-ghost use Rattle.search.specs.Canonical.{Zeros, GraphTidy, CarriedTidy, NodeFits, StackFits, touching_in, StackStruck, CarriedFits, Bits, Tidy, Fits, Idle};
+ghost use Rattle.search.specs.Canonical.{Zeros, NoneAshore, GraphTidy, CarriedTidy, NodeFits, StackFits, touching_in, StackStruck, CarriedFits, Bits, Tidy, Fits, Idle};
 ghost use Rattle.search.specs.Inverse.{Words, GraphSized, Sized, Typed};
 ghost use Rattle.search.specs.Check.{check};
 ghost use Rattle.search.specs.CheckStruck.{Covers};
@@ -200,8 +200,9 @@ fn carried_fits(carried: &[i32; CARRIED_SIZE], n: usize, depth: usize) -> bool
 
 impl Search {
     // Zero at every place that is not used: past the edges, the vertices, the active vertices and the nodes, and where there is no incumbent.
-    fn is_tidy(&self, active: usize) -> bool
-        requires { active ≡ active_in self.now }
+    fn is_tidy(&self, none: bool, active: usize) -> bool
+        requires none { Says none (NoneAshore self.now) }
+        requires active { active ≡ active_in self.now }
         ensures tidy { Says result (Tidy self.now) }
         ensures sized { Sized self.now }
     {
@@ -214,7 +215,7 @@ impl Search {
             && zero_from(&self.stack, NODE_WORDS * depth.min(MAX_NODES))
             && carried_tidy(&self.carried, active, depth)
             && zero_from(&self.best, shown)
-            && zero_from(&self.ashore, n)
+            && (none || zero_from(&self.ashore, n))
     }
 
     // With `is_tidy`, the fresh record: by fields, since `*self == Search::fresh()` would make a record and read each array again, as `is_tidy` just
@@ -232,30 +233,30 @@ impl Search {
     }
 
     // Are the arguments of an open record such as an opening accepts?
-    fn opening_fits(&self) -> bool
+    fn opening_fits(&self, none: bool) -> bool
+        requires none { Says none (NoneAshore self.now) }
         ensures { Says result (fault (opening_in self.now) ≡ 0) }
     {
         let n = usize::from(self.graph.n);
-        n <= MAX_VERTICES
-            && Opening {
-                g: &self.graph,
-                multipliers: &self.multipliers[..n],
-                ashore: &self.ashore[..n],
-                settings: self.settings,
-            }
-            .fault()
-            .is_ok()
+        if n > MAX_VERTICES {
+            return false;
+        }
+        let held = Opening {
+            g: &self.graph,
+            multipliers: &self.multipliers[..n],
+            ashore: &self.ashore[..n],
+            settings: self.settings,
+        };
+        held.given_fault().is_ok() && (none || reduction::ashore_fault(held.ashore, n).is_ok())
     }
 
     // Does each node of the stack exclude what touches a vertex ashore? Word by word, against the first node of the graph without its marks, which
-    // excludes these edges and no others.
+    // excludes these edges and no others. Not inlined: the graphs that it makes would have their room in the frame of every call on a record.
+    #[inline(never)]
     fn is_struck(&self) -> bool
         requires { (fault (opening_in self.now) ≡ 0) × (self.now.depth ≤ max_nodes) }
         ensures { Says result (StackStruck self.now.graph.m (touching_in self.now) self.now.depth self.now.stack) }
     {
-        if zero_from(&self.ashore, 0) {
-            return true;
-        }
         let n = usize::from(self.graph.n);
         let unmarked = Graph {
             mark: [0; MAX_EDGES],
@@ -270,14 +271,15 @@ impl Search {
 
     // Are the fields of an open record such as a search has them? The last three tests require what those before say, which one chain of `&&` was
     // tried for and does not hand on: each fact stands behind a join.
-    fn fits(&self, active: usize) -> bool
-        requires { active ≡ active_in self.now }
+    fn fits(&self, none: bool, active: usize) -> bool
+        requires none { Says none (NoneAshore self.now) }
+        requires active { active ≡ active_in self.now }
         ensures fits { Says result (Fits self.now) }
         ensures words { result ≡ true → Words self.now.stack }
     {
         let m = usize::from(self.graph.m);
         let depth = self.depth as usize;
-        if !self.opening_fits()
+        if !self.opening_fits(none)
             || self.settings.lifting > 1
             || !onetree::ceiling_fits(self.upper)
             || depth > active + 2
@@ -289,7 +291,7 @@ impl Search {
         if !carried_fits(&self.carried, active, depth) || !stack_fits(&self.stack, m, depth) {
             return false;
         }
-        self.is_struck()
+        none || self.is_struck()
     }
 
     // Does the record stand for a state of the machine? A flag is 0 or 1, and no other byte. One chain of `&&` was tried: as in `fits`.
@@ -297,12 +299,13 @@ impl Search {
         ensures checked { result ≡ check self.now }
         ensures typed { check self.now ≡ true → Typed self.now }
     {
-        let active = self.active();
-        if self.open > 1 || self.has_best > 1 || !self.is_tidy(active) {
+        let none = self.none_ashore();
+        let active = self.active(none);
+        if self.open > 1 || self.has_best > 1 || !self.is_tidy(none, active) {
             return false;
         }
         if self.open == 1 {
-            return self.fits(active);
+            return self.fits(none, active);
         }
         self.is_idle()
     }

@@ -1,12 +1,13 @@
 // A node of a run: the top one is opened, and what it comes to stands in its place.
 ghost use Rattle.std.specs.Prelude.{◌≡◌};
-ghost use Rattle.machine.specs.Machine.{Progress, open_top};
-ghost use Rattle.search.specs.Record.{record_of};
+ghost use Rattle.machine.specs.Machine.{Progress, open_top, ran};
+ghost use Rattle.search.specs.Record.{progress_of, record_of};
+ghost use Rattle.search.specs.ReplyCases.{IsOpen};
 ghost use Rattle.search.specs.Runs.ActiveGraph.{GraphIs};
 ghost use Rattle.search.specs.Runs.TopNode.{Holds, Top};
 
-use crate::Search;
 use crate::stack::{get, put};
+use crate::{MAX_COUNT, Search};
 use graph::Graph;
 use machine::Settings;
 use node::{Fate, Workspace};
@@ -46,6 +47,25 @@ impl Search {
                 put(&mut self.carried, p + 1, &node.last);
                 self.depth += 2;
             }
+        }
+    }
+
+    // Nodes are opened while one waits, the count allows it and the budget lasts. Not inlined: a call of run that opens none would blank these arrays too,
+    // and have them in its frame. The graph of the active vertices is made once for all nodes, and only where some are inactive.
+    #[inline(never)]
+    pub(crate) fn advance(&mut self, budget: u64)
+        requires { IsOpen self.old }
+        ensures { Holds self.new (ran budget (progress_of self.old)) }
+    {
+        // once for all nodes: each overwrites what the one before left
+        let mut node = Workspace::blank();
+        let mut lists = PassLists::blank();
+        let afloat = self.active_graph();
+        for _ in 0..budget {
+            if self.depth == 0 || self.count >= MAX_COUNT {
+                break;
+            }
+            self.open_top(&afloat, &mut node, &mut lists);
         }
     }
 }

@@ -81,6 +81,11 @@ module _ (s : Search) (o : IsOpen s) where
     comes = ap (λ (n : ℕ). ran n (progress_of s)) e;
   }
 
+  -- where no budget is given or nothing waits, it stays
+  pub run_rests : (budget : ℕ) → (budget ≡ 0) ⊎ (s.depth ≡ 0) → Holds s (ran budget (progress_of s))
+  run_rests budget (inl z) = run_spent _ _ _ _ (run_begins budget budget refl) z
+  run_rests budget (inr z) = run_stops _ _ _ _ (run_begins budget budget refl) (inl z)
+
   -- ---- the call
 
   module _ (budget : ℕ) (r : Search) (h : Holds r (ran budget (progress_of s))) where

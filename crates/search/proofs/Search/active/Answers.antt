@@ -6,12 +6,12 @@ use Rattle.search.specs.Vertices.{zeros_none, active_all, active_first}
 use Rattle.search.specs.declared.Search.{Search}
 use Rattle.search.proofs.Search.active.Goals as goal
 
-pub returns-then-zero_from : goal.returns-then-zero_from
-returns-then-zero_from c =
+pub returns-then-none : goal.returns-then-none
+returns-then-none c =
     let s : Search = c.args.self.now in
     let long : length s.ashore ≡ 20 = search (rules, c.well_formed) in
     c.from-n.ensures
-    ∙ active_all s.ashore s.graph.n (zeros_none s.ashore long (says_yes c.zero_from.result c.zero_from.ensures c.if-zero_from.true))
+    ∙ active_all s.ashore s.graph.n (zeros_none s.ashore long (says_yes c.args.none c.requires c.if-none.true))
 
 pub returns : goal.returns
 returns c =

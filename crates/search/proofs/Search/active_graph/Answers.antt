@@ -11,12 +11,12 @@ use Rattle.search.specs.declared.Search.{Search}
 use Rattle.search.proofs.Listed.{valid, fits, first}
 use Rattle.search.proofs.Search.active_graph.Goals as goal
 
-pub returns-then-zero_from : goal.returns-then-zero_from
+pub returns-then-none_ashore : goal.returns-then-none_ashore
 unfolding opening_in
-returns-then-zero_from c =
+returns-then-none_ashore c =
     let s : Search = c.args.self.now in
     let long : length s.ashore ≡ 20 = search (rules, c.well_formed) in
-    network_none s.ashore (zeros_none s.ashore long (says_yes c.zero_from.result c.zero_from.ensures c.if-zero_from.true)) s.graph.n s.graph
+    network_none s.ashore (zeros_none s.ashore long (says_yes c.none_ashore.result c.none_ashore.ensures c.if-none_ashore.true)) s.graph.n s.graph
 
 pub shared_ref_as_front-afloat : goal.shared_ref_as_front-afloat
 shared_ref_as_front-afloat c = omega (arith, c.from-n.ensures, (valid c.args.self.now c.requires).high)

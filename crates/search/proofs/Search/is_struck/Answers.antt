@@ -1,6 +1,5 @@
--- None touches a vertex ashore; or the words of each node have every bit of those that exclude just what touches one.
-use Rattle.std.proofs.Common.{◌≡◌, true, ℕ, List, length, replicate, sym, ap, subst, ◌∙◌, true≢false, rules, arith}
-use Rattle.lists.specs.Bools.{says_yes}
+-- The words of each node have every bit of those that exclude just what touches a vertex ashore.
+use Rattle.std.proofs.Common.{◌≡◌, true, ℕ, List, length, replicate, sym, ap, subst, ◌∙◌, rules, arith}
 use Rattle.lists.specs.Fill.{fit, fit-size, replicate-at}
 use Rattle.graph.specs.Network.{network}
 use Rattle.afloat.specs.Over.{ashore, ashore_fits, marks_over}
@@ -8,17 +7,10 @@ use Rattle.mark_rows.specs.MarkRows.{rows_of}
 use Rattle.node.specs.Marks.{with_bytes}
 use Rattle.search.specs.Canonical.{touching_in}
 use Rattle.search.specs.CheckStruck.{says_struck}
-use Rattle.search.specs.Vertices.{zeros_none, none_touching, unmarked-valid, unmarked-size, unmarked_is}
+use Rattle.search.specs.Vertices.{unmarked-valid, unmarked-size, unmarked_is}
 use Rattle.search.specs.declared.Search.{Search}
 use Rattle.search.proofs.Listed.{valid, fits, first}
 use Rattle.search.proofs.Search.is_struck.Goals as goal
-
-pub returns-then-zero_from : goal.returns-then-zero_from
-returns-then-zero_from c =
-    let s : Search = c.args.self.now in
-    let long : length s.ashore ≡ 20 = search (rules, c.well_formed) in
-    λ p d k b e.
-    absurd (true≢false (sym e ∙ none_touching s.ashore (zeros_none s.ashore long (says_yes c.zero_from.result c.zero_from.ensures c.if-zero_from.true)) s.graph.n (network s.graph) _))
 
 pub shared_ref_as_front-afloat : goal.shared_ref_as_front-afloat
 shared_ref_as_front-afloat c = omega (arith, c.from-n.ensures, (valid c.args.self.now c.requires.0).high)

@@ -1,8 +1,8 @@
--- DEMAND 3 HOLDS OF THE EXPORTED CALLS: crate shelf proves it however the answers are said, if no refusal is said as 'accepted' is. And so do
--- C-24's claims, which crate dispatcher proves. Assumes nothing.
-use Rattle.std.specs.Prelude.{◌≡◌, ℕ, suc}
-use Rattle.std.proofs.Common.{ap, arith}
-use Rattle.machine.specs.Calls.{Answer, refused, accepted}
+-- DEMAND 3 HOLDS OF THE EXPORTED CALLS: crate shelf proves it however the answers are said, if no refusal is said as 'accepted' is; and the verdicts
+-- do, if acceptance and 'going on' are seen in the numbers. And so do C-24's claims, which crate dispatcher proves. Assumes nothing.
+use Rattle.std.specs.Prelude.{◌≡◌, refl, true, false, ℕ, suc, ◌≤◌}
+use Rattle.std.proofs.Common.{sym, ap, arith, true≢false, ne_eqb, le-ltb}
+use Rattle.machine.specs.Calls.{Verdict, going_on, none, best, Answer, refused, accepted, runs, tells, is_accepted}
 use Rattle.machine.proofs.Following.{follows_demand_3}
 use Rattle.onetree_theorems.specs.AtOne.{EveryAnswerIsTheOldOne, search-at_one, EveryUnliftedAnswerIsTheOldOne, search_unlifted, EveryAnswerIsAsWithoutList}
 use Rattle.onetree_theorems.specs.AtOne.{search_afloat}
@@ -15,15 +15,44 @@ use Rattle.search.specs.Demand3.{calls_said, calls}
 use Rattle.search.specs.Theorem.{calls-follow}
 use Rattle.shelf.specs.Demand3.{LeavesFinished, SaysAfter, LiftedAgrees}
 use Rattle.shelf.proofs.Theorem.{demand_3_said, demand_3, lifted_agrees}
+use Rattle.shelf.proofs.Verdicts.{Seen, verdicts_said, acceptance_said}
 use Rattle.ffi.specs.declared.Reply.{Reply}
 use Rattle.ffi.specs.Answers.{said_of}
 use Rattle.ffi.specs.Demand3.{Exported}
+use Rattle.ffi.specs.Verdicts.{accepts_number, ExportedVerdicts, ExportedAcceptance}
 
 apart : (n : ℕ) → ¬ (said_of (refused (suc n) 0) ≡ said_of accepted)
 apart n e = let z : suc n ≡ 0 = ap (λ (s : Reply). s.number) e in omega arith
 
 pub demand_3_exported : Exported
 demand_3_exported = demand_3_said said_of apart
+
+-- THE VERDICTS OF THE EXPORTED CALLS, and which of these are accepted
+seen_numbers : Seen said_of accepts_number
+seen_numbers = record { refusal = refusal; acceptance = acceptance; going = going }
+  where
+    refusal : (n : ℕ) → 1 ≤ n → n ≤ 1000 → accepts_number (said_of (refused n 0)) ≡ false
+    refusal n low high = rw (ne_eqb n 0 (λ e. omega (arith, e)), le-ltb 1000 n high) refl
+
+    acceptance : (a : Answer) → is_accepted a ≡ true → accepts_number (said_of a) ≡ true
+    acceptance (refused n p) e = absurd (true≢false (sym e))
+    acceptance accepted e = refl
+    acceptance (runs true count) e = refl
+    acceptance (runs false count) e = refl
+    acceptance (tells going_on count) e = refl
+    acceptance (tells none count) e = refl
+    acceptance (tells (best c) count) e = refl
+
+    going : (v : Verdict) (n k : ℕ) → said_of (tells v n) ≡ said_of (tells going_on k) → v ≡ going_on
+    going going_on n k e = refl
+    going none n k e = absurd (let z : ◌≡◌ {A = ℕ} 1003 1001 = ap (λ (s : Reply). s.number) e in omega arith)
+    going (best c) n k e = absurd (let z : ◌≡◌ {A = ℕ} 1004 1001 = ap (λ (s : Reply). s.number) e in omega arith)
+
+pub verdicts_exported : ExportedVerdicts
+verdicts_exported = verdicts_said said_of accepts_number seen_numbers demand_3_exported
+
+pub acceptance_exported : ExportedAcceptance
+acceptance_exported = acceptance_said said_of accepts_number seen_numbers demand_3_exported
 
 -- document 02, C-13: "A finished lifted hunt and a finished unlifted one, of one sea and one ceiling, must have the same verdict and cost."
 pub lifted_exported : LiftedAgrees said_of

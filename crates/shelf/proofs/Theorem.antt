@@ -25,15 +25,15 @@ use Rattle.shelf.specs.Demand3.{AnyCall, search_left, history, LeavesFinished, c
 
 -- ---- the path of a list
 
-abbrev path_of : List AnyCall → List Call
+abbrev pub path_of : List AnyCall → List Call
 path_of cs = path search_machine searches cs
 
 module _ (cs : List AnyCall) where
-  same_past : plainly.history (path_of cs) ≡ history cs
+  pub same_past : plainly.history (path_of cs) ≡ history cs
   unfolding history paths.history
   same_past = same-history (path_of cs) ∙ sym (history_is search_machine searches note no_opening cs)
 
-  same-state : plainly.leaves (path_of cs) ≡ search_left cs
+  pub same-state : plainly.leaves (path_of cs) ≡ search_left cs
   same-state = same-leaves (path_of cs) ∙ sym (current_is search_machine searches cs)
 
   leaves-finished : (o : Opening) → LeavesFinished cs o → machine.LeavesFinished (path_of cs) o

@@ -2,7 +2,7 @@
 -- once, for every way in which an answer of the machine can be said (`f`). Nothing is proved here. Two ways are: this crate's `demand_3` has what
 -- the answers mean (`means` of crate search and the like), crate ffi's `demand_3_exported` the numbers. What it speaks of is defined in tours'
 -- Tours (a tour), afloat's Over (one over the vertices afloat), machine's Machine, Calls and Demand3 (the machine, its calls, what a finished search
--- says), shelf_theory's Shelves (saved states) and ShelfRecords (the calls on two records).
+-- says), shelf_theory's Shelves (saved states) and ShelfRecords (the calls on two records). What of it can be said without the machine is Verdicts.
 use Rattle.std.specs.Prelude.{◌≡◌, true, false, List, ℕ, suc, ◌-◌, ◌^◌, ◌≤◌}
 use Rattle.graph.specs.Network.{network}
 use Rattle.tours.specs.OneNetwork.{OneNetwork}

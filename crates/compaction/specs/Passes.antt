@@ -25,7 +25,7 @@ use Rattle.lifting.specs.Lifted.{ruling_with}
 use Rattle.lifting.proofs.Rulings.{excluded_stays}
 use Rattle.machine.specs.Machine.{Marks, Opened, with_marks, applied, mark_by, shut, found, unclosed, pass_by, pass, gained, branch}
 use Rattle.machine.specs.Machine.{concluded, passes}
-use Rattle.machine.specs.NodeTours.{applied-length}
+use Rattle.machine.specs.Laws.NodeTours.{applied-length}
 use Rattle.machine.specs.Outcomes.{finds}
 use Rattle.thinning.specs.Ranks.{rank, nth, Kept, rank_yes, rank-nth, nth_zero, nth_past, nth-rank, rank_in, nth_of}
 use Rattle.thinning.specs.Thinned.{thin, spread, RestExcluded, Spread, least-thin}

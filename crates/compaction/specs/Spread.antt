@@ -15,7 +15,7 @@ use Rattle.tree_theory.specs.OneTree.{Edges}
 use Rattle.machine.specs.Outcomes.{closes, finds, splits}
 use Rattle.tree_theory.specs.Valid.{is_free}
 use Rattle.machine.specs.Machine.{Marks, Node, node_of, Opened, first_free, branch}
-use Rattle.machine.specs.Branching.{first_free_lem, first-before, first_is}
+use Rattle.machine.specs.Laws.Branching.{first_free_lem, first-before, first_is}
 use Rattle.thinning.specs.Ranks.{rank, Kept, rank_yes, rank_less, rank-nth}
 
 -- ---- a value for each edge

@@ -11,7 +11,7 @@ use Rattle.machine.specs.Calls as calls
 use Rattle.machine.specs.Calls.{Verdict, since, history, free_at_start, step}
 use Rattle.machine.proofs.Claim.{machine_agrees, machine_ends}
 use Rattle.machine.proofs.Following.{said_as}
-use Rattle.machine.specs.Claim as claim
+use Rattle.machine.specs.Claims.Claim as claim
 use Rattle.machine.specs.Demand3.{Finished, LeavesFinished}
 use Rattle.search.specs.Record.{encode}
 use Rattle.search.specs.Record as search

@@ -21,8 +21,8 @@ use Rattle.lifting.specs.Lifted.{ruling_with}
 use Rattle.lifting.specs.Rulings.{is_bars, is_forces, is_bars_lem, is_forces_lem, as_ruled}
 use Rattle.lifting.proofs.Rulings.{tour_out, tour_in, tree_out, tree_in}
 use Rattle.machine.specs.Machine.{Marks, with_marks, frees, mark_by, applied}
-use Rattle.machine.specs.Branching.{row-marks, frees-fewer}
-use Rattle.machine.specs.NodeTours.{Agrees, Inside, allowed_at, at-allowed, tour_marks, valid-marks}
+use Rattle.machine.specs.Laws.Branching.{row-marks, frees-fewer}
+use Rattle.machine.specs.Laws.NodeTours.{Agrees, Inside, allowed_at, at-allowed, tour_marks, valid-marks}
 use Rattle.machine.specs.Requireds.{requireds, requireds-more}
 
 -- ---- an edge's mark once its ruling is applied

@@ -8,7 +8,7 @@ use Prim.Native.Nat.{ℕ}
 use Rattle.lists.specs.Members.{◌∈◌}
 use Rattle.machine.specs.Outcomes.{Outcome, closes, finds, splits, Incumbent, no_tour, a_tour, best_of, next_stack, next_incumbent}
 use Rattle.machine.specs.Outcomes.{next_upper}
-use Rattle.machine.specs.BranchAndBound.{Problem, Lawful, Reached, start, next, Optimal}
+use Rattle.machine.specs.Laws.BranchAndBound.{Problem, Lawful, Reached, start, next, Optimal}
 
 module _ (p : Problem) where
   module _ (root : p.Node) (ceiling : p.Bound) where

@@ -36,18 +36,18 @@ use Rattle.machine.specs.Calls.{shown_by, step, leaves, History, since, history,
 use Rattle.tours.specs.OneNetwork.{OneNetwork}
 use Rattle.machine.specs.Demand3.{NumberedAlike, Finished, LeavesFinished, Such}
 use Rattle.machine.specs.Demand3 as stated
-use Rattle.machine.specs.BranchAndBound.{Optimal, Reached}
+use Rattle.machine.specs.Laws.BranchAndBound.{Optimal, Reached}
 use Rattle.machine.proofs.BranchAndBound.{optimum}
 use Rattle.machine.specs.Trimmed.{network-trimmed, valid-trimmed}
 use Rattle.machine.specs.Active.{active_fit, active_held}
-use Rattle.machine.specs.NodeTours.{Agrees, Inside, allowed_agrees, agrees_allowed}
+use Rattle.machine.specs.Laws.NodeTours.{Agrees, Inside, allowed_agrees, agrees_allowed}
 use Rattle.machine.proofs.NodeTours.{tours}
 use Rattle.machine.specs.Kept.{Sized}
 use Rattle.tours.specs.Renumbering.{Simple, one_sym}
-use Rattle.machine.specs.Alike.{network-alike}
-use Rattle.machine.specs.Invariant.{first_node}
+use Rattle.machine.specs.Claims.Alike.{network-alike}
+use Rattle.machine.specs.Claims.Invariant.{first_node}
 use Rattle.machine.proofs.Invariant.{Good, FineSearch, Fine, fine, before_last}
-use Rattle.machine.specs.Claim.{Says, ShowAlike}
+use Rattle.machine.specs.Claims.Claim.{Says, ShowAlike}
 
 abbrev Otherwise : List Call → Opening → Verdict → Type 0
 Otherwise cs o v = stated.Otherwise (λ a. a) (λ c. (step (leaves cs) c).answer) (λ c. (step (leaves cs) c).lent) o v

@@ -21,8 +21,8 @@ use Rattle.tours.specs.Tours.{Allowed, is_tour}
 use Rattle.machine.specs.Outcomes.{closes, finds, splits}
 use Rattle.machine.specs.Machine.{Marks, with_marks, applied, Pass, shut, found, unclosed, pass_by, pass, gained, Opened, first_free}
 use Rattle.machine.specs.Machine.{branch, concluded, passes}
-use Rattle.machine.specs.Branching.{first_free_lem}
-use Rattle.machine.specs.NodeTours.{applied-length}
+use Rattle.machine.specs.Laws.Branching.{first_free_lem}
+use Rattle.machine.specs.Laws.NodeTours.{applied-length}
 use Rattle.machine.proofs.Applied.{tree_agrees, ruled-requireds}
 use Rattle.machine.specs.Requireds.{requireds, requireds-set, requireds_most}
 use Rattle.tree_theory.specs.Ranges.{tree-size}

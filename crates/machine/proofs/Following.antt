@@ -10,8 +10,8 @@ use Rattle.machine.specs.Kept.{KeptState}
 use Rattle.machine.proofs.Preserved.{step_kept}
 use Rattle.machine.specs.Demand3.{Finished, Otherwise, Says, Interface, after, AsTheMachine, SaysAfter, ShowAlikeAfter, Demand3}
 use Rattle.machine.proofs.Claim.{machine_agrees, machine_ends}
-use Rattle.machine.specs.Claim as machine
-use Rattle.machine.specs.Following.{Follows}
+use Rattle.machine.specs.Claims.Claim as machine
+use Rattle.machine.specs.Claims.Following.{Follows}
 
 -- what the machine says after a list is said by whatever answers tell and show as the machine does
 module _ {A : Type 0} (f : Answer → A) (answer : Call → A) (list : Call → List ℕ) (cs : List Call)

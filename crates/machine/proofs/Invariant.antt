@@ -10,12 +10,12 @@ use Rattle.machine.specs.Calls.{Call, opens, run, tell, show, close, Reply, faul
 use Rattle.machine.specs.Calls.{state_after, is_accepted, History, no_opening, since, granted, noted, history_after, history}
 use Rattle.machine.specs.Calls.{free_at_start}
 use Rattle.machine.specs.Runs.{RunTurn, opens-top, empty, full, turn, ran-opens, ran_empty, ran_full, ran_keeps}
-use Rattle.machine.specs.BranchAndBound.{Reached, start, next, room, room_some, budget}
+use Rattle.machine.specs.Laws.BranchAndBound.{Reached, start, next, room, room_some, budget}
 use Rattle.machine.proofs.NodeTours.{tours}
 use Rattle.machine.specs.Kept.{Kept}
 use Rattle.machine.specs.Preserved.{accepts-held, begin-kept, show_state}
 use Rattle.machine.proofs.Preserved.{top_law, top_kept}
-use Rattle.machine.specs.Invariant.{first_node}
+use Rattle.machine.specs.Claims.Invariant.{first_node}
 
 abbrev pub ReachedBy : Progress → Type 0
 ReachedBy s =

@@ -13,9 +13,9 @@ use Rattle.graph.specs.Network.{Network}
 use Rattle.tree_theory.specs.OneTree.{Edges, lacks_first}
 use Rattle.tours.specs.Tours.{cost}
 use Rattle.machine.specs.Machine.{Node, frees, edges_of, cost_of, lowered, replaces, better}
-use Rattle.machine.specs.BranchAndBound.{Problem}
-use Rattle.machine.specs.Firsts.{lacks_once, lacks_past}
-use Rattle.machine.specs.NodeTours.{Inside, Before, NotBefore, before_reaches, lowered_tighter}
+use Rattle.machine.specs.Laws.BranchAndBound.{Problem}
+use Rattle.machine.specs.Laws.Firsts.{lacks_once, lacks_past}
+use Rattle.machine.specs.Laws.NodeTours.{Inside, Before, NotBefore, before_reaches, lowered_tighter}
 
 module _ (g : Network) where
   not_reaches : (s t : Edges) → NotBefore g s t → cost g t ≤ℤ cost g s

@@ -25,14 +25,14 @@ use Rattle.machine.specs.Outcomes.{closes, finds, splits}
 use Rattle.machine.specs.Machine.{Marks, node_of, with_marks, applied, Pass, shut, found, unclosed, pass_by, pass, Opened, first_free}
 use Rattle.machine.specs.Machine.{branch}
 use Rattle.machine.specs.Machine.{concluded, passes, gained, edges_of}
-use Rattle.machine.specs.BranchAndBound.{Lawful, narrowed}
+use Rattle.machine.specs.Laws.BranchAndBound.{Lawful, narrowed}
 use Rattle.tours.specs.TourTest.{test_tour, tour_test}
-use Rattle.machine.specs.Branching.{first_free_lem, first-before, frees-set}
-use Rattle.machine.specs.NodeTours.{Agrees, Inside, Before, tour_agree, cost_agree, tour_marks, marks_tour}
+use Rattle.machine.specs.Laws.Branching.{first_free_lem, first-before, frees-set}
+use Rattle.machine.specs.Laws.NodeTours.{Agrees, Inside, Before, tour_agree, cost_agree, tour_marks, marks_tour}
 use Rattle.machine.proofs.NodeTours.{tours}
-use Rattle.machine.specs.NodeTours.{allowed_at, at-allowed, applied-length, inside-tree, cost-bound}
+use Rattle.machine.specs.Laws.NodeTours.{allowed_at, at-allowed, applied-length, inside-tree, cost-bound}
 use Rattle.machine.proofs.Applied.{tree_agrees, ruled_keeps, ruled_of, ruled-frees}
-use Rattle.machine.specs.OpeningLaws.{row_edges}
+use Rattle.machine.specs.Laws.Openings.{row_edges}
 
 module _ (g : Network) (vg : Valid g) (upper : ℤ) where
   -- whatever the node's multipliers are

@@ -34,7 +34,7 @@ use Rattle.machine.specs.Machine.{edges_of, cost_of, lowered, better, opened_on,
 use Rattle.machine.specs.Calls.{Call, opens, run, tell, show, close, fault, opened_by, run_by, step}
 use Rattle.machine.specs.Calls.{state_after, leaves}
 use Rattle.machine.specs.Runs.{ran_keeps}
-use Rattle.machine.specs.NodeTours.{applied-length}
+use Rattle.machine.specs.Laws.NodeTours.{applied-length}
 use Rattle.machine.proofs.NodeTours.{better_is}
 use Rattle.machine.proofs.OpeningLaws.{Law, passes_law}
 use Rattle.machine.proofs.ScaledLaws.{law_scaled}

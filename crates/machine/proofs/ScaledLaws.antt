@@ -10,11 +10,11 @@ use Rattle.tree_theory.specs.Scaling.{valid_scaled}
 use Rattle.tours.specs.Tours.{cost}
 use Rattle.machine.specs.Outcomes.{closes, finds, splits}
 use Rattle.machine.specs.Machine.{Marks, Node, node_of, Opened, with_marks, edges_of}
-use Rattle.machine.specs.BranchAndBound.{Lawful}
-use Rattle.machine.specs.NodeTours.{Inside, Before}
+use Rattle.machine.specs.Laws.BranchAndBound.{Lawful}
+use Rattle.machine.specs.Laws.NodeTours.{Inside, Before}
 use Rattle.machine.proofs.NodeTours.{tours}
 use Rattle.machine.proofs.OpeningLaws.{Law}
-use Rattle.machine.specs.ScaledLaws.{tour_scaled, cost_scaled}
+use Rattle.machine.specs.Laws.Scaled.{tour_scaled, cost_scaled}
 
 module _ (q : ℕ) (g : Network) where
   -- ---- a node's tours

@@ -20,7 +20,7 @@ use Rattle.machine.specs.declared.Settings.{Settings}
 use Rattle.machine.specs.Outcomes.{closes, finds, splits}
 use Rattle.machine.specs.Machine.{Marks, Node, with_marks, applied, Pass, shut, found, unclosed, pass_by, pass, gained, Opened, first_free}
 use Rattle.machine.specs.Machine.{branch, concluded, passes, lifts, opened_on}
-use Rattle.machine.specs.Branching.{first_free_lem}
+use Rattle.machine.specs.Laws.Branching.{first_free_lem}
 use Rattle.machine.proofs.Applied.{ruled-off}
 use Rattle.machine.specs.Kept.{Off}
 

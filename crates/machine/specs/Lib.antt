@@ -6,15 +6,9 @@ pub mod Outcomes
 pub mod Machine
 pub mod Calls
 pub mod Demand3
--- branch and bound (the general theorem is proved in proofs/)
-pub mod BranchAndBound
--- document 01's opening of a node (that it obeys the laws: proofs/)
-pub mod Branching
+-- branch and bound, and that document 01's opening of a node obeys its laws
+pub mod Laws
 pub mod Requireds
-pub mod Firsts
-pub mod NodeTours
-pub mod OpeningLaws
-pub mod ScaledLaws
 -- what every state keeps
 pub mod Depth
 pub mod Trimmed
@@ -27,8 +21,4 @@ pub mod Refusals
 -- document 02, C-16: what a node's halves inherit, and what waits below
 pub mod Inherited
 -- the statement about the machine itself, and what follows it (proved in proofs/)
-pub mod Alike
-pub mod Invariant
-pub mod Claim
-pub mod Following
-pub mod WholeLists
+pub mod Claims

@@ -12,7 +12,7 @@ use Rattle.tree_theory.specs.Valid.{is_required, required_is}
 use Rattle.tree_theory.specs.Arrays.{of_edge}
 use Rattle.tours.specs.Tours.{Allowed}
 use Rattle.machine.specs.Machine.{Marks, with_marks}
-use Rattle.machine.specs.Branching.{row-marks}
+use Rattle.machine.specs.Laws.Branching.{row-marks}
 
 unfoldable pub requireds : Marks → ℕ
 requireds [] = 0

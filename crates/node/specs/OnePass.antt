@@ -34,7 +34,7 @@ use Rattle.tours.specs.Tours as T
 use Rattle.node.specs.Given.{Given, fault}
 use Rattle.lifting.specs.Lifted.{ruling_with}
 use Rattle.machine.specs.Machine.{Marks, lifts, applied, mark_by, shut, found, unclosed, pass_by, pass}
-use Rattle.machine.specs.NodeTours.{applied-length}
+use Rattle.machine.specs.Laws.NodeTours.{applied-length}
 use Rattle.tours.specs.Degrees.{degree_agree}
 use Rattle.tours.specs.DegreeTest.{test_yes, test_no}
 use Rattle.node.specs.declared.passes.Verdict.{Verdict}

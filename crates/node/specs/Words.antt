@@ -23,7 +23,7 @@ use Rattle.tree_theory.specs.OneTree.{Edges}
 use Rattle.tree_theory.specs.Valid.{is_required, is_excluded, is_free}
 use Rattle.machine.specs.Outcomes.{closes}
 use Rattle.machine.specs.Machine.{Marks, first_free, branch}
-use Rattle.machine.specs.Branching.{free_is, first_is}
+use Rattle.machine.specs.Laws.Branching.{free_is, first_is}
 use Rattle.mark_rows.specs.MarkRows.{row_words, node_words, mark_at, mark_bits, rows_of, marks_in_rows}
 use Rattle.mark_rows.specs.SixWords.{marks-length, mark_bits_lem, rows_is}
 use Rattle.mark_rows.proofs.SixWords.{rows_required, rows_excluded}

@@ -24,8 +24,8 @@ use Rattle.mark_rows.specs.MarkRows.{rows_of, row_words, node_words, required_in
 use Rattle.machine.specs.Calls.{fault}
 use Rattle.search.specs.Record.{max_nodes, rows_at, carried_size, no_settings, multipliers_at, has_tour, opening_in, active_in}
 use Rattle.search.specs.Canonical.{Zeros, GraphTidy, used_in, StackTidy, CarriedTidy, Tidy, Idle, StackFits, touching_in, StackStruck, CarriedFits, Bits, Fits}
-use Rattle.search.specs.CheckLoops.{says-le, says_eq}
-use Rattle.search.specs.CheckParts as parts
+use Rattle.search.specs.Checks.Loops.{says-le, says_eq}
+use Rattle.search.specs.Checks.Parts as parts
 use Rattle.std.specs.Int.Count.{ones}
 use Rattle.lists.specs.Weights.{weight}
 use Rattle.bits.specs.Rows.{row_ones}
@@ -33,7 +33,7 @@ use Rattle.mark_rows.specs.SixWords.{rows_size, rows_small, with_edge}
 use Rattle.mark_rows.specs.Building.{partly}
 use Rattle.mark_rows.proofs.Building.{partly_free, partly_required, partly_excluded}
 use Rattle.search.specs.Begun.{begun_trimmed}
-use Rattle.search.specs.Pushing.{Put, rows_top, carried_top}
+use Rattle.search.specs.Words.Pushing.{Put, rows_top, carried_top}
 use Rattle.search.specs.Accepted.{range_fits, range_denominator}
 use Rattle.search.specs.Runs.TopNode.{Holds, Top, place as place_of_top, holds_upper, holds_depth, holds_count, holds_settings, top-high, waits, old-words, old-carried}
 use Rattle.search.specs.declared.Search.{Search}

@@ -29,8 +29,8 @@ use Rattle.mark_rows.specs.MarkRows.{node_words, rows_of}
 use Rattle.mark_rows.proofs.Building.{no_bits}
 use Rattle.node.specs.Marks.{marks_in}
 use Rattle.search.specs.Record.{stack_size, carried_size, word_at, multiplier_at, stack_words, carried_of, has_incumbent, best_bytes, record_of}
-use Rattle.search.specs.Cells.{rows_places, carried_places, cells_empty}
-use Rattle.search.specs.Pushing.{PutRows, PutCarried, pushed, carried_pushed}
+use Rattle.search.specs.Words.Cells.{rows_places, carried_places, cells_empty}
+use Rattle.search.specs.Words.Pushing.{PutRows, PutCarried, pushed, carried_pushed}
 use Rattle.search.specs.declared.Search.{Search}
 use Rattle.search.specs.declared.opening.Opening as arguments
 

@@ -27,10 +27,10 @@ use Rattle.machine.specs.Active.{active_most}
 use Rattle.mark_rows.specs.MarkRows.{node_words, rows_of, SixWords, RowsFit}
 use Rattle.mark_rows.proofs.SixWords.{rows_fit, rows_again}
 use Rattle.search.specs.Record.{max_nodes, stack_size, carried_size, fresh, node_at, cell, rows_at, marks_at, multipliers_at, nodes, word_at, multiplier_at, stack_words, carried_of, best_of, has_incumbent, best_bytes, is_open, has_tour, opening_in, active_in, progress_of, decode, record_of, encode}
-use Rattle.search.specs.Cells.{rows_places, carried_places, cells_at, cells_is, each-place, rows_at-size, rows_at_lem, multipliers_at_lem, multipliers_size, nodes-size, nodes-at, nodes_back, nodes_of, nodes_off, node_off, node_waits, node_narrow, rows_there, marks_back, multipliers_back, no_word, carried_past, cell_none}
+use Rattle.search.specs.Words.Cells.{rows_places, carried_places, cells_at, cells_is, each-place, rows_at-size, rows_at_lem, multipliers_at_lem, multipliers_size, nodes-size, nodes-at, nodes_back, nodes_of, nodes_off, node_off, node_waits, node_narrow, rows_there, marks_back, multipliers_back, no_word, carried_past, cell_none}
 use Rattle.search.specs.Canonical.{Zeros, StackTidy, CarriedTidy, used_in, touching_in, Tidy, Idle, Fits, Flags, Stands, Canonical}
 use Rattle.search.specs.Accepted.{fits_range, range_fits, accepted_fault, fault_accepted}
-use Rattle.search.specs.Incumbents.{byte_back, flag_off, best_back, best-bits, best_zeros, best_sized, has_back, bytes_back}
+use Rattle.search.specs.Words.Incumbents.{byte_back, flag_off, best_back, best-bits, best_zeros, best_sized, has_back, bytes_back}
 use Rattle.search.specs.declared.Search.{Search}
 
 -- ---- from a state

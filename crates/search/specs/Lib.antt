@@ -11,16 +11,11 @@ pub mod Stored
 pub mod Refusals
 -- What follows is proved, or says what code knows.
 -- words and bytes, and what they stand for, both ways
-pub mod Cells
-pub mod Incumbents
-pub mod Pushing
+pub mod Words
 pub mod Inverse
 -- the check, as its code goes
 pub mod Accepted
-pub mod CheckLoops
-pub mod CheckParts
-pub mod CheckRows
-pub mod CheckStruck
+pub mod Checks
 -- an opening
 pub mod Trimming
 pub mod Begun

@@ -22,7 +22,7 @@ use Rattle.machine.specs.Kept.{Kept, KeptState}
 use Rattle.search.specs.Record.{fresh, nodes, bits, best_of, is_open, has_tour, opening_in, progress_of, decode, record_of, encode}
 use Rattle.search.specs.Canonical.{Fits, Stands, Canonical}
 use Rattle.search.specs.Check.{check, check_is}
-use Rattle.search.specs.Incumbents.{byte_back, bits-size, bits_at}
+use Rattle.search.specs.Words.Incumbents.{byte_back, bits-size, bits_at}
 use Rattle.search.specs.Runs.Costs.{cost-bits}
 use Rattle.search.specs.Inverse.{Typed, encode-decode, decode-kept}
 use Rattle.search.specs.Replies.{Outcome, refuses, reply, lent}

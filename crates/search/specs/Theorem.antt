@@ -18,7 +18,7 @@ use Rattle.machine.specs.Calls as machine
 use Rattle.machine.specs.Kept.{KeptState}
 use Rattle.machine.specs.Refusals.{unfit, faults, refused-leaves}
 use Rattle.machine.specs.Demand3.{Demand3}
-use Rattle.machine.specs.Following.{Follows}
+use Rattle.machine.specs.Claims.Following.{Follows}
 use Rattle.machine.proofs.Following.{follows_demand_3}
 use Rattle.search.specs.Record.{decode, encode}
 use Rattle.search.specs.Check.{check, check_yes}

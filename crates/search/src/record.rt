@@ -11,7 +11,7 @@ ghost use Rattle.tree_theory.specs.Inputs.{multipliers_fit};
 ghost use Rattle.search.specs.Canonical.{Zeros, NoneAshore, GraphTidy, CarriedTidy, NodeFits, StackFits, touching_in, StackStruck, CarriedFits, Bits, Tidy, Fits, Idle};
 ghost use Rattle.search.specs.Inverse.{Words, GraphSized, Sized, Typed};
 ghost use Rattle.search.specs.Check.{check};
-ghost use Rattle.search.specs.CheckStruck.{Covers};
+ghost use Rattle.search.specs.Checks.Struck.{Covers};
 
 use crate::opening::Opening;
 use crate::stack::get;

@@ -1,7 +1,7 @@
 // The stack's words and what its nodes carry, lent to what works on them: node p from the bottom has W places, from place W * p on.
 ghost use Rattle.std.specs.Prelude.{◌≡◌, ◌+◌, ◌*◌, ◌≤◌, get_or, length};
 ghost use Rattle.lists.specs.Fill.{fill};
-ghost use Rattle.search.specs.Pushing.{Put};
+ghost use Rattle.search.specs.Words.Pushing.{Put};
 
 // The places of node p.
 pub(crate) fn get<T: Copy, const W: usize>(s: &[T], p: usize) -> [T; W]

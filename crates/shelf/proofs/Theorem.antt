@@ -10,7 +10,7 @@ use Rattle.machine.specs.Demand3.{Finished}
 use Rattle.machine.specs.Demand3 as machine
 use Rattle.machine.proofs.Claim.{machine_agrees, machine_ends}
 use Rattle.machine.proofs.Following.{said_as}
-use Rattle.machine.specs.Claim as claim
+use Rattle.machine.specs.Claims.Claim as claim
 use Rattle.lent_records.specs.Records.{record_of, AsTheMachine}
 use Rattle.search_records.specs.Searching.{search_machine, searches, note}
 use Rattle.search_records.specs.Calls.{search_calls}

@@ -16,7 +16,7 @@ use Rattle.machine.specs.Outcomes.{Incumbent, no_tour, a_tour}
 use Rattle.machine.specs.Machine.{edges_of, cost_of, replaces, better}
 use Rattle.machine.specs.Kept.{Sized}
 use Rattle.search.specs.Record.{bits, best_of, has_tour, has_incumbent, best_bytes}
-use Rattle.search.specs.Incumbents.{best_back}
+use Rattle.search.specs.Words.Incumbents.{best_back}
 use Rattle.search.specs.Runs.Costs.{bits_edges, cost-bits}
 use Rattle.search.specs.declared.Search.{Search}
 

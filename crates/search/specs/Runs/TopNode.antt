@@ -43,8 +43,8 @@ use Rattle.node.specs.Refusing.{never_refused}
 use Rattle.search.specs.declared.Search.{Search}
 use Rattle.search.specs.Record.{max_nodes, stack_size, carried_size, has_tour, rows_at, multipliers_at, word_at, multiplier_at, stack_words, carried_of, bits, has_incumbent, best_bytes, record_of}
 use Rattle.search.specs.Accepted.{range_fits, range_denominator}
-use Rattle.search.specs.Cells.{rows_places, carried_places, cells-size}
-use Rattle.search.specs.Pushing.{PutRows, PutCarried, rows_top, carried_top, pushed, replaced, popped, carried_pushed, carried_replaced, carried_popped}
+use Rattle.search.specs.Words.Cells.{rows_places, carried_places, cells-size}
+use Rattle.search.specs.Words.Pushing.{PutRows, PutCarried, rows_top, carried_top, pushed, replaced, popped, carried_pushed, carried_replaced, carried_popped}
 use Rattle.search.specs.Runs.Costs.{cost-bits}
 use Rattle.search.specs.Runs.Keeping.{kept_of, bits_back, kept_is, better_active, with_best, kept_in}
 use Rattle.search.specs.Runs.ActiveGraph.{graph_n, graph_m, graph_few, left_is_valid}

@@ -10,7 +10,7 @@ use Rattle.search.specs.Begun.{begun_valid}
 use Rattle.integers.specs.Words.{back64}
 use Rattle.tree_theory.specs.Inputs.{ceiling_fits}
 use Rattle.search.specs.Canonical.{StackFits, StackStruck, touching_in, CarriedFits, Bits, Fits}
-use Rattle.search.specs.CheckLoops.{says_holds}
+use Rattle.search.specs.Checks.Loops.{says_holds}
 use Rattle.search.specs.Vertices.{zeros_none, none_touching}
 use Rattle.graph.specs.Limits.{max_count}
 use Rattle.graph.specs.Network.{network}

@@ -2,7 +2,7 @@
 use Rattle.std.proofs.Common.{sym, ◌∙◌, true≢false, arith, eq-eqb, ne_eqb}
 use Rattle.lists.specs.Bools.{says_yes, says_no}
 use Rattle.search.specs.Check.{check_no}
-use Rattle.search.specs.CheckLoops.{says-stands}
+use Rattle.search.specs.Checks.Loops.{says-stands}
 use Rattle.search.specs.Inverse.{typed_of, typed_idle}
 use Rattle.search.specs.declared.Search.{Search}
 use Rattle.search.proofs.Search.is_sound.Goals as goal

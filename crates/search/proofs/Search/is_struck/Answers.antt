@@ -6,7 +6,7 @@ use Rattle.afloat.specs.Over.{ashore, ashore_fits, marks_over}
 use Rattle.mark_rows.specs.MarkRows.{rows_of}
 use Rattle.node.specs.Marks.{with_bytes}
 use Rattle.search.specs.Canonical.{touching_in}
-use Rattle.search.specs.CheckStruck.{says_struck}
+use Rattle.search.specs.Checks.Struck.{says_struck}
 use Rattle.search.specs.Vertices.{unmarked-valid, unmarked-size, unmarked_is}
 use Rattle.search.specs.declared.Search.{Search}
 use Rattle.search.proofs.Listed.{valid, fits, first}

@@ -12,7 +12,7 @@ use Rattle.machine.specs.Calls.{fault}
 use Rattle.search.specs.Record.{opening_in}
 use Rattle.machine.specs.Machine.{Opening, opening_of}
 use Rattle.graph.specs.Meaning.{not_valid}
-use Rattle.search.specs.CheckLoops.{says_holds, says_fails}
+use Rattle.search.specs.Checks.Loops.{says_holds, says_fails}
 use Rattle.tree_theory.specs.Inputs.{or_else}
 use Rattle.afloat.specs.Over.{ashore_fault}
 use Rattle.afloat.specs.Inputs.{none_fault}

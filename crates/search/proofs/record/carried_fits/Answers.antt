@@ -3,7 +3,7 @@ use Rattle.std.proofs.Common.{◌≡◌, true, refl, arith, rules, tests}
 use Rattle.std.proofs.lemmas.Iterator.{YieldsList-from_range, cases_from_all}
 use Rattle.tree_theory.specs.Inputs.{multipliers_fit}
 use Rattle.search.specs.Record.{multipliers_at}
-use Rattle.search.specs.CheckLoops.{says_below}
+use Rattle.search.specs.Checks.Loops.{says_below}
 use Rattle.search.proofs.record.carried_fits.Goals as goal
 
 pub returns : goal.returns

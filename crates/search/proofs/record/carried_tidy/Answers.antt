@@ -4,8 +4,8 @@ use Rattle.std.proofs.lemmas.Iterator.{YieldsList-from_range, cases_from_all}
 use Rattle.lists.specs.Bools.{Says, says_yes, says_both}
 use Rattle.search.specs.Canonical.{Zeros}
 use Rattle.search.specs.Record.{multipliers_at}
-use Rattle.search.specs.CheckParts.{carried_past, carried_whole}
-use Rattle.search.specs.CheckLoops.{says_below}
+use Rattle.search.specs.Checks.Parts.{carried_past, carried_whole}
+use Rattle.search.specs.Checks.Loops.{says_below}
 use Rattle.search.proofs.record.carried_tidy.Goals as goal
 
 -- what node p carries is zero past n

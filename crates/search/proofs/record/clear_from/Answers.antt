@@ -1,7 +1,7 @@
 -- A word has 64 bits; and below that the bits from bit `from` on are what the shift leaves.
 use Rattle.std.proofs.Common.{rules}
-use Rattle.search.specs.CheckLoops.{says-le}
-use Rattle.search.specs.CheckRows.{low_word, says_low}
+use Rattle.search.specs.Checks.Loops.{says-le}
+use Rattle.search.specs.Checks.Rows.{low_word, says_low}
 use Rattle.search.proofs.record.clear_from.Goals as goal
 
 pub returns-then-from-ge-WORD_BITS : goal.returns-then-from-ge-WORD_BITS

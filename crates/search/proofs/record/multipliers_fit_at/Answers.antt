@@ -4,7 +4,7 @@ use Rattle.lists.specs.Fill.{fit}
 use Rattle.lists.specs.Filling.{take-fit}
 use Rattle.tree_theory.specs.Inputs.{multipliers_fit}
 use Rattle.search.specs.Record.{multipliers_at}
-use Rattle.search.specs.Cells.{multipliers_size, multipliers_cut}
+use Rattle.search.specs.Words.Cells.{multipliers_size, multipliers_cut}
 use Rattle.search.proofs.record.multipliers_fit_at.Goals as goal
 
 first : (n p : ℕ) (e d : List ℤ) (b : Bool) → n ≤ 20 → d ≡ multipliers_at 20 e p → b ≡ multipliers_fit (take n d)

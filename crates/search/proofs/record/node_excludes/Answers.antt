@@ -1,7 +1,7 @@
 -- The words of node p, read as its definition reads them.
 use Rattle.std.proofs.Common.{subst, List, ℕ}
 use Rattle.lists.specs.Bools.{Says}
-use Rattle.search.specs.CheckStruck.{Covers}
+use Rattle.search.specs.Checks.Struck.{Covers}
 use Rattle.search.specs.Record.{rows_at}
 use Rattle.search.proofs.record.node_excludes.Goals as goal
 

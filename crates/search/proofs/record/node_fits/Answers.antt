@@ -2,8 +2,8 @@
 use Rattle.std.proofs.Common.{rules, ℕ, ◌^◌, ◌<◌, get_or, Fits, w64}
 use Rattle.lists.specs.Bools.{says_yes}
 use Rattle.search.specs.Record.{rows_at}
-use Rattle.search.specs.CheckLoops.{says_fails}
-use Rattle.search.specs.CheckRows.{node_words_lem, says_node}
+use Rattle.search.specs.Checks.Loops.{says_fails}
+use Rattle.search.specs.Checks.Rows.{node_words_lem, says_node}
 use Rattle.search.proofs.record.node_fits.Goals as goal
 
 pub returns-then-rows_fit : goal.returns-then-rows_fit

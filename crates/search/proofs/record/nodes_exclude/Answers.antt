@@ -1,8 +1,8 @@
 -- `all` asks of each node.
 use Rattle.std.proofs.Common.{refl, arith, rules, tests}
 use Rattle.std.proofs.lemmas.Iterator.{YieldsList-from_range, cases_from_all}
-use Rattle.search.specs.CheckLoops.{says_below}
-use Rattle.search.specs.CheckStruck.{Covers}
+use Rattle.search.specs.Checks.Loops.{says_below}
+use Rattle.search.specs.Checks.Struck.{Covers}
 use Rattle.search.specs.Record.{rows_at}
 use Rattle.search.proofs.record.nodes_exclude.Goals as goal
 

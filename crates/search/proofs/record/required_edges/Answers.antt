@@ -3,7 +3,7 @@ use Rattle.std.proofs.Common.{refl, ◌∙◌, take, length, get_or, ◌<◌, �
 use Rattle.std.specs.Int.Count.{ones}
 use Rattle.std.proofs.lemmas.Iterator.{YieldsList-from_slice, YieldsList-from_map}
 use Rattle.std.proofs.lemmas.Iterator.Consumers.{sum_from_yields_List, fits_from_yields_list}
-use Rattle.search.specs.CheckRows.{ones_summed, ones_few}
+use Rattle.search.specs.Checks.Rows.{ones_summed, ones_few}
 use Rattle.search.proofs.record.required_edges.Goals as goal
 
 pub sum-requires-clause-fits : goal.sum-requires-clause-fits

@@ -1,7 +1,7 @@
 -- `all` asks of each word of both rows.
 use Rattle.std.proofs.Common.{◌≡◌, ℕ, ◌+◌, ◌-◌, ◌*◌, ◌^◌, ◌<◌, List, get_or, bit_and, refl, arith, rules, tests}
 use Rattle.std.proofs.lemmas.Iterator.{YieldsList-from_range, cases_from_all}
-use Rattle.search.specs.CheckLoops.{says_below}
+use Rattle.search.specs.Checks.Loops.{says_below}
 use Rattle.search.proofs.record.rows_fit.Goals as goal
 
 -- word k of both rows

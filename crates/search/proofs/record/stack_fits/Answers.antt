@@ -2,7 +2,7 @@
 use Rattle.std.proofs.Common.{refl, arith, rules, tests}
 use Rattle.std.proofs.lemmas.Iterator.{YieldsList-from_range, cases_from_all}
 use Rattle.search.specs.Canonical.{NodeFits}
-use Rattle.search.specs.CheckLoops.{says_below}
+use Rattle.search.specs.Checks.Loops.{says_below}
 use Rattle.search.proofs.record.stack_fits.Goals as goal
 
 pub returns-clause-fits : goal.returns-clause-fits

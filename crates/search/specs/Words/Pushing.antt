@@ -10,7 +10,7 @@ use Rattle.mark_rows.specs.MarkRows.{node_words, rows_of}
 use Rattle.mark_rows.proofs.Building.{no_bits}
 use Rattle.node.specs.Opened.{places}
 use Rattle.search.specs.Record.{max_nodes, stack_size, carried_size, rows_at, multipliers_at, no_node, node_at, cell, cells, word_at, multiplier_at, stack_words, carried_of}
-use Rattle.search.specs.Cells.{Layout, rows_places, carried_places, cell-top, cell_lower, cell_none, cells_at, cells-size, cells_is, rows_there, top_node}
+use Rattle.search.specs.Words.Cells.{Layout, rows_places, carried_places, cell-top, cell_lower, cell_none, cells_at, cells-size, cells_is, rows_there, top_node}
 
 -- ---- the places of one node
 

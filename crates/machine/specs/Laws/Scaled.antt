@@ -13,7 +13,7 @@ use Rattle.tree_theory.specs.Scaled.{scaled_by}
 use Rattle.tree_theory.specs.Scaling.{valid_scaled}
 use Rattle.tours.specs.Tours.{Tour, cost}
 use Rattle.tours.specs.TourTree.{bound_is_cost}
-use Rattle.machine.specs.NodeTours.{tour_other}
+use Rattle.machine.specs.Laws.NodeTours.{tour_other}
 
 module _ (q : ℕ) (g : Network) where
   pub tour_scaled : (t : Edges) → Tour (scaled_by q g) t ↔ Tour g t

@@ -4,7 +4,7 @@ use Rattle.std.proofs.Common.{sym, ◌∙◌, subst, arith, lt-ltb, le-ltb}
 use Rattle.std.proofs.Math.Decide.{dec_le}
 use Rattle.graph.specs.Limits.{max_vertices}
 use Rattle.search.specs.Record.{max_nodes, carried_size, multipliers_at}
-use Rattle.search.specs.Cells.{carried_places, each-place, multipliers_at_lem}
+use Rattle.search.specs.Words.Cells.{carried_places, each-place, multipliers_at_lem}
 use Rattle.search.specs.Canonical.{Zeros, used_in, CarriedTidy}
 
 -- as many nodes are in use as the depth says, or all

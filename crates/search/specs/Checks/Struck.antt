@@ -19,7 +19,7 @@ use Rattle.mark_rows.specs.MarkRows.{row_words, node_words, mark_bits, rows_of, 
 use Rattle.mark_rows.specs.TwoRows.{excluded_row-at}
 use Rattle.mark_rows.specs.SixWords.{excluded_bit, excluded_of, rows_small, mark_bits_lem}
 use Rattle.search.specs.Record.{rows_at, marks_at}
-use Rattle.search.specs.Cells.{rows_at-size, rows_at_lem}
+use Rattle.search.specs.Words.Cells.{rows_at-size, rows_at_lem}
 use Rattle.search.specs.Canonical.{StackStruck}
 use Rattle.search.specs.Inverse.{Words}
 

@@ -17,9 +17,9 @@ use Rattle.bits.specs.Rows.{row_ones}
 use Rattle.mark_rows.specs.MarkRows.{row_words, node_words, required_in, marks_in_rows, SixWords, RowsFit}
 use Rattle.mark_rows.specs.SixWords.{WordsFit, words-fit, requireds_rows}
 use Rattle.search.specs.Record.{rows_at, marks_at}
-use Rattle.search.specs.Cells.{rows_at-size}
+use Rattle.search.specs.Words.Cells.{rows_at-size}
 use Rattle.search.specs.Canonical.{NodeFits}
-use Rattle.search.specs.CheckLoops.{says-le, says_eq}
+use Rattle.search.specs.Checks.Loops.{says-le, says_eq}
 
 -- ---- a word whose bits from bit n on are clear
 

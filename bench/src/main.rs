@@ -26,6 +26,14 @@ use measure::{Plan, Sides};
 
 const NONE: Sides<bool> = Sides::all(false);
 
+const USAGE: &str = "options: --quick shorter; --only ours, --only forms or --only reference; --case TEXT lines whose name has the text;
+--repeat N exactly N repeats; --agree alone only compares what the sides answer";
+
+fn refuse(why: &str) -> ! {
+    eprintln!("planner-bench: {why}\n{USAGE}");
+    std::process::exit(2)
+}
+
 fn options() -> Options {
     let mut options = Options {
         plan: Plan {
@@ -41,12 +49,16 @@ fn options() -> Options {
         let mut value = || {
             arguments
                 .next()
-                .unwrap_or_else(|| panic!("{argument} wants a value"))
+                .unwrap_or_else(|| refuse(&format!("{argument} wants a value")))
         };
         match argument.as_str() {
             "--quick" => (options.quick, options.plan.seconds) = (true, 0.02),
             "--case" => options.case = value(),
-            "--repeat" => options.plan.repeats = value().parse().expect("a number of repeats"),
+            "--repeat" => {
+                options.plan.repeats = value()
+                    .parse()
+                    .unwrap_or_else(|_| refuse("--repeat wants a number"))
+            }
             "--only" => match value().as_str() {
                 "ours" => options.plan.wanted = Sides { ours: true, ..NONE },
                 "forms" => {
@@ -56,9 +68,15 @@ fn options() -> Options {
                     }
                 }
                 "reference" => options.plan.wanted = Sides { free: true, ..NONE },
-                other => panic!("--only ours, forms or reference, not {other}"),
+                other => refuse(&format!(
+                    "--only wants ours, forms or reference, and not {other}"
+                )),
             },
-            _ => panic!("no such option: {argument}"),
+            "--help" => {
+                println!("{USAGE}");
+                std::process::exit(0)
+            }
+            _ => refuse(&format!("there is no option {argument}")),
         }
     }
     options

@@ -219,7 +219,7 @@ pub three_bytes : calls_ashore (0 ∷ 0 ∷ 0 ∷ []) zeros₄ (pos 9) ≡ refus
 unfolding calls_ashore zeros₄
 three_bytes = refl
 
-pub due_as_sent : calls_ashore (0 ∷ 0 ∷ 0 ∷ 1 ∷ []) (pos 0 ∷ pos 0 ∷ pos 0 ∷ pos 1000001 ∷ []) (pos 9)
+pub multipliers_as_sent : calls_ashore (0 ∷ 0 ∷ 0 ∷ 1 ∷ []) (pos 0 ∷ pos 0 ∷ pos 0 ∷ pos 1000001 ∷ []) (pos 9)
     ≡ refused 12 0 ∷ refused 20 0 ∷ refused 20 0 ∷ []
 unfolding calls_ashore
-due_as_sent = refl
+multipliers_as_sent = refl

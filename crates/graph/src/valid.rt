@@ -1,4 +1,5 @@
-// Refusal 15: 'Legs and marks'. Each pair of ends has a place in one table, so that three passes over the edges are the whole check.
+// Refusal 15: 'Legs and marks'. Three passes over the edges are the whole check where they stand row by row; else a fourth goes by one table, in which each
+// pair of ends has a place.
 ghost use Rattle.std.specs.Prelude.{◌≡◌, ◌≤◌, ◌&&◌, IfOk, leb, min};
 ghost use Rattle.lists.specs.Bools.{Says};
 ghost use Rattle.lists.specs.Hits.{Nowhere};

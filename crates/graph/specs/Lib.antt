@@ -15,6 +15,8 @@ pub mod Numbered
 pub mod Meaning
 pub mod Places
 pub mod Parts
+-- a graph made of lent parts
+pub mod Made
 -- the check's loops, and its table of pairs
 pub mod PairTable
 pub mod Pigeonhole

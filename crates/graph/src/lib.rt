@@ -10,7 +10,7 @@ mod refusals;
 mod valid;
 
 pub use refusals::{Refusal, Refused};
-pub use valid::{cost_ok, ends_ok};
+pub use valid::{check_parts, cost_ok, ends_ok};
 
 // Limits. The definitions in specs/Limits.antt state them; every size fact is a law over those.
 pub const MIN_VERTICES: usize = 3;
@@ -88,4 +88,15 @@ impl Graph {
 pub struct ValidGraph<'a> {
     pub graph: &'a Graph,
     pub ghost valid: { Valid graph.now },
+}
+
+// The parts of a graph, lent one by one, for code that keeps no `Graph`: with any number of vertices and edges, a byte or not.
+#[derive(Clone, Copy)]
+pub struct GraphParts<'a> {
+    pub n: usize,
+    pub m: usize,
+    pub a: &'a [u8; MAX_EDGES],
+    pub b: &'a [u8; MAX_EDGES],
+    pub cost: &'a [i32; MAX_EDGES],
+    pub mark: &'a [u8; MAX_EDGES],
 }

@@ -5,15 +5,16 @@ ghost use Rattle.lists.specs.Bools.{Says};
 ghost use Rattle.lists.specs.Hits.{Nowhere};
 ghost use Rattle.integers.specs.Range.{within};
 ghost use Rattle.graph.specs.Limits.{max_edges, max_cost, max_mark};
-ghost use Rattle.graph.specs.Valid.{ends_ok, graph_fault, valid};
+ghost use Rattle.graph.specs.Valid.{ends_ok, graph_of, graph_fault, valid};
+ghost use Rattle.graph.specs.Made.{MadeOf};
 ghost use Rattle.graph.specs.Refusals.{fault_of};
 ghost use Rattle.graph.specs.PairTable.{place_of};
 ghost use Rattle.graph.specs.CheckLoop.{sized, ends_fit, costs_fit, parts_fit, pair_again, InPairs};
 ghost use Rattle.graph.specs.Rising.{before, pairs_rise};
 
 use crate::{
-    EXCLUDED, Graph, MAX_COST, MAX_EDGES, MAX_VERTICES, MIN_VERTICES, Refusal, VERTEX_PLACES,
-    ValidGraph,
+    EXCLUDED, Graph, GraphParts, MAX_COST, MAX_EDGES, MAX_VERTICES, MIN_VERTICES, Refusal,
+    VERTEX_PLACES, ValidGraph,
 };
 
 // The table of pairs has a row for each first end, and in it a place for each second end.
@@ -171,4 +172,47 @@ impl Graph {
         self.fault()?;
         Ok(ValidGraph { graph: self })
     }
+}
+
+impl GraphParts<'_> {
+    // The graph that has these parts, or refusal 15 where n or m is no byte: parts with so many vertices or edges break 'Legs and marks'.
+    // Ruled out: n or m cut to a byte; another refusal than 15.
+    pub fn graph(&self) -> Result<Graph, Refusal>
+        ensures { MadeOf (graph_of self.now.n self.now.m self.now.a.now self.now.b.now self.now.cost.now self.now.mark.now) result }
+    {
+        let (Ok(n), Ok(m)) = (u8::try_from(self.n), u8::try_from(self.m)) else {
+            return Err(Refusal::Graph);
+        };
+        Ok(Graph {
+            cost: *self.cost,
+            a: *self.a,
+            b: *self.b,
+            mark: *self.mark,
+            n,
+            m,
+        })
+    }
+}
+
+// Do these parts of a graph keep to 'Legs and marks'? What stands past m counts for nothing.
+// Ruled out: yes for a graph that has a pair twice, however far apart, or whose n is 256 more than it may be; no for one with the full 190 edges.
+pub fn check_parts<'a>(
+    n: usize,
+    m: usize,
+    a: &'a [u8; MAX_EDGES],
+    b: &'a [u8; MAX_EDGES],
+    cost: &'a [i32; MAX_EDGES],
+    mark: &'a [u8; MAX_EDGES],
+) -> bool
+    ensures { result ≡ valid (graph_of n m a.now b.now cost.now mark.now) }
+{
+    let parts = GraphParts {
+        n,
+        m,
+        a,
+        b,
+        cost,
+        mark,
+    };
+    parts.graph().is_ok_and(|g| g.check())
 }

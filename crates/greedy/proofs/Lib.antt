@@ -11,4 +11,4 @@ pub mod Completed
 -- faults, one after the other
 pub mod Faults
 -- laws that no proof cites today
-mod Further
+pub mod Further

@@ -27,6 +27,9 @@ pub const MAX_CEILING: i64 = 5_000_000_000;
 
 pub const MAX_DENOMINATOR: u64 = 1_000;
 
+// A label for each vertex, which number from 1.
+pub const MAX_LABELS: usize = VERTEX_PLACES;
+
 // How large q times a cost gets, whatever the denominator q.
 pub const MAX_SCALED: u64 = MAX_DENOMINATOR * MAX_COST as u64;
 

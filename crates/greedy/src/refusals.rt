@@ -7,7 +7,7 @@ ghost use Rattle.graph.specs.Refusals.{fault_of};
 ghost use Rattle.tree_theory.specs.Inputs.{multipliers_fit, ceiling_fits, denominator_fits, denominator_fault, input_fault};
 
 use crate::{MAX_CEILING, MAX_DENOMINATOR, MAX_MULTIPLIER};
-use graph::{Graph, Refusal};
+use graph::{Graph, MAX_VERTICES, Refusal};
 
 // A line of its own, and so is the ceiling's, since their types differ: at graph's `cost_ok` stands why.
 #[tactic(auto, using(crate::proofs::Contains::within_contains))]
@@ -17,10 +17,13 @@ fn multiplier_fits(x: i32) -> bool
     (-MAX_MULTIPLIER..=MAX_MULTIPLIER).contains(&x)
 }
 
-// By `&`, as graph's `costs_fit`.
+// By `&`, as graph's `costs_fit`; but a list that is longer than any graph's is looked at no further than the first that does not fit.
 fn all_fit(multipliers: &[i32]) -> bool
     ensures { result ≡ all_within max_multiplier multipliers.now }
 {
+    if multipliers.len() > MAX_VERTICES {
+        return multipliers.iter().all(|x| multiplier_fits(*x));
+    }
     multipliers
         .iter()
         .fold(true, |fit, x| fit & multiplier_fits(*x))

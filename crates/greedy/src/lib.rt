@@ -84,6 +84,8 @@ pub(crate) struct Outcome {
 
 // The first fault of a graph, its multipliers and a denominator; or else the least 1-tree by the greedy choice, from any hint.
 // Ruled out: a byte of the lists changed where there is a fault; 32 where the multipliers are at fault.
+// Inlined, as `Checked::least`, so that a caller that has just made its lists blank has them blanked once.
+#[inline(always)]
 pub fn least(
     g: &Graph,
     multipliers: &[i32],

@@ -27,3 +27,8 @@ module _ (g : Graph) (d : List ℤ) (lent left : ℕ) where
   pub fault_next : input_fault g d lent 0 ≡ 0 → input_fault g d lent left ≡ left
   unfolding input_fault
   fault_next h = next_of (valid g) (eqb (length d) g.n && eqb lent g.m) (multipliers_fit d) left 0 (sym h) refl
+
+  -- parts that are no graph's
+  pub fault_graph : valid g ≡ false → input_fault g d lent left ≡ 15
+  unfolding input_fault
+  fault_graph e = rw e

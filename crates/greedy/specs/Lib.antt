@@ -3,6 +3,7 @@
 pub mod Hint
 pub mod Charged
 pub mod Least
+pub mod LeastParts
 -- What follows is proved, or says what code knows.
 -- how large the numbers get: laws over the limits
 pub mod Fits

@@ -10,11 +10,13 @@ mod checked;
 mod fronts;
 mod kruskal;
 mod order;
+mod parts;
 mod refusals;
 mod sort;
 
 pub use checked::Checked;
 use graph::{Graph, MAX_COST, MAX_EDGES, Refusal, VERTEX_PLACES};
+pub use parts::least_parts;
 pub use refusals::{
     Denominator, ceiling_fault, ceiling_fits, denominator_fault, denominator_fits, input_fault,
     multipliers_fault, multipliers_fit,

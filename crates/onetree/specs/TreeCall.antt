@@ -1,7 +1,7 @@
 -- From what code knows to what the tree call promises: its reply and lent list in each of its cases. Assumes nothing.
-use Rattle.std.specs.Prelude.{◌≡◌, refl, ◌≢◌, ◌⊎◌, List, ℕ, zero, suc, ◌<◌, ◌≤◌, get_or, take, eqb, ℤ}
+use Rattle.std.specs.Prelude.{◌≡◌, refl, ◌≢◌, ◌⊎◌, Bool, true, false, not, cond, ◌&&◌, List, ℕ, zero, suc, ◌<◌, ◌≤◌, get_or, take, eqb, ℤ}
 use Rattle.std.proofs.lemmas.List.{get_or-take, length-take-le}
-use Rattle.std.proofs.Common.{◌∙◌, ap, inl, inr}
+use Rattle.std.proofs.Common.{◌∙◌, ap, inl, inr, ne_eqb}
 use Rattle.std.proofs.Math.Path.{sym}
 use Rattle.std.proofs.Math.ListN.{length}
 use Rattle.lists.specs.Bools.{bit}
@@ -9,19 +9,19 @@ use Rattle.lists.specs.Members.{◌∈◌}
 use Rattle.lists.specs.Numbers.{up_to}
 use Rattle.lists.specs.Rows.{row, row_same, row_is}
 use Rattle.graph.specs.declared.Graph.{Graph}
+use Rattle.graph.specs.declared.refusals.Refusal.{Refusal}
+use Rattle.graph.specs.Meaning.{true_valid, graph_fine, graph_refused}
 use Rattle.graph.specs.Network.{network}
-use Rattle.tree_theory.specs.OneTree.{Edges, bound}
+use Rattle.graph.specs.Refusals.{number}
+use Rattle.graph.specs.Valid.{graph_fault}
+use Rattle.tree_theory.specs.OneTree.{Edges, OneTree, Least, bound}
 use Rattle.tree_theory.specs.Scaled.{scaled_by}
-use Rattle.tree_theory.specs.Inputs.{multiplier, denominator_fault, input_fault}
+use Rattle.tree_theory.specs.Inputs.{multiplier, multipliers_fit, denominator_fault, input_fault}
 use Rattle.tree_theory.specs.Enumeration.{Tree, no_tree, a_tree, least_tree}
 use Rattle.tree_theory.specs.LeastTree.{tree_found, tree_missing}
 use Rattle.onetree.specs.Answers.{Reply, refused, none, bounded, tree_fault, tree_reply, tree_leaves, tree_says, tree_writes, unless_fault, leaves}
 use Rattle.tree_theory.specs.Arrays.{entry, bytes, in_edge}
 use Rattle.tree_theory.specs.Accepted.{no_fault}
-use Rattle.greedy.proofs.Faults.{fault_first, fault_next}
-use Rattle.greedy.specs.declared.Lists.{Lists}
-use Rattle.greedy.specs.declared.Found.{Found}
-use Rattle.greedy.specs.Least.{TreeFound, NoTree}
 
 -- ---- the calls' answers, by the fault
 
@@ -33,14 +33,23 @@ pub fault-leaves : (f : ℕ) (out after : List ℕ) → f ≢ 0 → leaves f out
 fault-leaves zero out after n = absurd (n refl)
 fault-leaves (suc f) out after n = refl
 
--- a fault of the graph or its multipliers is the first; without one the tree call's is the denominator's
-pub tree_first : (g : Graph) (d : List ℤ) (den len n : ℕ) → n ≡ input_fault g d len 0 → 1 ≤ n → n ≡ tree_fault g d den len
-unfolding tree_fault
-tree_first g d den len n h p = fault_first g d len _ n h p
+-- the graph's fault comes before that of a lent list's length, and this before all others
+pub graph_first : (g : Graph) (d : List ℤ) (den len : ℕ) (r : Refusal) → number r ≡ graph_fault g → number r ≡ tree_fault g d den len
+unfolding tree_fault input_fault
+graph_first g d den len r h = let e = graph_refused g r h in rw (e.0, e.1) refl
 
-pub tree_next : (g : Graph) (d : List ℤ) (den len n : ℕ) → n ≡ denominator_fault den → 0 ≡ input_fault g d len 0 → n ≡ tree_fault g d den len
+pub length_first : (g : Graph) (d : List ℤ) (den len : ℕ) → 0 ≡ graph_fault g → len ≢ g.m → 11 ≡ tree_fault g d den len
+unfolding tree_fault input_fault
+length_first g d den len h n = rw (true_valid g (graph_fine g (sym h)), ne_eqb len g.m n) (wrong (eqb (length d) g.n))
+  where
+    wrong : (b : Bool) → 11 ≡ cond (not (b && false)) 11 (cond (not (multipliers_fit d)) 12 (denominator_fault den))
+    wrong true = refl
+    wrong false = refl
+
+-- where it is right, the fault is that of what else is taken
+pub tree_else : (g : Graph) (d : List ℤ) (den len n : ℕ) → len ≡ g.m → n ≡ input_fault g d g.m (denominator_fault den) → n ≡ tree_fault g d den len
 unfolding tree_fault
-tree_next g d den len n h e = h ∙ sym (fault_next g d len _ (sym e))
+tree_else g d den len n l h = rw l h
 
 -- the first bytes of a list are what stands there
 pub row_front : (l : List ℕ) (n : ℕ) → n ≤ length l → take n l ≡ row n (entry l)
@@ -76,24 +85,28 @@ module _ (g : Graph) (d : List ℤ) (den : ℕ) (out : List ℕ) where
   unfolding tree_reply tree_leaves
   by_tree t e h = record { reply = rw (e, h); left = rw (e, h) }
 
-  module _ (e : tree_fault g d den (length out) ≡ 0) (after : Lists) where
-    pub tree_none : NoTree den g d after → TreeCall g d den out none out
-    tree_none n = by_tree no_tree e (tree_missing (scaled_by den (network g)) (multiplier d) n.none)
+  module _ (e : tree_fault g d den (length out) ≡ 0) where
+    -- there is no 1-tree
+    pub tree_none : ((t : Edges) → ¬ OneTree (scaled_by den (network g)) t) → TreeCall g d den out none out
+    tree_none n = by_tree no_tree e (tree_missing (scaled_by den (network g)) (multiplier d) n)
 
-    pub tree_some : (r : Found) → TreeFound den g d r after → TreeCall g d den out (bounded r.bound) (row (length out) (entry after.tree))
-    unfolding tree_fault
-    tree_some r f = go (tree_found (scaled_by den (network g)) (multiplier d) (bytes after.tree) f.least)
-      where
-        lent : length out ≡ g.m
-        lent = (no_fault g d (length out) (denominator_fault den) e).0.lent
+    -- b is the bound of the least one, and w are its bytes
+    module _ (b : ℤ) (w : List ℕ) (least : Least (scaled_by den (network g)) (multiplier d) (bytes w))
+        (bound_is : b ≡ bound (scaled_by den (network g)) (multiplier d) (bytes w)) (bits : (k : ℕ) → (get_or w k 0 ≡ 0) ⊎ (get_or w k 0 ≡ 1)) where
+      pub tree_some : TreeCall g d den out (bounded b) (row (length out) (entry w))
+      unfolding tree_fault
+      tree_some = go (tree_found (scaled_by den (network g)) (multiplier d) (bytes w) least)
+        where
+          lent : length out ≡ g.m
+          lent = (no_fault g d (length out) (denominator_fault den) e).0.lent
 
-        go : (x : Edges) × (least_tree (scaled_by den (network g)) (multiplier d) ≡ a_tree (bound (scaled_by den (network g)) (multiplier d) (bytes after.tree)) x)
-            × ((k : ℕ) → k ∈ up_to (network g).m → x k ≡ bytes after.tree k)
-            → TreeCall g d den out (bounded r.bound) (row (length out) (entry after.tree))
-        go x = rw (f.bound_is, same) (by_tree (a_tree (bound (scaled_by den (network g)) (multiplier d) (bytes after.tree)) x.0) e x.1)
-          where
-            at : (j : ℕ) → j < g.m → get_or after.tree j 0 ≡ bit (x.0 (suc j))
-            at j l = byte_is (get_or after.tree j 0) (f.bits j) ∙ ap bit (sym (x.2 (suc j) (in_edge g j l)))
+          go : (x : Edges) × (least_tree (scaled_by den (network g)) (multiplier d) ≡ a_tree (bound (scaled_by den (network g)) (multiplier d) (bytes w)) x)
+              × ((k : ℕ) → k ∈ up_to (network g).m → x k ≡ bytes w k)
+              → TreeCall g d den out (bounded b) (row (length out) (entry w))
+          go x = rw (bound_is, same) (by_tree (a_tree (bound (scaled_by den (network g)) (multiplier d) (bytes w)) x.0) e x.1)
+            where
+              at : (j : ℕ) → j < g.m → get_or w j 0 ≡ bit (x.0 (suc j))
+              at j l = byte_is (get_or w j 0) (bits j) ∙ ap bit (sym (x.2 (suc j) (in_edge g j l)))
 
-            same : row (length out) (entry after.tree) ≡ row g.m (λ k. bit (x.0 k))
-            same = rw lent (row_same g.m (entry after.tree) (λ k. bit (x.0 k)) at)
+              same : row (length out) (entry w) ≡ row g.m (λ k. bit (x.0 k))
+              same = rw lent (row_same g.m (entry w) (λ k. bit (x.0 k)) at)

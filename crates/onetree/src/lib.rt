@@ -18,7 +18,6 @@ mod sides;
 
 pub use degrees::count_degrees;
 use graph::{Graph, MAX_EDGES, Refusal};
-use greedy::{Checked, Denominator};
 pub use greedy::{
     Found, Lists, MAX_CEILING, MAX_DENOMINATOR, MAX_MULTIPLIER, ceiling_fault, ceiling_fits,
     denominator_fault, denominator_fits, input_fault, multipliers_fault, multipliers_fit,
@@ -57,10 +56,13 @@ pub fn tree(
     ensures reply { meaning result ≡ tree_reply g.now multipliers.now denominator (length out.old) }
     ensures left { out.new ≡ tree_leaves g.now multipliers.now denominator out.old }
 {
-    let checked = Checked::new(g, multipliers, out.len())?;
-    let q = Denominator::new(denominator)?;
+    // the refusals' order: 15 before 11, which `least` tells of the multipliers
+    if out.len() != usize::from(g.m) {
+        g.fault()?;
+        return Err(Refusal::Length);
+    }
     let mut lists = Lists::blank();
-    let Some(found) = checked.least(q, &[], &mut lists) else {
+    let Some(found) = greedy::least(g, multipliers, denominator, &[], &mut lists)? else {
         return Ok(None);
     };
     out.copy_from_slice(&lists.tree[..out.len()]);

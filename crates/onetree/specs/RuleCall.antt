@@ -1,22 +1,28 @@
 -- From what code knows to what the rule call and the combined pass promise: their replies and lists in each case. Assumes nothing.
-use Rattle.std.specs.Prelude.{◌≡◌, refl, ◌≢◌, Bool, false, not, cond, List, ℕ, suc, ◌<◌, ◌≤◌, length, get_or, leb, ℤ}
-use Rattle.std.proofs.Common.{◌∙◌, arith, le-leb}
+use Rattle.std.specs.Prelude.{◌≡◌, refl, ◌≢◌, Bool, false, not, cond, List, ℕ, zero, suc, ◌<◌, ◌≤◌, length, get_or, leb, ℤ, Option, None, Some, Result, Ok, Err}
+use Rattle.std.specs.Int.Signed.{lt_z}
+use Rattle.std.proofs.Common.{◌∙◌, ap, arith, le-leb}
 use Rattle.std.proofs.Math.Path.{sym}
 use Rattle.std.proofs.Math.Decide.{dec_le}
 use Rattle.std.proofs.lemmas.Bool.{lt-leb}
-use Rattle.lists.specs.Bools.{bit}
-use Rattle.lists.specs.Rows.{row, row_same, row_is}
+use Rattle.std.proofs.lemmas.List.{length-replicate}
+use Rattle.lists.specs.Bools.{bit, by_cases}
+use Rattle.lists.specs.Rows.{row, row-size, row_same, row_is}
 use Rattle.integers.specs.Multiples.{◌times◌}
 use Rattle.integers.specs.Range.{InRange, within, within_range}
 use Rattle.graph.specs.declared.Graph.{Graph}
+use Rattle.graph.specs.declared.refusals.Refusal.{Refusal}
 use Rattle.graph.specs.Limits.{max_edges, max_ceiling, max_denominator}
 use Rattle.graph.specs.Network.{network}
+use Rattle.graph.specs.Refusals.{number, fault_of}
+use Rattle.graph.specs.Valid.{valid}
 use Rattle.tree_theory.specs.OneTree.{Edges}
 use Rattle.tree_theory.specs.Scaled.{scaled_by}
 use Rattle.tree_theory.specs.Inputs.{multiplier, ceiling_fits, denominator_fault, input_fault}
 use Rattle.tree_theory.specs.Enumeration.{Tree, no_tree, a_tree, least_tree, Ruling, ruling}
 use Rattle.lifting.specs.Lifted.{ruling_with}
-use Rattle.onetree.specs.Answers.{Reply, refused, none, bounded, rule_fault, rule_reply, rule_leaves, rule_says, rule_writes, ruling_byte, padded, pass_writes, pass_tree, pass_rulings}
+use Rattle.greedy.specs.declared.Found.{Found}
+use Rattle.onetree.specs.Answers.{Reply, refused, none, bounded, pass_meaning, unless_fault, rule_fault, rule_reply, rule_leaves, rule_says, rule_writes, ruling_byte, padded, pass_writes, pass_tree, pass_rulings}
 use Rattle.tree_theory.specs.Arrays.{blank, entry}
 use Rattle.tree_theory.specs.Accepted.{Accepted, passed, no_fault, denominator_range}
 use Rattle.greedy.proofs.Faults.{fault_first, fault_next}
@@ -132,3 +138,50 @@ module _ (g : Graph) (d : List ℤ) (ceiling : ℤ) (den : ℕ) (lifting : Bool)
       ruled = rw (e, h.least, h.under) (padded_is g.m (λ k. ruling_byte (ruling_with lifting (scaled_by den (network g)) (multiplier d) (den times ceiling) k)) rulings
           h.long.1 h.ruled (λ k l. (h.past k l).1));
     }
+
+-- ---- a pass over lists made for it: its answer tells whether it is refused, and where it is not, what stood in the lists counts for nothing
+
+abbrev told : Reply → ℕ
+told (refused n place) = n
+told none = 0
+told (bounded b) = 0
+
+told_fault : (f : ℕ) (ceiling : ℤ) (t : Tree) → told (unless_fault f (rule_says ceiling t)) ≡ f
+told_fault zero ceiling no_tree = refl
+told_fault zero ceiling (a_tree b t) = by_cases (lt_z ceiling b) (λ e. rw e refl) (λ e. rw e refl)
+told_fault (suc f) ceiling t = refl
+
+told_pass : (r : Result (Option Found) Refusal) → fault_of r ≡ told (pass_meaning r)
+told_pass (Ok None) = refl
+told_pass (Ok (Some found)) = refl
+told_pass (Err r) = refl
+
+-- it writes a byte at each place
+writes_long : (m : ℕ) (ceiling : ℤ) (f : Edges → ℕ → ℕ) (t : Tree) → length (pass_writes m ceiling f t) ≡ max_edges
+unfolding padded
+writes_long m ceiling f no_tree = length-replicate {A = ℕ} max_edges 0
+writes_long m ceiling f (a_tree b t) =
+    by_cases (lt_z ceiling b) (λ e. rw e (length-replicate {A = ℕ} max_edges 0)) (λ e. rw e (row-size max_edges _))
+
+module _ (g : Graph) (d : List ℤ) (ceiling : ℤ) (den : ℕ) where
+  pub pass_tells : (r : Result (Option Found) Refusal) → pass_meaning r ≡ rule_reply g d ceiling den g.m → fault_of r ≡ rule_fault g d ceiling den g.m
+  unfolding rule_reply
+  pass_tells r h = told_pass r ∙ ap told h ∙ told_fault (rule_fault g d ceiling den g.m) _ (least_tree (scaled_by den (network g)) (multiplier d))
+
+  -- parts of which no graph can be made are refused as a graph that breaks 'Legs and marks'
+  pub parts_refused : (r : Refusal) → (number r ≡ 15) × (valid g ≡ false) → number r ≡ rule_fault g d ceiling den g.m
+  unfolding rule_fault input_fault
+  parts_refused r h = rw (h.0, h.1) refl
+
+  module _ (lifting : Bool) where
+    pub pass_whatever : (found : Option Found) → pass_meaning (Ok found) ≡ rule_reply g d ceiling den g.m → (t u s v : List ℕ)
+        → (pass_tree g d ceiling den t ≡ pass_tree g d ceiling den u) × (pass_rulings g d ceiling den lifting s ≡ pass_rulings g d ceiling den lifting v)
+    unfolding pass_tree pass_rulings
+    pass_whatever found h t u s v = let e = sym (pass_tells (Ok found) h) in (rw e refl, rw e refl)
+
+    pub rulings_long : (found : Option Found) → pass_meaning (Ok found) ≡ rule_reply g d ceiling den g.m → (s : List ℕ)
+        → length (pass_rulings g d ceiling den lifting s) ≡ max_edges
+    unfolding pass_rulings
+    rulings_long found h s =
+        rw (sym (pass_tells (Ok found) h))
+        (writes_long g.m (den times ceiling) _ (least_tree (scaled_by den (network g)) (multiplier d)))

@@ -2,7 +2,8 @@
 // many as the denominator says; ceilings are in minutes (document 02, C-17).
 #![tactic(auto)]
 
-ghost use Rattle.std.specs.Prelude.{◌≡◌, length};
+ghost use Rattle.std.specs.Prelude.{◌≡◌, false, length};
+ghost use Rattle.graph.specs.Valid.{graph_of};
 ghost use Rattle.greedy.specs.Least.{blank_lists};
 ghost use Rattle.onetree.specs.Answers.{all_keep, ruling_bytes, meaning, pass_meaning, HintAfter, WeighedAfter, tree_reply, tree_leaves};
 ghost use Rattle.onetree.specs.Answers.{rule_reply, rule_leaves, pass_tree, pass_rulings};
@@ -17,7 +18,7 @@ mod rulings;
 mod sides;
 
 pub use degrees::count_degrees;
-use graph::{Graph, MAX_EDGES, Refusal};
+use graph::{Graph, GraphParts, MAX_EDGES, Refusal};
 pub use greedy::{
     Found, Lists, MAX_CEILING, MAX_DENOMINATOR, MAX_MULTIPLIER, ceiling_fault, ceiling_fits,
     denominator_fault, denominator_fits, input_fault, multipliers_fault, multipliers_fit,
@@ -115,4 +116,45 @@ pub fn pass(
 {
     let capped = Capped::new(g, multipliers, ceiling, denominator, usize::from(g.m))?;
     Ok(capped.judge(lifting, hint, lists))
+}
+
+// What `pass` says without lifting, for code that keeps no `Graph` and no `PassLists`: of a graph's parts, with any n and m, into lists that are lent
+// one by one, the rulings as bytes, whatever stood there.
+// Ruled out: n or m cut to a byte; a byte of a list changed where there is a fault; rulings by lifting.
+pub fn pass_parts(
+    parts: &GraphParts<'_>,
+    multipliers: &[i32],
+    ceiling: i64,
+    denominator: u64,
+    hint: &[u8],
+    tree: &mut [u8; MAX_EDGES],
+    rulings: &mut [u8; MAX_EDGES],
+    order: &mut [u8; MAX_EDGES],
+) -> Result<Option<Found>, Refusal>
+    ensures reply { pass_meaning result
+        ≡ rule_reply (graph_of parts.now.n parts.now.m parts.now.a.now parts.now.b.now parts.now.cost.now parts.now.mark.now) multipliers.now ceiling
+        denominator parts.now.m }
+    ensures tree { tree.new
+        ≡ pass_tree (graph_of parts.now.n parts.now.m parts.now.a.now parts.now.b.now parts.now.cost.now parts.now.mark.now) multipliers.now ceiling
+        denominator tree.old }
+    ensures rulings { rulings.new
+        ≡ pass_rulings (graph_of parts.now.n parts.now.m parts.now.a.now parts.now.b.now parts.now.cost.now parts.now.mark.now) multipliers.now ceiling
+        denominator false rulings.old }
+    ensures hint { HintAfter result parts.now.mark.now parts.now.m order.old order.new }
+{
+    let g = parts.graph()?;
+    let mut lists = PassLists::blank();
+    let found = pass(
+        &g,
+        multipliers,
+        ceiling,
+        denominator,
+        false,
+        hint,
+        &mut lists,
+    )?;
+    *tree = lists.least.tree;
+    rulings::write(&lists.rulings, rulings);
+    *order = lists.least.order;
+    Ok(found)
 }

@@ -18,7 +18,7 @@ use node::{MAX_STEP, MAX_SWEEPS};
 use search::{Progress, Search};
 
 // As specs/Comparison.antt has it.
-const MAX_PAIRS: usize = 16;
+pub const MAX_PAIRS: usize = 16;
 
 // What all pairs have alike. The ceiling, the denominator and lifting stand in `Settings` too, since C has both structs.
 #[repr(C)]

@@ -18,7 +18,7 @@ use Rattle.simulation.specs.Steps.{cost_in}
 
 module _ (g : Graph) (ks : List ℕ) (student e len : ℕ) (f : Faultless g ks student e len) where
   -- each is one of the graph's
-  edge_inside : (i : ℕ) → i < length ks → (1 ≤ get_or ks i 0) × (get_or ks i 0 ≤ g.m)
+  pub edge_inside : (i : ℕ) → i < length ks → (1 ≤ get_or ks i 0) × (get_or ks i 0 ≤ g.m)
   unfolding network
   edge_inside i h =
       let order = test_order (network g) (network-valid g f.is_valid) ks f.in_order in
@@ -31,7 +31,7 @@ module _ (g : Graph) (ks : List ℕ) (student e len : ℕ) (f : Faultless g ks s
       let inside = edge_inside i h in
       subst (λ (x : ℕ). (network g).cost x ≡ cost_in g.cost k) (omega (arith, inside.0)) (network-cost g (k - 1) (omega (arith, inside.0, inside.1)))
 
-  cost-small : (i : ℕ) → i < length ks → InRange max_cost (cost_in g.cost (get_or ks i 0))
+  pub cost-small : (i : ℕ) → i < length ks → InRange max_cost (cost_in g.cost (get_or ks i 0))
   cost-small i h =
       let inside = edge_inside i h in
       within_range max_cost _ (f.is_valid.each (get_or ks i 0 - 1) (omega (arith, inside.0, inside.1))).range

@@ -1,18 +1,20 @@
--- Laws of loops over arrays that once stood in specs/Loops, before there was code: a table of sides, places in an array with their number beside it, and an edge's
--- ruling by arrays of numbers. The code has words of bits and lists in their place (crate onetree, specs/Masks, Picks, Lifts), and no proof of today's cites
--- these; they stand all the same. Assumes nothing.
-use Rattle.std.specs.Prelude.{◌≡◌, refl, Bool, true, false, cond, List, ℕ, suc, ◌+◌, ◌*◌, ◌-◌, ◌<◌, ◌≤◌, ℤ, length, get_or, set, replicate}
+-- Laws of loops over arrays that once stood in specs/Loops, before there was code: a table of sides, places in an array with their number beside it,
+-- steps up a tree, and an edge's ruling by arrays of numbers. The code has words of bits and lists in their place (crate onetree, specs/Masks, Picks,
+-- Lifts), and no proof of today's cites these; they stand all the same. Assumes nothing.
+use Rattle.std.specs.Prelude.{◌≡◌, ◌≢◌, refl, Bool, true, false, not, cond, List, ℕ, zero, suc, ◌+◌, ◌*◌, ◌-◌, ◌<◌, ◌≤◌, leb, ltb, ℤ, length, get_or, set, replicate}
 use Rattle.std.proofs.Math.Path.{sym}
-use Rattle.std.proofs.Common.{ap, ◌∙◌, true≢false, arith, length-set, get_or-set_same, get_or-set_other}
+use Rattle.std.proofs.Common.{ap, ◌∙◌, true≢false, arith, eq-eqb, ne_eqb, lt-ltb, le-ltb, le-leb, length-set, get_or-set_same, get_or-set_other}
 use Rattle.std.proofs.Math.Decide.{ℕ_discrete, dec_le}
+use Rattle.std.proofs.lemmas.Bool.{lt-leb}
 use Rattle.lists.specs.Fill.{replicate-at}
 use Rattle.lists.specs.FilledFrom.{Updated}
+use Rattle.swaps.specs.Hanging.{on_way}
 use Rattle.integers.specs.Range.{InRange}
 use Rattle.graph.specs.Limits.{max_multiplier}
 use Rattle.tree_theory.specs.Inputs.{multiplier}
 use Rattle.tree_theory.specs.Arrays.{entry}
 use Rattle.lifting.specs.Folds.{least_to}
-use Rattle.lifting.specs.Found.{top_of, place_of, top_at, cost_of, low_at}
+use Rattle.lifting.specs.Found.{top_of, place_of, top_at, cost_of, low_at, move_of, move_is}
 use Rattle.lifting.specs.Meeting.{on_in}
 use Rattle.lifting.specs.Verdict.{end_move, room_of, decides}
 
@@ -121,6 +123,32 @@ module _ (test : ℕ → Bool) (list : List ℕ) (n k : ℕ) (h : PlacesTo test 
       rising : (i j : ℕ) → i < j → j < n + 1 → Dec (j ≡ n) → get_or (set list n k) i 0 ≤ get_or (set list n k) j 0
       rising i j l m (yes q) = rw (q, new, old i (omega (arith, l, q))) (omega (arith, (h.each i (omega (arith, l, q))).0))
       rising i j l m (no q) = rw (old j (omega (arith, m, q)), old i (omega (arith, l, m, q))) (h.rising i j l (omega (arith, m, q)))
+
+-- ---- steps of small loops and tests
+
+pub way_here : (parent : ℕ → ℕ) (left v y : ℕ) → left ≢ 0 → y ≡ v → on_way parent left v y ≡ true
+unfolding on_way
+way_here parent zero v y n e = absurd (n refl)
+way_here parent (suc left) v y n e = rw (eq-eqb v y (sym e))
+
+pub way_next : (parent : ℕ → ℕ) (left v y : ℕ) → left ≢ 0 → y ≢ v → on_way parent left v y ≡ on_way parent (left - 1) v (parent y)
+unfolding on_way
+way_next parent zero v y n e = absurd (n refl)
+way_next parent (suc left) v y n e = let z : suc left - 1 ≡ left = omega arith in rw (z, ne_eqb v y (λ q. e (sym q)))
+
+pub way_none : (parent : ℕ → ℕ) (left v y : ℕ) → left ≡ 0 → on_way parent left v y ≡ false
+unfolding on_way
+way_none parent left v y e = rw e
+
+pub not-leb : (x y : ℕ) → ltb x y ≡ not (leb y x)
+not-leb x y = go (dec_le (suc x) y)
+  where
+    go : Dec (x < y) → ltb x y ≡ not (leb y x)
+    go (yes h) = rw (lt-ltb x y h, lt-leb y x h)
+    go (no h) = rw (le-ltb x y (omega arith), le-leb y x (omega arith))
+
+pub move_small : (j room low top at : ℕ) → move_of j room low top at ≤ room
+move_small j room low top at = (move_is j room low top at).0
 
 -- ---- costs and rulings, edge by edge
 

@@ -1,13 +1,14 @@
--- Laws that no proof cites today: what a place is seen to hold, as a number, and the test of all eight by such numbers; the first place after
--- another, step by step. Assumes nothing.
+-- Laws that no proof cites today: what a place is seen to hold, as a number, the test of all eight by such numbers, and the fault of a place by them;
+-- the first place after another, step by step. Assumes nothing.
 use Rattle.std.specs.Prelude.{◌≡◌, refl, Bool, true, false, not, cond, ◌&&◌, List, [], ◌∷◌, ℕ, zero, suc, ◌-◌, ◌≤◌, ◌<◌, eqb, leb, length, get_or, map}
-use Rattle.std.proofs.Common.{sym, ap, ◌∙◌, arith, ne_eqb}
+use Rattle.std.proofs.Common.{sym, ap, ◌∙◌, subst, arith, ne_eqb}
 use Rattle.std.specs.List.{list_all}
 use Rattle.lists.specs.All.{every_of}
 use Rattle.graph.specs.Network.{network}
 use Rattle.machine.specs.Outcomes.{Incumbent, no_tour, a_tour}
 use Rattle.machine.specs.Machine.{State, no_search, searching, finished}
 use Rattle.machine.specs.Calls.{tell, Answer, refused, accepted, runs, going_on, none, best, tells, verdict_of, verdict, step}
+use Rattle.lent_records.specs.Places.{is_name, name_range, under}
 use Rattle.dispatch_theory.specs.Dispatcher.{following, first_after}
 use Rattle.dispatch_theory.specs.Records.{check_all}
 use Rattle.search.specs.Record.{fresh, decode}
@@ -124,6 +125,47 @@ pub sound_is : (d : Dispatcher) (seen : List ℕ) → Surveyed d seen → sound 
 unfolding check_all
 sound_is d seen h =
     ap (λ (l : List ℕ). leb d.last 8 && every_of (λ x. not (eqb x 0)) l) h.each ∙ ap (λ (b : Bool). leb d.last 8 && b) (every_sound d.places)
+
+-- ---- the fault of a place to tell, show or close: 24, or one of 42 and 20
+
+-- is the place seen to hold this?
+abbrev pub is_at : List ℕ → ℕ → ℕ → Bool
+is_at seen wanted i = eqb (under 0 seen i) wanted
+
+abbrev pub place_fault_by : List ℕ → ℕ → ℕ
+place_fault_by seen i = cond (not (is_name i)) 42 (cond (is_at seen 1 i) 20 0)
+
+abbrev pub fault_by : ℕ → List ℕ → ℕ → ℕ
+fault_by last seen i = cond (not (sound last seen)) 24 (place_fault_by seen i)
+
+module _ (d : Dispatcher) (seen : List ℕ) where
+  pub by_fault : (P : ℕ → Type 0) (k f : ℕ) → f ≡ fault_by d.last seen k → ¬ (f ≡ 0) → (sound d.last seen ≡ false → P 24)
+      → (sound d.last seen ≡ true → (n : ℕ) → place_fault_by seen k ≡ suc n → P (suc n)) → P f
+  by_fault P k f g n broken at = go (sound d.last seen) refl
+    where
+      is : (b : Bool) → sound d.last seen ≡ b → f ≡ cond (not b) 24 (place_fault_by seen k)
+      is b e = g ∙ ap (λ (x : Bool). cond (not x) 24 (place_fault_by seen k)) e
+
+      by : sound d.last seen ≡ true → (x : ℕ) → f ≡ x → P f
+      by e zero q = absurd (n q)
+      by e (suc x) q = subst P (sym q) (at e x (sym (is true e) ∙ q))
+
+      go : (b : Bool) → sound d.last seen ≡ b → P f
+      go false e = subst P (sym (is false e)) (broken e)
+      go true e = by e f refl
+
+  pub no_fault : (k f : ℕ) → f ≡ fault_by d.last seen k → f ≡ 0
+      → (sound d.last seen ≡ true) × (place_fault_by seen k ≡ 0) × (1 ≤ k) × (k ≤ 8)
+  no_fault k f g n = go (sound d.last seen) refl (sym g ∙ n)
+    where
+      named : (b : Bool) → is_name k ≡ b → place_fault_by seen k ≡ 0 → (1 ≤ k) × (k ≤ 8)
+      named true i z = name_range k i
+      named false i z = absurd (let w : 42 ≡ 0 = (rw i at z) in omega arith)
+
+      go : (b : Bool) → sound d.last seen ≡ b → cond (not b) 24 (place_fault_by seen k) ≡ 0
+          → (b ≡ true) × (place_fault_by seen k ≡ 0) × (1 ≤ k) × (k ≤ 8)
+      go true e z = let r = named (is_name k) refl z in (refl, z, r.0, r.1)
+      go false e z = absurd (let w : 24 ≡ 0 = z in omega arith)
 
 -- ---- the first place that passes
 

@@ -1,4 +1,4 @@
 -- a reply in the parts in which a call gives it
 mod Parts
 -- laws that no proof cites today
-mod Further
+pub mod Further

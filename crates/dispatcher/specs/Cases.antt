@@ -112,7 +112,7 @@ module _ (d : Dispatcher) where
     unfolding reply records.reply
     reply_24 c = rw e
 
-    lent_24 : (i : ℕ) (l : List ℕ) → l ≡ lent d (show_at i l)
+    pub lent_24 : (i : ℕ) (l : List ℕ) → l ≡ lent d (show_at i l)
     unfolding lent lent_on theory.dispatch_given
     lent_24 i l = rw e
 
@@ -130,7 +130,7 @@ module _ (d : Dispatcher) (h : Laid d) (e : passes d ≡ true) where
   all_pass : AllPass check d.places
   all_pass = AllPass-from_list_all check d.places parts.1
 
-  place-passes : (i : ℕ) → i < 8 → check (under fresh d.places (suc i)) ≡ true
+  pub place-passes : (i : ℕ) → i < 8 → check (under fresh d.places (suc i)) ≡ true
   unfolding under
   place-passes i b = all_pass i fresh (omega (arith, h.eight))
 
@@ -427,7 +427,7 @@ module _ (d : Dispatcher) (h : Laid d) (e : passes d ≡ true) where
 -- ---- at a place, by its fault: 24, or one of 42 and 20
 
 module _ (d : Dispatcher) (h : Laid d) (k : ℕ) (r : Refusal) (g : number r ≡ held_fault d k) where
-  by_fault : (P : ℕ → Type 0) → (passes d ≡ false → P 24) → (passes d ≡ true → (m : ℕ) → held_fault d k ≡ suc m → P (suc m)) → P (number r)
+  pub by_fault : (P : ℕ → Type 0) → (passes d ≡ false → P 24) → (passes d ≡ true → (m : ℕ) → held_fault d k ≡ suc m → P (suc m)) → P (number r)
   by_fault P broken at =
       by_cases (passes d)
       (λ e. by (number r) g (positive r) (at e))

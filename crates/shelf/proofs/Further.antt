@@ -4,6 +4,7 @@ use Rattle.std.specs.Prelude.{◌≡◌, refl, Bool, true, false, not, cond, ◌
 use Rattle.std.specs.List.{list_all}
 use Rattle.std.proofs.Common.{sym, ap, ◌∙◌, arith, le-leb}
 use Rattle.std.proofs.lemmas.Bool.{lt-leb}
+use Rattle.std.proofs.lemmas.List.Sums.{AllPass-from_list_all}
 use Rattle.lists.specs.All.{every_of, every_is}
 use Rattle.lists.specs.Bools.{and_no_right}
 use Rattle.lent_records.specs.Places.{is_name, name_range, under, under_at, under-map}
@@ -196,3 +197,10 @@ pub place_at : (h : Shelf) (k : ℕ) → length h.places ≡ 8 → (1 ≤ k) × 
     → get_or h.places (k - 1) z ≡ under fresh h.places k
 place_at h zero long r z = absurd (omega (arith, r.0))
 place_at h (suc i) long r z = ap (λ (j : ℕ). get_or h.places j z) (omega arith) ∙ under_at z fresh h.places i (omega (arith, long, r.1))
+
+pub place-passes : (h : Shelf) (k : ℕ) → length h.places ≡ 8 → (1 ≤ k) × (k ≤ 8) → every_of check h.places ≡ true
+    → check (under fresh h.places k) ≡ true
+unfolding under
+place-passes h zero long r e = absurd (omega (arith, r.0))
+place-passes h (suc i) long r e =
+    AllPass-from_list_all check h.places (sym (every_is check h.places) ∙ e) i fresh (omega (arith, long, r.1))

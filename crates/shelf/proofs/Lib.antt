@@ -3,4 +3,4 @@ pub mod Theorem
 -- what of it can be said without document 01's machine
 pub mod Verdicts
 -- laws that no proof cites today
-mod Further
+pub mod Further

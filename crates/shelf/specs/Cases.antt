@@ -104,7 +104,7 @@ module _ (s : Search) (h : Shelf) (k : ℕ) where
           ∙ ap (λ (j : ℕ). decode (under fresh h.places j)) named
           ∙ ap decode (sym (under_at z fresh h.places i (omega (arith, long))))
 
-      place-passes : check there ≡ true
+      pub place-passes : check there ≡ true
       unfolding sound_both
       place-passes = AllPass-from_list_all check h.places (and_both (check s) (list_all check h.places) e).1 i z (omega (arith, long))
 

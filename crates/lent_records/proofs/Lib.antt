@@ -1,2 +1,2 @@
 -- laws that no proof cites today
-mod Further
+pub mod Further

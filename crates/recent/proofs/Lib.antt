@@ -2,4 +2,4 @@
 pub mod Exact
 pub mod Turn
 -- laws that no proof cites today
-mod Further
+pub mod Further

@@ -3,4 +3,4 @@ mod Ceiling
 mod Whole
 mod Zeros
 -- laws that no proof cites today
-mod Further
+pub mod Further

@@ -3,7 +3,7 @@
 #![tactic(auto)]
 
 ghost use Rattle.std.specs.Prelude.{◌≡◌};
-ghost use Rattle.graph.specs.Refusals.{number};
+ghost use Rattle.graph.specs.Refusals.{number, fault_of};
 ghost use Rattle.search.specs.Replies.{means};
 ghost use Rattle.search_records.specs.Seen.{any_broken};
 ghost use Rattle.lent_records.specs.Places.{AtPlace};
@@ -59,6 +59,15 @@ impl Shelf {
     {
         Refusal::NotOpen.unless(self.tested(s)? != State::Empty)?;
         place_of(name).ok_or(Refusal::Name)
+    }
+
+    // What a save would be refused, if anything; nothing is saved.
+    // Ruled out: 33 where no search is open; no refusal where a place fails its check.
+    pub fn save_fault(&self, s: &Search, name: usize) -> Result<(), Refusal>
+        ensures { fault_of result ≡ save_number s.now self.now name }
+    {
+        self.place_to_save(s, name)?;
+        Ok(())
     }
 
     // Where the search under a name is brought back from, or why none is.

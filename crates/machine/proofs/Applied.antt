@@ -1,24 +1,27 @@
 -- THE RULINGS OF A PASS, lifted or not, lose no tour within the upper bound, bring in none, free no edge and leave every required one so; and the
 -- pass's own tree agrees with them. For a tour's bound is its cost under any multipliers, and lifting bars only outside that tree and forces only in it.
--- Assumes nothing.
+-- Without lifting every 1-tree within the bound agrees. Assumes nothing.
 use Rattle.std.specs.Prelude.{◌≡◌, Bool, ◌∷◌, length, ℤ, ◌≤ℤ◌}
 use Rattle.std.proofs.Math.Path.{refl, ap, subst}
 use Rattle.std.proofs.Common.{sym, ◌∙◌}
 use Rattle.std.proofs.Math.Bool.{true, false}
 use Prim.Native.Nat.{ℕ, suc, ◌≤◌, ◌<◌}
 use Rattle.std.proofs.Math.ListN.{get_or}
+use Rattle.lists.specs.Bools.{by_cases}
 use Rattle.lists.specs.Members.{◌∈◌}
 use Rattle.lists.specs.Numbers.{up_to}
 use Rattle.lists.specs.Rows.{row_at}
+use Rattle.integers.specs.Order.{le_lt_clash}
 use Rattle.graph.specs.Network.{Network, Mark, free, required, excluded}
-use Rattle.tree_theory.specs.OneTree.{Edges}
-use Rattle.tree_theory.specs.Enumeration.{a_tree, least_tree, Ruling, forces, bars, ruled}
+use Rattle.tree_theory.specs.OneTree.{Edges, OneTree, bound, Barred, Forced}
+use Rattle.tree_theory.specs.Enumeration.{a_tree, least_tree, barred_b, forced_b, Ruling, forces, bars, ruled, ruling}
+use Rattle.tree_theory.specs.Decide.{barred_test, forced_test}
 use Rattle.tree_theory.specs.LeastTree.{Right, tree_right}
 use Rattle.tree_theory.specs.Valid.{Valid}
 use Rattle.tree_theory.specs.Arrays.{of_edge}
 use Rattle.tours.specs.Tours.{Allowed, cost}
 use Rattle.lifting.specs.Lifted.{ruling_with}
-use Rattle.lifting.specs.Rulings.{is_bars, is_forces, is_bars_lem, is_forces_lem, as_ruled}
+use Rattle.lifting.specs.Rulings.{is_bars, is_forces, is_bars_lem, is_forces_lem, as_ruled, unlifted}
 use Rattle.lifting.proofs.Rulings.{tour_out, tour_in, tree_out, tree_in}
 use Rattle.machine.specs.Machine.{Marks, with_marks, frees, mark_by, applied}
 use Rattle.machine.specs.Laws.Branching.{row-marks, frees-fewer}
@@ -135,3 +138,44 @@ module _ (g : Network) (vg : Valid g) (x : Marks) (lifting : Bool) (d : ℕ → 
   pub ruled-off : (j : ℕ) → j < g.m → get_or x j free ≡ excluded → get_or (applied lifting (with_marks g x) d upper) j free ≡ excluded
   unfolding m r
   ruled-off j h e = applied-at j h ∙ excluded_ruled (m j) (is_bars (r j)) (is_forces (r j)) e
+
+-- ---- without lifting
+
+ruled_bars : (x : Mark) (b f : Bool) → ruled x b f ≡ bars → b ≡ true
+ruled_bars required b f h = cc
+ruled_bars excluded b f h = cc
+ruled_bars free true f h = refl
+ruled_bars free false true h = cc
+ruled_bars free false false h = cc
+
+ruled_forces : (x : Mark) (b f : Bool) → ruled x b f ≡ forces → f ≡ true
+ruled_forces required b f h = cc
+ruled_forces excluded b f h = cc
+ruled_forces free true f h = cc
+ruled_forces free false true h = refl
+ruled_forces free false false h = cc
+
+module _ (g : Network) (vg : Valid g) (x : Marks) (d : ℕ → ℤ) (upper : ℤ) where
+  -- EVERY 1-TREE within the upper bound agrees with the rulings
+  pub every_tree_agrees : (t : Edges) → OneTree (with_marks g x) t → bound (with_marks g x) d t ≤ℤ upper
+      → Allowed (with_marks g (applied false (with_marks g x) d upper)) t
+  unfolding r
+  every_tree_agrees t o l = agreeing g vg x false d upper t (record { keeps = o.keeps; avoids = o.avoids }) out into
+    where
+      of_test : (j : ℕ) → ruling_with false (with_marks g x) d upper (suc j)
+          ≡ ruled ((with_marks g x).mark (suc j)) (barred_b (with_marks g x) d upper (suc j)) (forced_b (with_marks g x) d upper (suc j))
+      of_test j = unfold ruling in unlifted (with_marks g x) d upper (suc j)
+
+      lacks : (j : ℕ) → Barred (with_marks g x) d upper (suc j) → t (suc j) ≡ false
+      lacks j h = by_cases (t (suc j)) (λ e. absurd (le_lt_clash _ _ l (unfold Barred in h t o e))) (λ e. e)
+
+      has : (j : ℕ) → Forced (with_marks g x) d upper (suc j) → t (suc j) ≡ true
+      has j h = by_cases (t (suc j)) (λ e. e) (λ e. absurd (le_lt_clash _ _ l (unfold Forced in h t o e)))
+
+      out : (j : ℕ) → j < g.m → ruling_with false (with_marks g x) d upper (suc j) ≡ bars → t (suc j) ≡ false
+      out j h e =
+          lacks j ((barred_test (with_marks g x) d upper (suc j) (listed g vg x false d upper j h)).0 (ruled_bars _ _ _ (sym (of_test j) ∙ e)))
+
+      into : (j : ℕ) → j < g.m → ruling_with false (with_marks g x) d upper (suc j) ≡ forces → t (suc j) ≡ true
+      into j h e =
+          has j ((forced_test (with_marks g x) d upper (suc j) (listed g vg x false d upper j h)).0 (ruled_forces _ _ _ (sym (of_test j) ∙ e)))

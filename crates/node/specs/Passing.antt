@@ -39,7 +39,7 @@ abbrev pub refusal : Result (Option Found) Refusal → ℕ → ℕ → ℕ
 refusal (Ok found) sweeps step = settings_fault sweeps step
 refusal (Err r) sweeps step = lastly (number r) sweeps step
 
-says_no_number : (n p : ℕ) (upper : ℤ) (t : Tree) → refused n p ≡ rule_says upper t → ⊥
+pub says_no_number : (n p : ℕ) (upper : ℤ) (t : Tree) → refused n p ≡ rule_says upper t → ⊥
 says_no_number n p upper no_tree h = let z : ◌≡◌ {A = ℕ} 0 1 = cc in omega arith
 says_no_number n p upper (a_tree b t) h = go (lt_z upper b) h
   where

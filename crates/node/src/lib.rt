@@ -2,7 +2,7 @@
 // the settings' fault, a multiplier for each place, and the words of a graph's own marks.
 #![tactic(auto)]
 
-ghost use Rattle.std.specs.Prelude.{◌≡◌, ◌≤◌, length, replicate};
+ghost use Rattle.std.specs.Prelude.{◌≡◌, ◌≤◌, OnErr, length, replicate};
 ghost use Rattle.graph.specs.Limits.{max_vertices, max_edges};
 ghost use Rattle.graph.specs.Refusals.{fault_of};
 ghost use Rattle.node.specs.Faults.{settings_fault};
@@ -89,9 +89,9 @@ pub enum Fate {
 // The node with the marks in `rows` is opened, on the graph of its edges that are not excluded: they are gathered by the words, the loops of a
 // pass go over them alone, and what they come to is packed into words again. The graph's own marks count for nothing, and words that make no
 // marks are read as marks all the same. The ceiling of the settings is the upper bound. `lists` are for the passes to work in: whatever they
-// hold, the answers are the same, and what they hold afterwards is free, so a search makes them once for all its nodes.
+// hold, the answers are the same, and what a fate leaves in them is free, so a search makes them once for all its nodes.
 // Ruled out: an edge that the node excludes, and that a node below it does not; multipliers that gain after the last pass; an edge ruled by lifting
-// where the settings say 0, or one that lifting rules left free where they do not; a byte written where the node is refused.
+// where the settings say 0, or one that lifting rules left free where they do not; a byte written, of `lists` too, where the node is refused.
 pub fn open(
     g: &Graph,
     multipliers: &[i32; MAX_VERTICES],
@@ -99,8 +99,9 @@ pub fn open(
     node: &mut Workspace,
     lists: &mut PassLists,
 ) -> Result<Fate, Refusal>
-    ensures { opened result node.new
+    ensures opened { opened result node.new
         ≡ opens (taken (marked g.now node.old.rows) multipliers.now settings) node.old }
+    ensures lists { OnErr result (lists.new ≡ lists.old) }
 {
     let m = usize::from(g.m);
     // A test of its own: behind `unless` a wrong limit is refused only by a goal that names no fact, and a must-fail edit must fail at one.

@@ -1,15 +1,13 @@
 // The passes of a node. Arrays of an edge's byte have 190 places, zero past m.
-ghost use Rattle.std.specs.Prelude.{◌≡◌, ◌↔◌, All, IsTrue, ℕ, ◌<◌, ◌≤◌, get_or, pos, ◌+ℤ◌};
+ghost use Rattle.std.specs.Prelude.{◌≡◌, ◌↔◌, All, IsTrue, OnErr, ℕ, ◌<◌, ◌≤◌, get_or, pos, ◌+ℤ◌};
 ghost use Rattle.lists.specs.Fill.{fit};
 ghost use Rattle.lists.specs.Filling.{Filling};
 ghost use Rattle.integers.specs.Range.{InRange, clamp};
-ghost use Rattle.graph.specs.Refusals.{number};
 ghost use Rattle.graph.specs.Valid.{Valid};
 ghost use Rattle.graph.specs.Limits.{max_vertices, max_edges, max_multiplier, max_step};
 ghost use Rattle.onetree.specs.Answers.{byte_of, ruling_bytes};
 ghost use Rattle.node.specs.Marks.{with_bytes, Padded};
 ghost use Rattle.node.specs.Opened.{places, taken};
-ghost use Rattle.node.specs.Faults.{lastly};
 ghost use Rattle.node.specs.Gains.{gain_of, max_gain, GainsTo};
 ghost use Rattle.node.specs.Marking.{mark_byte};
 ghost use Rattle.node.specs.OnePass.{VerdictIs};
@@ -19,7 +17,9 @@ ghost use Rattle.node.specs.Refusing.{EndsAs};
 use crate::{padded, settings_fault};
 use graph::{Graph, MAX_EDGES, MAX_VERTICES, Refusal, VERTEX_PLACES, ValidGraph};
 use machine::Settings;
-use onetree::{Found, MAX_MULTIPLIER, PassLists, Ruling, count_degrees};
+use onetree::{
+    Found, MAX_MULTIPLIER, PassLists, Ruling, ceiling_fault, count_degrees, input_fault,
+};
 
 // Is every degree 2? A 1-tree is then a tour.
 fn two_each(degrees: &[u8]) -> bool
@@ -90,18 +90,9 @@ fn apply(rulings: &[Ruling; MAX_EDGES], g: &mut Graph)
     }
 }
 
-// What the tree part refuses comes first, but the denominator after the settings.
-fn lastly(refusal: Refusal, settings: Settings) -> Refusal
-    ensures { number result ≡ lastly (number refusal) settings.sweeps settings.step }
-{
-    match settings_fault(settings) {
-        Err(sooner) if refusal == Refusal::Denominator => sooner,
-        _ => refusal,
-    }
-}
-
 // The least 1-tree within the ceiling, and its rulings, or that there is none: one call of the tree part, which refuses a graph of more vertices
-// than there are places. It lifts where the settings say anything but 0. The hint is for the tree part alone.
+// than there are places. It lifts where the settings say anything but 0. The hint is for the tree part alone. The settings' fault stands before
+// the denominator's, and is told before a pass is made, which would fill the lists.
 fn ask(
     g: &Graph,
     d: &[i32; MAX_VERTICES],
@@ -109,20 +100,24 @@ fn ask(
     hint: &[u8],
     lists: &mut PassLists,
 ) -> Result<Option<Found>, Refusal>
-    ensures { TreeIs (taken g.now d.now settings) result lists.new.least.tree (ruling_bytes lists.new.rulings) }
+    ensures tree { TreeIs (taken g.now d.now settings) result lists.new.least.tree (ruling_bytes lists.new.rulings) }
+    ensures lists { OnErr result (lists.new ≡ lists.old) }
 {
-    let found = onetree::pass(
+    let multipliers = &d[..usize::from(g.n).min(MAX_VERTICES)];
+    if let Err(late) = settings_fault(settings) {
+        input_fault(g, multipliers, usize::from(g.m))?;
+        ceiling_fault(settings.ceiling)?;
+        return Err(late);
+    }
+    onetree::pass(
         g,
-        &d[..usize::from(g.n).min(MAX_VERTICES)],
+        multipliers,
         settings.ceiling,
         settings.denominator,
         settings.lifting != 0,
         hint,
         lists,
     )
-    .map_err(|refusal| lastly(refusal, settings))?;
-    settings_fault(settings)?;
-    Ok(found)
 }
 
 // What a pass makes of a node: it is shut; a tour is found; or the rulings are applied, a hint for the next pass is so long, and the tree has
@@ -149,6 +144,7 @@ fn judge(
     requires { Padded g.old.m g.old.mark }
     ensures verdict { VerdictIs (taken g.old d.now settings) result g.new.mark }
     ensures marks_alone { g.new ≡ with_bytes g.old g.new.mark }
+    ensures lists { OnErr result (lists.new ≡ lists.old) }
 {
     let Some(found) = ask(g, d, settings, hint, lists)? else {
         return Ok(Verdict::Shut);
@@ -187,6 +183,7 @@ pub(crate) fn open_left(
     requires { Padded g.old.m g.old.mark }
     ensures ending { EndsAs (taken g.old multipliers.now settings) result g.new.mark last.old last.new }
     ensures marks_alone { g.new ≡ with_bytes g.old g.new.mark }
+    ensures lists { OnErr result (lists.new ≡ lists.old) }
 {
     let n = usize::from(g.n).min(MAX_VERTICES);
     let mut d = *multipliers;

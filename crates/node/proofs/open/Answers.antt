@@ -34,8 +34,8 @@ packed_is m rows few y w l e packed =
     (λ i h. ap (λ (x : List ℕ). expanded_at (bytes_of (marks_in_rows m rows)) x 2 i) e ∙ expanded_mark (bytes_of (marks_in_rows m rows)) m few y i h)
     packed
 
-pub returns-then-m-gt-MAX_EDGES : goal.returns-then-m-gt-MAX_EDGES
-returns-then-m-gt-MAX_EDGES c = let a = c.args in
+pub returns-then-m-gt-MAX_EDGES-clause-opened : goal.returns-then-m-gt-MAX_EDGES-clause-opened
+returns-then-m-gt-MAX_EDGES-clause-opened c = let a = c.args in
     opens_15 (taken (marked a.g.now a.node.now.rows) a.multipliers.now a.settings) _
     (λ b v. omega (arith, c.if-m-gt-MAX_EDGES.true, c.from-m.ensures, b))
 
@@ -43,8 +43,8 @@ pub open_left-requires : goal.open_left-requires
 open_left-requires c =
     rw c.without_excluded.ensures (left-padded (marked c.args.g.now c.args.node.now.rows))
 
-pub returns-in_err-open_left : goal.returns-in_err-open_left
-returns-in_err-open_left c = let a = c.args in
+pub returns-in_err-open_left-clause-opened : goal.returns-in_err-open_left-clause-opened
+returns-in_err-open_left-clause-opened c = let a = c.args in
     let few : a.g.now.m ≤ 190 = omega (arith, c.from-m.ensures) in
     let r = c.in_err-open_left.field-0.0 in
     let v =
@@ -57,8 +57,8 @@ returns-in_err-open_left c = let a = c.args in
     ∙ left-refused (taken (marked a.g.now a.node.now.rows) a.multipliers.now a.settings) _ few _ v.0
     (not-zero r))
 
-pub returns-in-Shut : goal.returns-in-Shut
-returns-in-Shut c = let a = c.args in
+pub returns-in-Shut-clause-opened : goal.returns-in-Shut-clause-opened
+returns-in-Shut-clause-opened c = let a = c.args in
     let few : a.g.now.m ≤ 190 = omega (arith, c.from-m.ensures) in
     let v =
     ended _ _ a.multipliers.now a.settings (Ok ending.Shut) c.open_left.new.g.mark a.node.now.last c.open_left.new.last
@@ -66,8 +66,8 @@ returns-in-Shut c = let a = c.args in
     in
     c.close.ensures ∙ left_shut (taken (marked a.g.now a.node.now.rows) a.multipliers.now a.settings) _ few v.0 v.1
 
-pub returns-in-Found : goal.returns-in-Found
-returns-in-Found c = let a = c.args in
+pub returns-in-Found-clause-opened : goal.returns-in-Found-clause-opened
+returns-in-Found-clause-opened c = let a = c.args in
     let few : a.g.now.m ≤ 190 = omega (arith, c.from-m.ensures) in
     let bytes : List ℕ = bytes_of (marks_in_rows a.g.now.m a.node.now.rows) in
     let v =
@@ -92,8 +92,8 @@ split-requires-clause-of_marks c = let a = c.args in
     rw c.from-m.ensures
     (canonical a.g.now.m _ _ few (spread-size (kept_in a.g.now.m a.node.now.rows) a.g.now.m excluded free v.1.marks) packed)
 
-pub returns-in-Unclosed : goal.returns-in-Unclosed
-returns-in-Unclosed c = let a = c.args in
+pub returns-in-Unclosed-clause-opened : goal.returns-in-Unclosed-clause-opened
+returns-in-Unclosed-clause-opened c = let a = c.args in
     let few : a.g.now.m ≤ 190 = omega (arith, c.from-m.ensures) in
     let v =
     ended _ _ a.multipliers.now a.settings (Ok ending.Unclosed) c.open_left.new.g.mark a.node.now.last c.open_left.new.last

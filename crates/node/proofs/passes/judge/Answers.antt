@@ -6,12 +6,12 @@ use Rattle.node.proofs.passes.judge.Goals as goal
 
 pub invariant_of-count_degrees : goal.invariant_of-count_degrees
 invariant_of-count_degrees c =
-    let least = rw c.in-Some.is at c.in_ok-found.ensures in
+    let least = rw c.in-Some.is at c.in_ok-found.ensures.tree in
     record { valid = (fault-fit _ least.none).valid }
 
 pub returns-then-two_each-clause-verdict : goal.returns-then-two_each-clause-verdict
 returns-then-two_each-clause-verdict c =
-    let least = rw c.in-Some.is at c.in_ok-found.ensures in
+    let least = rw c.in-Some.is at c.in_ok-found.ensures.tree in
     let w = least.within in
     let two = rw c.from.ensures at (c.two_each.ensures.0 c.if-two_each.true) in (
       least.none,
@@ -20,7 +20,7 @@ returns-then-two_each-clause-verdict c =
 
 pub returns-clause-verdict : goal.returns-clause-verdict
 returns-clause-verdict c =
-    let least = rw c.in-Some.is at c.in_ok-found.ensures in
+    let least = rw c.in-Some.is at c.in_ok-found.ensures.tree in
     let w = least.within in
     let made = c.apply.ensures.marks in (
       least.none,

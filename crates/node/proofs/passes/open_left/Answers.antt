@@ -1,8 +1,9 @@
 -- Turn by turn, by the verdict of its pass.
-use Rattle.std.proofs.Common.{rules, ◌≡◌, ◌≤◌, refl, ap, ◌∙◌, length, pos, arith}
+use Rattle.std.proofs.Common.{rules, ◌≡◌, ◌≤◌, refl, sym, ap, ◌∙◌, inl, ⊎_elim, length, pos, arith}
 use Rattle.std.proofs.lemmas.Result.{err_from_is_err_and}
 use Rattle.lists.specs.Filling.{take-fit}
 use Rattle.graph.specs.declared.Graph.{Graph}
+use Rattle.graph.specs.Refusals.{not-zero}
 use Rattle.node.specs.Marks.{with_bytes}
 use Rattle.node.proofs.Turns.{at_padded, at_refused, at_shut, at_found, at_ruled, Turned}
 use Rattle.node.proofs.passes.open_left.Goals as goal
@@ -17,6 +18,14 @@ returns-in_err-judge-clause-ending c = let i = c.loop-left.invariant in
     let p = err_from_is_err_and c.from_residual.result c.from_residual.ensures.1 in
     rw (p.1, p.2)
     (at_refused c.args.g.now _ _ c.requires _ c.loop-left.g _ i.marks_alone i.turn _ _ c.in_err-judge.ensures.verdict, refl)
+
+pub returns-in_err-judge-clause-lists : goal.returns-in_err-judge-clause-lists
+returns-in_err-judge-clause-lists c = let i = c.loop-left.invariant in
+    let p = err_from_is_err_and c.from_residual.result c.from_residual.ensures.1 in
+    let refused =
+    at_refused c.args.g.now _ _ c.requires _ c.loop-left.g _ i.marks_alone i.turn _ _ c.in_err-judge.ensures.verdict in
+    rw p.1
+    (c.in_err-judge.ensures.lists ∙ ⊎_elim (λ none. absurd (not-zero c.in_err-judge.field-0.0 (sym refused ∙ none))) (λ same. same) i.lists)
 
 pub returns-in-Shut-clause-ending : goal.returns-in-Shut-clause-ending
 returns-in-Shut-clause-ending c = let i = c.loop-left.invariant in
@@ -61,6 +70,7 @@ loop-left-preserved c = let i = c.loop-left.invariant in
             turn = t.next (omega arith) _ (rw n at w.gains.ensures);
             marks_alone = same;
             hint = t.few;
+            lists = inl t.fine;
           })
       | else-left-gt0 w ↦ absurd (omega arith)
     ]

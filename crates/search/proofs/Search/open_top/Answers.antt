@@ -60,7 +60,7 @@ lent c s h afloat =
 here : (c : After-open) (s : Progress) (h : Holds c.args.self.now s) (t : Top s) → GraphIs s.opening c.args.afloat.now
     → opened c.open.result c.open.new.node ≡ opened_as (open_node s.opening s.upper t.node)
 here c s h t afloat =
-    came _ s h t _ (lent c s h afloat) _ _ _ _ _ _ (c.get-node.ensures 0) (c.get-multipliers.ensures (pos 0)) (back64 c.args.self.now.upper (holds_mag _ _ h)) c.open.ensures
+    came _ s h t _ (lent c s h afloat) _ _ _ _ _ _ (c.get-node.ensures 0) (c.get-multipliers.ensures (pos 0)) (back64 c.args.self.now.upper (holds_mag _ _ h)) c.open.ensures.opened
 
 pub overflow_sub-p : goal.overflow_sub-p
 overflow_sub-p c = top_depth _ _ c.requires.1 c.requires.2

@@ -114,9 +114,10 @@ pub fn open(
         m,
     };
     rows.without_excluded(g, &mut left);
-    match open_left(&mut left, multipliers, settings, &mut node.last, lists)? {
-        Ending::Shut => Ok(node.close()),
-        Ending::Found => {
+    match open_left(&mut left, multipliers, settings, &mut node.last, lists) {
+        Err(refusal) => Err(refusal),
+        Ok(Ending::Shut) => Ok(node.close()),
+        Ok(Ending::Found) => {
             let tour = rows.expand(&left.mark);
             *node = Workspace {
                 tour,
@@ -124,7 +125,7 @@ pub fn open(
             };
             Ok(Fate::Finds)
         }
-        Ending::Unclosed => {
+        Ok(Ending::Unclosed) => {
             node.rows = rows.pack(&left.mark);
             Ok(node.split(m))
         }

@@ -1,6 +1,5 @@
 -- What the passes come to on the edges that are left is spread out by their ending.
 use Rattle.std.proofs.Common.{◌≡◌, ℕ, ◌≤◌, List, ℤ, ap, ◌∙◌, subst, arith, Result, Ok, Err}
-use Rattle.std.proofs.lemmas.Result.{err_from_is_err_and}
 use Rattle.graph.specs.declared.Graph.{Graph}
 use Rattle.graph.specs.declared.refusals.Refusal.{Refusal}
 use Rattle.graph.specs.Refusals.{not-zero}
@@ -43,36 +42,33 @@ pub open_left-requires : goal.open_left-requires
 open_left-requires c =
     rw c.without_excluded.ensures (left-padded (marked c.args.g.now c.args.node.now.rows))
 
-pub returns-in_err-open_left-clause-opened : goal.returns-in_err-open_left-clause-opened
-returns-in_err-open_left-clause-opened c = let a = c.args in
+pub returns-in-Err-clause-opened : goal.returns-in-Err-clause-opened
+returns-in-Err-clause-opened c = let a = c.args in
     let few : a.g.now.m ≤ 190 = omega (arith, c.from-m.ensures) in
-    let r = c.in_err-open_left.field-0.0 in
+    let r = c.in-Err.refusal in
     let v =
-    ended _ _ a.multipliers.now a.settings (Err r) c.open_left.new.g.mark _ _ c.without_excluded.ensures
-    c.in_err-open_left.ensures.ending
+    ended _ _ a.multipliers.now a.settings (Err r) c.open_left.new.g.mark a.node.now.last c.open_left.new.last
+    c.without_excluded.ensures c.in-Err.ensures.ending
     in
-    let p = err_from_is_err_and c.from_residual.result c.from_residual.ensures.1 in
-    rw (p.1, p.2)
-    ((λ i. opened (Err r) (record { rows = a.node.now.rows; top = a.node.now.top; tour = a.node.now.tour; last = v.1 i }))
-    ∙ left-refused (taken (marked a.g.now a.node.now.rows) a.multipliers.now a.settings) _ few _ v.0
-    (not-zero r))
+    (λ i. opened (Err r) (record { rows = a.node.now.rows; top = a.node.now.top; tour = a.node.now.tour; last = v.1 i }))
+    ∙ left-refused (taken (marked a.g.now a.node.now.rows) a.multipliers.now a.settings) _ few _ v.0 (not-zero r)
 
-pub returns-in-Shut-clause-opened : goal.returns-in-Shut-clause-opened
-returns-in-Shut-clause-opened c = let a = c.args in
+pub returns-in-Ok-Shut-clause-opened : goal.returns-in-Ok-Shut-clause-opened
+returns-in-Ok-Shut-clause-opened c = let a = c.args in
     let few : a.g.now.m ≤ 190 = omega (arith, c.from-m.ensures) in
     let v =
     ended _ _ a.multipliers.now a.settings (Ok ending.Shut) c.open_left.new.g.mark a.node.now.last c.open_left.new.last
-    c.without_excluded.ensures (rw c.in-Shut.is at c.in_ok-open_left.ensures.ending)
+    c.without_excluded.ensures (rw c.in-Ok-Shut.field-0-is at c.in-Ok-Shut.ensures.ending)
     in
     c.close.ensures ∙ left_shut (taken (marked a.g.now a.node.now.rows) a.multipliers.now a.settings) _ few v.0 v.1
 
-pub returns-in-Found-clause-opened : goal.returns-in-Found-clause-opened
-returns-in-Found-clause-opened c = let a = c.args in
+pub returns-in-Ok-Found-clause-opened : goal.returns-in-Ok-Found-clause-opened
+returns-in-Ok-Found-clause-opened c = let a = c.args in
     let few : a.g.now.m ≤ 190 = omega (arith, c.from-m.ensures) in
     let bytes : List ℕ = bytes_of (marks_in_rows a.g.now.m a.node.now.rows) in
     let v =
     ended _ _ a.multipliers.now a.settings (Ok ending.Found) c.open_left.new.g.mark a.node.now.last c.open_left.new.last
-    c.without_excluded.ensures (rw c.in-Found.is at c.in_ok-open_left.ensures.ending)
+    c.without_excluded.ensures (rw c.in-Ok-Found.field-0-is at c.in-Ok-Found.ensures.ending)
     in
     let tour =
     expanded_tour bytes a.g.now.m few v.1.tour _
@@ -86,18 +82,18 @@ split-requires-clause-of_marks c = let a = c.args in
     let few : a.g.now.m ≤ 190 = omega (arith, c.from-m.ensures) in
     let v =
     ended _ _ a.multipliers.now a.settings (Ok ending.Unclosed) c.open_left.new.g.mark a.node.now.last c.open_left.new.last
-    c.without_excluded.ensures (rw c.in-Unclosed.is at c.in_ok-open_left.ensures.ending)
+    c.without_excluded.ensures (rw c.in-Ok-Unclosed.field-0-is at c.in-Ok-Unclosed.ensures.ending)
     in
     let packed = packed_is a.g.now.m a.node.now.rows few v.1.marks _ _ v.1.bytes (rw c.from-m.ensures at c.pack-node.ensures) in
     rw c.from-m.ensures
     (canonical a.g.now.m _ _ few (spread-size (kept_in a.g.now.m a.node.now.rows) a.g.now.m excluded free v.1.marks) packed)
 
-pub returns-in-Unclosed-clause-opened : goal.returns-in-Unclosed-clause-opened
-returns-in-Unclosed-clause-opened c = let a = c.args in
+pub returns-in-Ok-Unclosed-clause-opened : goal.returns-in-Ok-Unclosed-clause-opened
+returns-in-Ok-Unclosed-clause-opened c = let a = c.args in
     let few : a.g.now.m ≤ 190 = omega (arith, c.from-m.ensures) in
     let v =
     ended _ _ a.multipliers.now a.settings (Ok ending.Unclosed) c.open_left.new.g.mark a.node.now.last c.open_left.new.last
-    c.without_excluded.ensures (rw c.in-Unclosed.is at c.in_ok-open_left.ensures.ending)
+    c.without_excluded.ensures (rw c.in-Ok-Unclosed.field-0-is at c.in-Ok-Unclosed.ensures.ending)
     in
     let packed = packed_is a.g.now.m a.node.now.rows few v.1.marks _ _ v.1.bytes (rw c.from-m.ensures at c.pack-node.ensures) in
     (rw c.from-m.ensures at c.split.ensures) v.1.multipliers v.1.told

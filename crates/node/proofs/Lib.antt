@@ -5,4 +5,4 @@ pub mod Asked
 -- what the loops over a word's bits keep
 pub mod Loops
 -- laws that no proof cites today
-mod Further
+pub mod Further

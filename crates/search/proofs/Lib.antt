@@ -3,4 +3,4 @@ pub mod Closed
 -- the list of the vertices ashore that a record lends
 pub mod Listed
 -- laws that no proof cites today
-mod Further
+pub mod Further

@@ -26,7 +26,7 @@ use node::NODE_WORDS;
 use opening::Opening;
 
 // As specs/Limits.antt of crate graph has it.
-pub(crate) const MAX_COUNT: u64 = 9_223_372_036_854_775_807;
+pub const MAX_COUNT: u64 = 9_223_372_036_854_775_807;
 
 // Room for the nodes that wait, six words each: at most two more than there are active vertices.
 pub const MAX_NODES: usize = MAX_VERTICES + 2;

@@ -144,7 +144,7 @@ pub record Closes (out : M.Opened) (o : Opened) : Type 0 where
   pub rows : o.node.rows ≡ no_rows
   pub last : o.node.last ≡ no_multipliers
 
-opened_closes : (out : M.Opened) (o : Opened) → o ≡ opened_as out → o.fate ≡ fated fate.Closes → Closes out o
+pub opened_closes : (out : M.Opened) (o : Opened) → o ≡ opened_as out → o.fate ≡ fated fate.Closes → Closes out o
 unfolding opened_as
 opened_closes closes o e h = record { is = refl; rows = ap (λ (x : Opened). x.node.rows) e; last = ap (λ (x : Opened). x.node.last) e }
 opened_closes (finds t) o e h =
@@ -159,7 +159,7 @@ pub record Finds (out : M.Opened) (o : Opened) : Type 0 where
   pub found : o.node.tour ≡ best_bytes (a_tour tour)
   pub last : o.node.last ≡ no_multipliers
 
-opened_finds : (out : M.Opened) (o : Opened) → o ≡ opened_as out → o.fate ≡ fated fate.Finds → Finds out o
+pub opened_finds : (out : M.Opened) (o : Opened) → o ≡ opened_as out → o.fate ≡ fated fate.Finds → Finds out o
 unfolding opened_as best_bytes
 opened_finds closes o e h =
     absurd (let z : fated fate.Finds ≡ fated fate.Closes = sym h ∙ ap (λ (x : Opened). x.fate) e in cc)
@@ -181,7 +181,7 @@ pub record Splits (out : M.Opened) (o : Opened) : Type 0 where
   pub top : o.node.top ≡ rows_of over.marks
   pub last : o.node.last ≡ places over.multipliers
 
-opened_splits : (out : M.Opened) (o : Opened) → o ≡ opened_as out → o.fate ≡ fated fate.Splits → Splits out o
+pub opened_splits : (out : M.Opened) (o : Opened) → o ≡ opened_as out → o.fate ≡ fated fate.Splits → Splits out o
 unfolding opened_as
 opened_splits closes o e h =
     absurd (let z : fated fate.Splits ≡ fated fate.Closes = sym h ∙ ap (λ (x : Opened). x.fate) e in cc)
@@ -291,7 +291,7 @@ module _ (r : Search) (s : Progress) (h : Holds r s) (t : Top s) where
 
   -- ---- the search after the top node's opening
 
-  next : Progress
+  pub next : Progress
   next = open_top s s.stack
 
   settles : (q : M.Opened) → open_node s.opening s.upper t.node ≡ q → open_top s s.stack ≡ settled s t.rest q

@@ -5,7 +5,10 @@
 ghost use Rattle.std.specs.Prelude.{◌≡◌, ◌≤◌, OnErr, length, replicate};
 ghost use Rattle.graph.specs.Limits.{max_vertices, max_edges};
 ghost use Rattle.graph.specs.Refusals.{fault_of};
+ghost use Rattle.graph.specs.Valid.{graph_of};
+ghost use Rattle.mark_rows.specs.MarkRows.{marks_in_rows};
 ghost use Rattle.node.specs.Faults.{settings_fault};
+ghost use Rattle.node.specs.Marks.{bytes_of};
 ghost use Rattle.node.specs.Opened.{no_rows, no_multipliers, places, marked, taken, opened, opens};
 
 mod compact;
@@ -130,4 +133,48 @@ pub fn open(
             Ok(node.split(m))
         }
     }
+}
+
+// What `open_parts` takes by value. Any numbers: a graph whose numbers are no bytes is refused, as each that is not valid.
+#[derive(Clone, Copy, Debug, PartialEq, Eq)]
+pub struct Subproblem {
+    pub n: usize,
+    pub m: usize,
+    pub multipliers: [i32; MAX_VERTICES],
+    pub settings: Settings,
+}
+
+// `open` for a caller that has the parts of a graph and no lists: the ends and costs of its m edges are lent, and the lists are made here.
+// Ruled out: numbers cut to bytes; the ends of an edge the wrong way round; a byte written where the node is refused.
+pub fn open_parts(
+    p: Subproblem,
+    a: &[u8; MAX_EDGES],
+    b: &[u8; MAX_EDGES],
+    cost: &[i32; MAX_EDGES],
+    node: &mut Workspace,
+) -> Result<Fate, Refusal>
+    ensures { opened result node.new
+        ≡ opens (taken (graph_of p.n p.m a.now b.now cost.now (bytes_of (marks_in_rows p.m node.old.rows))) p.multipliers p.settings) node.old }
+{
+    let Ok(n) = u8::try_from(p.n) else {
+        return Err(Refusal::Graph);
+    };
+    let Ok(m) = u8::try_from(p.m) else {
+        return Err(Refusal::Graph);
+    };
+    let g = Graph {
+        a: *a,
+        b: *b,
+        cost: *cost,
+        n,
+        m,
+        ..Graph::empty()
+    };
+    open(
+        &g,
+        &p.multipliers,
+        p.settings,
+        node,
+        &mut PassLists::blank(),
+    )
 }
